@@ -1,0 +1,177 @@
+/*
+ * Plain C version of the word calls: one loop per step, a bit to a byte between the steps. Steps
+ * are numbered as in document 01.
+ */
+#include "plain_word.h"
+#include "mahyrei.h"
+
+enum {
+    CODED = MAHYREI_WORD_BITS, /* coded bits, and bits of a word */
+    CHECK_BITS = 32,
+    TERMINATION_BITS = 2,
+    INPUTS_MAX = 10080 /* input bits of the convolutional code at rate 2/3 */
+};
+
+static const uint32_t CHECK_POLYNOMIAL = 0x20044009; /* D^32 + D^29 + D^18 + D^14 + D^3 + 1 */
+
+/* k, the information bits of a block */
+static size_t block_bits(uint64_t rate) {
+    return word_block_bytes(rate) * 8 - 2;
+}
+
+static void unpack(const uint8_t *bytes, uint8_t *bits, size_t count) {
+    for (size_t i = 0; i < count; i++) {
+        bits[i] = (uint8_t)(bytes[i / 8] >> (7 - i % 8) & 1);
+    }
+}
+
+/* Sets every byte that holds one of the bits; the spare bits of the last are 0. */
+static void pack(const uint8_t *bits, size_t count, uint8_t *bytes) {
+    for (size_t i = 0; i < (count + 7) / 8; i++) {
+        bytes[i] = 0;
+    }
+    for (size_t i = 0; i < count; i++) {
+        bytes[i / 8] = (uint8_t)(bytes[i / 8] | bits[i] << (7 - i % 8));
+    }
+}
+
+/* Step 2: the check register after the block. */
+static uint32_t check(const uint8_t *bits, size_t count) {
+    uint32_t reg = 0xFFFFFFFF;
+    for (size_t i = 0; i < count; i++) {
+        uint32_t feedback = reg >> 31 ^ bits[i];
+        reg = reg << 1 ^ (feedback ? CHECK_POLYNOMIAL : 0);
+    }
+    return reg;
+}
+
+/* Step 4: the convolutional code from the zero state, punctured by rate. */
+static void encode(uint64_t rate, const uint8_t *inputs, size_t count, uint8_t *coded) {
+    uint8_t one = 0, two = 0; /* the inputs one and two before */
+    size_t place = 0;
+    for (size_t i = 0; i < count; i++) {
+        uint8_t first = inputs[i] ^ two;
+        uint8_t second = first ^ one;
+        if (rate != MAHYREI_RATE_2_3 || i % 2 == 0) {
+            coded[place++] = first;
+        }
+        coded[place++] = second;
+        if (rate == MAHYREI_RATE_1_3) {
+            coded[place++] = second;
+        }
+        two = one;
+        one = inputs[i];
+    }
+}
+
+/* Step 5: the coded bit that output place j takes. */
+static size_t interleaved_place(size_t j) {
+    uint64_t wide = j;
+    return (size_t)((11 * wide + 210 * wide * wide) % CODED);
+}
+
+/* Step 7: adds the randomizer's sequence, from its start. */
+static void randomize(uint8_t *bits) {
+    uint8_t sequence[CODED];
+    for (size_t i = 0; i < 8; i++) {
+        sequence[i] = 1;
+    }
+    for (size_t i = 8; i < CODED; i++) {
+        sequence[i] = sequence[i - 1] ^ sequence[i - 3] ^ sequence[i - 5] ^ sequence[i - 8];
+    }
+    for (size_t i = 0; i < CODED; i++) {
+        bits[i] ^= sequence[i];
+    }
+}
+
+/* The place in step 4's order of the second output for input bit i. */
+static size_t second_output(uint64_t rate, size_t i) {
+    if (rate == MAHYREI_RATE_1_3) {
+        return 3 * i + 1;
+    }
+    if (rate == MAHYREI_RATE_1_2) {
+        return 2 * i + 1;
+    }
+    return i % 2 == 0 ? 3 * i / 2 + 1 : (3 * i + 1) / 2;
+}
+
+uint64_t plain_word_write(uint64_t rate, const uint8_t *block, size_t block_len, uint8_t *word,
+                          size_t word_len) {
+    if (rate > MAHYREI_RATE_2_3) {
+        return MAHYREI_BAD_RATE;
+    }
+    if (block_len != word_block_bytes(rate) || word_len != MAHYREI_WORD_BYTES) {
+        return MAHYREI_BAD_LENGTH;
+    }
+    if ((block[block_len - 1] & 3) != 0) {
+        return MAHYREI_BAD_SPARE;
+    }
+
+    uint8_t inputs[INPUTS_MAX], coded[CODED], bits[CODED];
+    const size_t k = block_bits(rate);
+    unpack(block, inputs, k);
+    const uint32_t reg = check(inputs, k);
+    for (size_t i = 0; i < CHECK_BITS; i++) {
+        inputs[k + i] = (uint8_t)(reg >> (31 - i) & 1);
+    }
+    for (size_t i = 0; i < TERMINATION_BITS; i++) { /* step 3 */
+        inputs[k + CHECK_BITS + i] = 0;
+    }
+    encode(rate, inputs, k + CHECK_BITS + TERMINATION_BITS, coded);
+    for (size_t j = 0; j < CODED; j++) { /* step 5 */
+        bits[j] = coded[interleaved_place(j)];
+    }
+    for (size_t j = 1; j < CODED; j++) { /* step 6 */
+        bits[j] ^= bits[j - 1];
+    }
+    randomize(bits);
+    pack(bits, CODED, word);
+    return MAHYREI_ACCEPTED;
+}
+
+uint64_t plain_word_read(uint64_t rate, const uint8_t *word, size_t word_len, uint8_t *block,
+                         size_t block_len) {
+    if (rate > MAHYREI_RATE_2_3) {
+        return MAHYREI_BAD_RATE;
+    }
+    if (word_len != MAHYREI_WORD_BYTES || block_len != word_block_bytes(rate)) {
+        return MAHYREI_BAD_LENGTH;
+    }
+
+    uint8_t bits[CODED], coded[CODED], again[CODED], inputs[INPUTS_MAX];
+    const size_t k = block_bits(rate), count = k + CHECK_BITS + TERMINATION_BITS;
+    unpack(word, bits, CODED);
+    randomize(bits);                         /* step 7 undone */
+    for (size_t j = CODED - 1; j > 0; j--) { /* step 6 undone */
+        bits[j] ^= bits[j - 1];
+    }
+    for (size_t j = 0; j < CODED; j++) { /* step 5 undone */
+        coded[interleaved_place(j)] = bits[j];
+    }
+    uint8_t one = 0, two = 0;
+    for (size_t i = 0; i < count; i++) { /* step 4 undone, from the second output alone */
+        inputs[i] = coded[second_output(rate, i)] ^ one ^ two;
+        two = one;
+        one = inputs[i];
+    }
+
+    encode(rate, inputs, count, again);
+    for (size_t i = 0; i < CODED; i++) {
+        if (again[i] != coded[i]) {
+            return (uint64_t)i * 256 + MAHYREI_BAD_CODE;
+        }
+    }
+    for (size_t i = 0; i < TERMINATION_BITS; i++) {
+        if (inputs[k + CHECK_BITS + i] != 0) {
+            return MAHYREI_BAD_TERMINATION;
+        }
+    }
+    const uint32_t reg = check(inputs, k);
+    for (size_t i = 0; i < CHECK_BITS; i++) {
+        if (inputs[k + i] != (reg >> (31 - i) & 1)) {
+            return MAHYREI_BAD_CHECK;
+        }
+    }
+    pack(inputs, k, block);
+    return MAHYREI_ACCEPTED;
+}

@@ -1,0 +1,54 @@
+// Step 6, the accumulator, on packed bits and in place.
+ghost use mathlib.Core.Path.{_≡_};
+ghost use Prim.Native.Nat.{_<_};
+ghost use lib.ListN.{length};
+ghost use Rattle.bits.specs.Pack.{val, bitAt, bytesOf};
+ghost use Rattle.accumulator.specs.Accumulator as step;
+ghost use Rattle.accumulator.specs.Bytes.{bitOf, accumulateFrom, differentiateFrom};
+
+// The eight outputs for the inputs in `b`, where `last` is the output before them: the sums of the bits up to each, by doubling,
+// and all flipped where that output is 1.
+fn summed(b: u8, last: u8) -> u8
+    requires { ⌜ last < 2 ⌝ }
+    ensures { λ r. ⌜ r ≡ val (accumulateFrom last (bitOf b)) 8 ⌝ }
+{
+    let x = b ^ (b >> 1);
+    let y = x ^ (x >> 2);
+    let z = y ^ (y >> 4);
+    z ^ (last * 255)
+}
+
+pub fn accumulate(word: &mut [u8])
+    ensures { λ _. ⌜ now (word .exit) ≡ bytesOf (length (now (word .entry))) (step.accumulate (bitAt (now (word .entry)))) ⌝ }
+{
+    let mut last: u8 = 0;
+    let mut i = 0;
+    while i < word.len() {
+        let sums = summed(word[i], last);
+        word[i] = sums;
+        last = sums & 1;
+        i += 1;
+    }
+}
+
+// The eight inputs for the outputs in `b`, where `prior` is the output before them.
+fn stepped(b: u8, prior: u8) -> u8
+    requires { ⌜ prior < 2 ⌝ }
+    ensures { λ r. ⌜ r ≡ val (differentiateFrom prior (bitOf b)) 8 ⌝ }
+{
+    b ^ (b >> 1) ^ (prior << 7)
+}
+
+// Back to the inputs. A byte's last bit is kept, since its place is overwritten before the next byte asks for it.
+pub fn differentiate(word: &mut [u8])
+    ensures { λ _. ⌜ now (word .exit) ≡ bytesOf (length (now (word .entry))) (step.differentiate (bitAt (now (word .entry)))) ⌝ }
+{
+    let mut prior: u8 = 0;
+    let mut i = 0;
+    while i < word.len() {
+        let outputs = word[i];
+        word[i] = stepped(outputs, prior);
+        prior = outputs & 1;
+        i += 1;
+    }
+}

@@ -1,0 +1,49 @@
+-- The bench table: for each row what the definitions compute, and what the table lists. One theorem says that they are the same.
+-- Bits are written as binary numbers, the first highest; bits and places count from 0.
+use mathlib.Core.Path.{_≡_, refl}
+use mathlib.Core.List.{List, [], _∷_, map}
+use Prim.Native.Nat.{ℕ}
+use lib.ListN.{getD, replicate}
+use Rattle.bits.specs.Pack.{val}
+use Rattle.rates.specs.Rate.{inputsPer, codedPer}
+use Rattle.crc.specs.Check.{register, advance}
+use Rattle.convolution.specs.Code.{encode, stepOf, first, second, delay}
+use Rattle.interleaver.specs.Interleaver.{place}
+use Rattle.accumulator.specs.Accumulator.{accumulate}
+use Rattle.randomizer.specs.Randomizer.{sequence, window, next}
+
+pub record Row : Type 0 where
+  pub computed : ℕ
+  pub listed : ℕ
+
+abbrev row : ℕ → ℕ → Row
+row a b = record { computed = a; listed = b }
+
+-- the bits of a list, and zeros behind them
+abbrev these : List ℕ → ℕ → ℕ
+these xs i = getD xs i 0
+
+abbrev pub table : List Row
+table =
+    -- step 7: the start of the randomizer's sequence, and its bit 255
+    row (val sequence 40) 0b1111_1111_0100_1000_0000_1110_1100_0000_1001_1010
+    ∷ row (sequence 255) 1
+    -- step 5: the coded bit that output place j takes
+    ∷ row (place 1) 221
+    ∷ row (place 2) 862
+    ∷ row (place 36) 396
+    ∷ row (place 15119) 199
+    -- step 2: the check register after a single 0, and after a single 1
+    ∷ row (register (these (0 ∷ [])) 1) 0xDFFBBFF7
+    ∷ row (register (these (1 ∷ [])) 1) 0xFFFFFFFE
+    -- step 4: the coded bits of 1, 0, 0 at each rate
+    ∷ row (val (encode 0 (these (1 ∷ 0 ∷ 0 ∷ []))) 9) 0b111_011_111
+    ∷ row (val (encode 1 (these (1 ∷ 0 ∷ 0 ∷ []))) 6) 0b11_01_11
+    ∷ row (val (encode 2 (these (1 ∷ 0 ∷ 0 ∷ []))) 5) 0b11_1_11
+    -- step 6: the accumulator of 1101
+    ∷ row (val (accumulate (these (1 ∷ 1 ∷ 0 ∷ 1 ∷ []))) 4) 0b1001
+    ∷ []
+
+pub bench : map (λ r. r .computed) table ≡ map (λ r. r .listed) table
+unfolding val sequence window next place register advance encode stepOf first second delay inputsPer codedPer accumulate
+bench = refl

@@ -1,0 +1,51 @@
+-- Both calls give the number of the eight bits, which is a byte.
+use mathlib.Core.Path.{_∙_, ap}
+use Prim.Native.Nat.{ℕ, _+_, _*_, _%_}
+use lib.ListN.{getD}
+use Rattle.bits.specs.Loops.{byte-mod}
+use borrow.Author.Needs.{needs}
+use Rattle.bits.proofs.packing.byte_of.Statement.{statement}
+use Rattle.bits.proofs.packing.byte_of.Tie as tie
+
+mul-at : tie.Need-mul-at
+mul-at c = search needs
+
+add-if1 : tie.Need-add-if1
+add-if1 c = search needs
+
+number-requires : tie.Need-number-requires
+number-requires c κs = search needs
+
+cast-result : tie.Need-cast-result
+cast-result c = search needs
+
+returns : tie.Need-returns
+returns c =
+    let a = c .before .before .before .args in
+    ap (λ (v : ℕ). v % 256) (c .number .ensures)
+    ∙ byte-mod (λ t. getD (a .bits .now) (8 * a .i + t) 0) (λ t. c .before .before .before .pre .1 (8 * a .i + t))
+
+last-byte-requires : tie.Need-last-byte-requires
+last-byte-requires c κs = search needs
+
+cast-result-2 : tie.Need-cast-result-2
+cast-result-2 c = search needs
+
+returns-2 : tie.Need-returns-2
+returns-2 c =
+    let a = c .before .before .before .args in
+    ap (λ (v : ℕ). v % 256) (c .last-byte .ensures)
+    ∙ byte-mod (λ t. getD (a .bits .now) (8 * a .i + t) 0) (λ t. c .before .before .before .pre .1 (8 * a .i + t))
+
+pub byte-of-spec : {M : Type 1} → statement M
+byte-of-spec =
+    tie.close
+    (tie.spec
+    mul-at
+    add-if1
+    number-requires
+    cast-result
+    returns
+    last-byte-requires
+    cast-result-2
+    returns-2)

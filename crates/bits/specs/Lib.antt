@@ -1,0 +1,7 @@
+pub mod Choice
+pub mod Sum
+pub mod Table
+pub mod Pack
+pub mod First
+pub mod Loops
+pub mod Weight

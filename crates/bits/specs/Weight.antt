@@ -1,0 +1,59 @@
+-- How many places differ, and how many ones there are.
+use mathlib.Core.Path.{_≡_, refl, sym, ap, ap₂, _∙_}
+use mathlib.Core.Logic.{⊎-elim}
+use Prim.Native.Nat.{ℕ, zero, suc, _+_, _-_, _*_, _≤_, _<_}
+use native.Mathlib.Omega.{arith}
+use native.Mathlib.Numerals.{add-one, add-two, add-three}
+use lib.Bits.{bitXor}
+use lib.Dec.{eqb}
+use borrow.Author.Tests.{eq-eqb, ne-eqb}
+use Rattle.bits.specs.Choice.{pick, bit-cases, eq-or-ne}
+use Rattle.bits.specs.Sum.{xor-same, same-xor, xor-bit}
+use Rattle.bits.specs.Pack.{Bits}
+
+-- the number of places below n at which f and g differ
+unfoldable pub differences : (ℕ → ℕ) → (ℕ → ℕ) → ℕ → ℕ
+differences f g zero = 0
+differences f g (suc n) = differences f g n + pick (eqb (f n) (g n)) 0 1
+
+-- the number of ones below n
+unfoldable pub weight : (ℕ → ℕ) → ℕ → ℕ
+weight f zero = 0
+weight f (suc n) = weight f n + f n
+
+-- bits differ where their sum is 1
+pub differences-weight : (f g : ℕ → ℕ) → Bits f → Bits g → (n : ℕ) → differences f g n ≡ weight (λ i. bitXor (f i) (g i)) n
+unfolding differences weight
+differences-weight f g hf hg zero = refl
+differences-weight f g hf hg (suc n) = ap₂ (λ (a b : ℕ). a + b) (differences-weight f g hf hg n) here
+  where
+    here : pick (eqb (f n) (g n)) 0 1 ≡ bitXor (f n) (g n)
+    here =
+        ⊎-elim
+        (λ (e : f n ≡ g n). rw (eq-eqb (f n) (g n) e) (sym (xor-same (f n) (g n) e)))
+        (λ (e : f n ≡ g n → ⊥). rw (ne-eqb (f n) (g n) e)
+        (⊎-elim (λ (z : bitXor (f n) (g n) ≡ 0). absurd (e (same-xor (f n) (g n) z))) (λ (z : bitXor (f n) (g n) ≡ 1). sym z)
+        (bit-cases (bitXor (f n) (g n)) (xor-bit (f n) (g n) (hf n) (hg n)))))
+        (eq-or-ne (f n) (g n))
+
+pub differences-same : (f g f' g' : ℕ → ℕ) (n : ℕ) → ((i : ℕ) → i < n → f i ≡ f' i) → ((i : ℕ) → i < n → g i ≡ g' i) → differences f g n ≡ differences f' g' n
+unfolding differences
+differences-same f g f' g' zero hf hg = refl
+differences-same f g f' g' (suc n) hf hg =
+    ap₂ (λ (a b : ℕ). a + b)
+    (differences-same f g f' g' n (λ i l. hf i (omega arith)) (λ i l. hg i (omega arith)))
+    (ap₂ (λ (a b : ℕ). pick (eqb a b) 0 1) (hf n (omega arith)) (hg n (omega arith)))
+
+pub weight-same : (f g : ℕ → ℕ) (n : ℕ) → ((i : ℕ) → i < n → f i ≡ g i) → weight f n ≡ weight g n
+unfolding weight
+weight-same f g zero h = refl
+weight-same f g (suc n) h = ap₂ (λ (a b : ℕ). a + b) (weight-same f g n (λ i l. h i (omega arith))) (h n (omega arith))
+
+-- two and three places more
+pub weight-two : (f : ℕ → ℕ) (n : ℕ) → weight f (n + 2) ≡ weight f n + (f n + f (n + 1))
+unfolding weight
+weight-two f n = rw (add-two n, add-one n) (omega arith)
+
+pub weight-three : (f : ℕ → ℕ) (n : ℕ) → weight f (n + 3) ≡ weight f n + (f n + f (n + 1) + f (n + 2))
+unfolding weight
+weight-three f n = rw (add-three n, add-two n, add-one n) (omega arith)

@@ -1,0 +1,114 @@
+// Packed bytes to one bit a byte, and back.
+ghost use mathlib.Core.Path.{_≡_};
+ghost use Prim.Native.Nat.{ℕ, _+_, _*_, _^_, _≤_, _<_};
+ghost use lib.ListN.{length, getD};
+ghost use Rattle.bits.specs.Pack.{val, bitAt, bytesOf};
+ghost use Rattle.bits.specs.Loops.{Spread};
+
+// Bit j of packed bytes.
+pub fn bit_at(packed: &[u8], j: usize) -> u8
+    requires { ⌜ j < 8 * length (now packed) ⌝ }
+    ensures { λ r. ⌜ r ≡ bitAt (now (packed .entry)) j ⌝ }
+{
+    (packed[j / 8] >> (7 - j % 8)) & 1
+}
+
+// The lowest `width` bits of v, the highest first, one to a place from `at` on.
+pub fn put_number(out: &mut [u8], at: usize, width: usize, v: u64)
+    requires { ⌜ (at + width ≤ length (now out)) × (width ≤ 64) ⌝ }
+    ensures { λ _. ⌜ Spread (now (out .entry)) at width v width (now (out .exit)) ⌝ }
+{
+    let mut t = 0usize;
+    while t < width {
+        out[at + t] = ((v >> (width - 1 - t)) & 1) as u8;
+        t += 1;
+    }
+}
+
+// The bits of the first `whole` bytes.
+fn unpack_bytes(packed: &[u8], whole: usize, out: &mut [u8])
+    requires { ⌜ (whole ≤ length (now packed)) × (8 * whole ≤ length (now out)) ⌝ }
+    ensures { λ _. ⌜ ((k : ℕ) → k < 8 * whole → getD (now (out .exit)) k 0 ≡ bitAt (now (packed .entry)) k) ⌝ }
+{
+    let mut i = 0;
+    while i < whole {
+        put_number(out, 8 * i, 8, packed[i] as u64);
+        i += 1;
+    }
+}
+
+// The first n bits, one to a place.
+pub fn unpack(packed: &[u8], n: usize, out: &mut [u8])
+    requires { ⌜ (n ≤ 8 * length (now packed)) × (n ≤ length (now out)) ⌝ }
+    ensures { λ _. ⌜ ((k : ℕ) → k < n → getD (now (out .exit)) k 0 ≡ bitAt (now (packed .entry)) k) ⌝ }
+{
+    let whole = n / 8;
+    unpack_bytes(packed, whole, out);
+    let mut j = 8 * whole;
+    while j < n {
+        out[j] = bit_at(packed, j);
+        j += 1;
+    }
+}
+
+// The number that n bits make, from `at` on.
+pub fn number(bits: &[u8], at: usize, n: usize) -> u64
+    requires { ⌜ (at + n ≤ length (now bits)) × (n ≤ 32) × ((i : ℕ) → getD (now bits) i 0 < 2) ⌝ }
+    ensures { λ r. ⌜ r ≡ val (λ t. getD (now (bits .entry)) (at + t) 0) n ⌝ }
+{
+    let mut v = 0u64;
+    let mut t = 0usize;
+    while t < n {
+        v = (v << 1) | (bits[at + t] as u64);
+        t += 1;
+    }
+    v
+}
+
+// Bit i of a list of bits, 0 past its end.
+fn bit_or_zero(bits: &[u8], i: usize) -> u64
+    ensures { λ r. ⌜ r ≡ getD (now (bits .entry)) i 0 ⌝ }
+{
+    if i < bits.len() {
+        return bits[i] as u64;
+    }
+    0
+}
+
+// The byte of the eight bits from `at` on, of which some may lie past the end.
+fn last_byte(bits: &[u8], at: usize) -> u64
+    requires { ⌜ (at + 8 < 2 ^ 64) × ((i : ℕ) → getD (now bits) i 0 < 2) ⌝ }
+    ensures { λ r. ⌜ r ≡ val (λ t. getD (now (bits .entry)) (at + t) 0) 8 ⌝ }
+{
+    let mut v = 0u64;
+    let mut t = 0usize;
+    while t < 8 {
+        v = (v << 1) | bit_or_zero(bits, at + t);
+        t += 1;
+    }
+    v
+}
+
+// Byte i of the packed bits.
+fn byte_of(bits: &[u8], i: usize) -> u8
+    requires { ⌜ (8 * i + 8 < 2 ^ 64) × ((k : ℕ) → getD (now bits) k 0 < 2) ⌝ }
+    ensures { λ r. ⌜ r ≡ val (λ t. getD (now (bits .entry)) (8 * i + t) 0) 8 ⌝ }
+{
+    let at = 8 * i;
+    if at + 8 <= bits.len() {
+        return (number(bits, at, 8) % 256) as u8;
+    }
+    (last_byte(bits, at) % 256) as u8
+}
+
+// Packs bits, with zeros behind them, into all of `out`.
+pub fn pack(bits: &[u8], out: &mut [u8])
+    requires { ⌜ (length (now out) < 2 ^ 32) × ((i : ℕ) → getD (now bits) i 0 < 2) ⌝ }
+    ensures { λ _. ⌜ now (out .exit) ≡ bytesOf (length (now (out .entry))) (λ i. getD (now (bits .entry)) i 0) ⌝ }
+{
+    let mut i = 0;
+    while i < out.len() {
+        out[i] = byte_of(bits, i);
+        i += 1;
+    }
+}

@@ -1,0 +1,164 @@
+-- A nonzero input difference makes two ones that stand next to each other, or with one place between them. So coded bits that
+-- differ only in places further apart are not both the code's, which is what finds bursts.
+use mathlib.Core.Path.{_≡_, refl, sym, ap, ap₂, _∙_}
+use mathlib.Core.Bool.{Bool, true, false}
+use mathlib.Core.Logic.{_⊎_, inl, inr, ⊎-elim}
+use Prim.Native.Nat.{ℕ, zero, suc, _+_, _-_, _*_, _/_, _%_, _≤_, _<_}
+use native.Mathlib.Omega.{arith}
+use native.Mathlib.Numerals.{add-one}
+use lib.Bits.{bitXor, xor-zero-r}
+use lib.Dec.{eqb}
+use borrow.Author.Tests.{eqb-true, eqb-false, eq-eqb}
+use Rattle.bits.specs.Choice.{bit-cases, lt-or-le}
+use Rattle.bits.specs.First.{upTo, up-to-le, one-fails, passes-before, none-fails}
+use Rattle.bits.specs.Pack.{Bits}
+use Rattle.rates.specs.Rate.{infoBits, inputBits, by-rate}
+use Rattle.convolution.specs.Code.{delay, first, second, encode, third-first, third-second, half-first, half-second, two-first, two-second, two-odd}
+
+-- two ones of c, below 15,120, one or two places apart
+pub record Near (c : ℕ → ℕ) : Type 0 where
+  pub at : ℕ
+  pub apart : ℕ
+  pub some : 1 ≤ apart
+  pub few : apart ≤ 2
+  pub inside : at + apart < 15120
+  pub this : c at ≡ 1
+  pub that : c (at + apart) ≡ 1
+
+-- nothing but zeros so far
+quiet-delay : (δ : ℕ → ℕ) (i : ℕ) → ((k : ℕ) → k < i → δ k ≡ 0) → delay δ i ≡ 0
+unfolding delay
+quiet-delay δ zero h = refl
+quiet-delay δ (suc i) h = h i (omega arith)
+
+quiet-delay2 : (δ : ℕ → ℕ) (i : ℕ) → ((k : ℕ) → k < i → δ k ≡ 0) → delay (delay δ) i ≡ 0
+unfolding delay
+quiet-delay2 δ zero h = refl
+quiet-delay2 δ (suc i) h = quiet-delay δ i (λ k l. h k (omega arith))
+
+module _ (δ : ℕ → ℕ) (bits : Bits δ) where
+  module _ (i : ℕ) (one : δ i ≡ 1) (quiet : (k : ℕ) → k < i → δ k ≡ 0) where
+    -- the outputs of the first 1
+    first-one : first δ i ≡ 1
+    unfolding first
+    first-one = ap₂ bitXor one (quiet-delay2 δ i quiet)
+
+    second-one : second δ i ≡ 1
+    unfolding second
+    second-one = ap₂ bitXor (ap₂ bitXor one (quiet-delay δ i quiet)) (quiet-delay2 δ i quiet)
+
+    -- and of the bit behind it: the first is that bit, the second its opposite
+    first-next : first δ (suc i) ≡ δ (suc i)
+    unfolding first delay
+    first-next = ap (λ (d : ℕ). bitXor (δ (suc i)) d) (quiet-delay δ i quiet) ∙ xor-zero-r (δ (suc i))
+
+    second-next : second δ (suc i) ≡ bitXor (δ (suc i)) 1
+    unfolding second delay
+    second-next =
+        ap₂ (λ (a b : ℕ). bitXor (bitXor (δ (suc i)) a) b) one (quiet-delay δ i quiet)
+        ∙ xor-zero-r (bitXor (δ (suc i)) 1)
+
+    near-third : i < 5040 → Near (encode 0 δ)
+    near-third l =
+        record {
+          at = 3 * i;
+          apart = 1;
+          some = omega arith;
+          few = omega arith;
+          inside = omega arith;
+          this = third-first δ i ∙ first-one;
+          that = third-second δ i ∙ second-one;
+        }
+
+    near-half : i < 7560 → Near (encode 1 δ)
+    near-half l =
+        record {
+          at = 2 * i;
+          apart = 1;
+          some = omega arith;
+          few = omega arith;
+          inside = omega arith;
+          this = half-first δ i ∙ first-one;
+          that = half-second δ i ∙ second-one;
+        }
+
+    near-even : i < 10080 → i % 2 ≡ 0 → Near (encode 2 δ)
+    near-even l e =
+        let q : 2 * (i / 2) ≡ i = omega arith in
+        record {
+          at = 3 * (i / 2);
+          apart = 1;
+          some = omega arith;
+          few = omega arith;
+          inside = omega arith;
+          this = two-first δ (i / 2) ∙ ap (first δ) q ∙ first-one;
+          that = two-second δ (i / 2) ∙ ap (second δ) q ∙ second-one;
+        }
+
+    near-odd : i < 10079 → i % 2 ≡ 1 → Near (encode 2 δ)
+    near-odd l e =
+        let q : 2 * (i / 2) + 1 ≡ i = omega arith in
+        let n : 2 * (i / 2 + 1) ≡ suc i = omega arith in
+        let at1 : 3 * (i / 2) + 2 + 1 ≡ 3 * (i / 2 + 1) = omega arith in
+        let at2 : 3 * (i / 2) + 2 + 2 ≡ 3 * (i / 2 + 1) + 1 = omega arith in
+        let here : encode 2 δ (3 * (i / 2) + 2) ≡ 1 = two-odd δ (i / 2) ∙ ap (second δ) q ∙ second-one in
+        let next1 : encode 2 δ (3 * (i / 2) + 2 + 1) ≡ δ (suc i) = ap (encode 2 δ) at1 ∙ two-first δ (i / 2 + 1) ∙ ap (first δ) n ∙ first-next in
+        let next2 : encode 2 δ (3 * (i / 2) + 2 + 2) ≡ bitXor (δ (suc i)) 1 = ap (encode 2 δ) at2 ∙ two-second δ (i / 2 + 1) ∙ ap (second δ) n ∙ second-next in
+        ⊎-elim
+        (λ (z : δ (suc i) ≡ 0). record {
+          at = 3 * (i / 2) + 2;
+          apart = 2;
+          some = omega arith;
+          few = omega arith;
+          inside = omega arith;
+          this = here;
+          that = next2 ∙ ap (λ (b : ℕ). bitXor b 1) z;
+        })
+        (λ (o : δ (suc i) ≡ 1). record {
+          at = 3 * (i / 2) + 2;
+          apart = 1;
+          some = omega arith;
+          few = omega arith;
+          inside = omega arith;
+          this = here;
+          that = next1 ∙ o;
+        })
+        (bit-cases (δ (suc i)) (bits (suc i)))
+
+    near-two : i < 10079 → Near (encode 2 δ)
+    near-two l =
+        ⊎-elim (λ (e : i % 2 ≡ 0). near-even (omega arith) e) (λ (e : i % 2 ≡ 1). near-odd l e) (bit-cases (i % 2) (omega arith))
+
+  zeroAt : ℕ → Bool
+  zeroAt k = eqb (δ k) 0
+
+  -- a difference with a 1 in it whose last bit is 0
+  pub near : (r : ℕ) → r < 3 → δ (infoBits r + 33) ≡ 0 → (i : ℕ) → i < infoBits r + 34 → δ i ≡ 1 → Near (encode r δ)
+  unfolding infoBits zeroAt
+  near r h last i l one =
+      by-rate (λ (r : ℕ). δ (infoBits r + 33) ≡ 0 → i < infoBits r + 34 → Near (encode r δ))
+      (λ z b. let f : upTo zeroAt 0 5040 < 5040 = found 5040 b in near-third (upTo zeroAt 0 5040) (is-one 5040 f) (before 5040) f)
+      (λ z b. let f : upTo zeroAt 0 7560 < 7560 = found 7560 b in near-half (upTo zeroAt 0 7560) (is-one 7560 f) (before 7560) f)
+      (λ z b.
+      let f : upTo zeroAt 0 10080 < 10080 = found 10080 b in
+      let g : upTo zeroAt 0 10080 ≡ 10079 → ⊥ = λ e. (let o : δ 10079 ≡ 1 = ap δ (sym e) ∙ is-one 10080 f in omega arith) in
+      near-two (upTo zeroAt 0 10080) (is-one 10080 f) (before 10080) (omega arith))
+      r h last l
+    where
+      found : (n : ℕ) → i < n → upTo zeroAt 0 n < n
+      found n b =
+          ⊎-elim (λ (k : upTo zeroAt 0 n < n). k)
+          (λ (k : n ≤ upTo zeroAt 0 n). absurd
+          (let m : upTo zeroAt 0 n ≤ n = up-to-le zeroAt n in
+          let e : upTo zeroAt 0 n ≡ n = omega arith in
+          let z : δ i ≡ 0 = eqb-true (δ i) 0 (none-fails zeroAt n e i b) in
+          omega arith))
+          (lt-or-le (upTo zeroAt 0 n) n)
+
+      is-one : (n : ℕ) → upTo zeroAt 0 n < n → δ (upTo zeroAt 0 n) ≡ 1
+      is-one n f =
+          let d : ℕ = δ (upTo zeroAt 0 n) in
+          ⊎-elim (λ (z : d ≡ 0). absurd (eqb-false d 0 (one-fails zeroAt n f) z)) (λ (o : d ≡ 1). o) (bit-cases d (bits (upTo zeroAt 0 n)))
+
+      before : (n : ℕ) → (k : ℕ) → k < upTo zeroAt 0 n → δ k ≡ 0
+      before n k b = eqb-true (δ k) 0 (passes-before zeroAt n k b)

@@ -1,0 +1,2 @@
+pub mod Randomizer
+pub mod Bytes

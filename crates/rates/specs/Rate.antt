@@ -1,0 +1,59 @@
+-- The three code rates: 0 for 1/3, 1 for 1/2, 2 for 2/3.
+use mathlib.Core.Path.{_≡_, refl}
+use mathlib.Core.Logic.{_⊎_, inl, inr}
+use Prim.Native.Nat.{ℕ, zero, suc, _+_, _-_, _*_, _/_, _%_, _≤_, _<_}
+use native.Mathlib.Omega.{arith}
+
+-- k, the bits of an information block
+unfoldable pub infoBits : ℕ → ℕ
+infoBits zero = 5006
+infoBits (suc zero) = 7526
+infoBits (suc (suc r)) = 10046
+
+-- n, the input bits of the code: the block, 32 check bits and 2 termination bits
+unfoldable pub inputBits : ℕ → ℕ
+inputBits rate = infoBits rate + 34
+
+-- the bytes of a packed block: k bits and two spare ones
+unfoldable pub blockBytes : ℕ → ℕ
+blockBytes rate = (infoBits rate + 7) / 8
+
+-- the code rate as a fraction: of every `codedPer` coded bits, `inputsPer` are input bits
+unfoldable pub inputsPer : ℕ → ℕ
+inputsPer zero = 1
+inputsPer (suc zero) = 1
+inputsPer (suc (suc r)) = 2
+
+unfoldable pub codedPer : ℕ → ℕ
+codedPer zero = 3
+codedPer (suc zero) = 2
+codedPer (suc (suc r)) = 3
+
+-- what holds at each rate holds for every rate that question 2 lets pass
+pub by-rate : (P : ℕ → Type 0) → P 0 → P 1 → P 2 → (rate : ℕ) → rate < 3 → P rate
+by-rate P p0 p1 p2 zero h = p0
+by-rate P p0 p1 p2 (suc zero) h = p1
+by-rate P p0 p1 p2 (suc (suc zero)) h = p2
+by-rate P p0 p1 p2 (suc (suc (suc r))) h = absurd (omega arith)
+
+-- a block's bytes hold its bits and two more
+pub block-size : (rate : ℕ) → rate < 3 → 8 * blockBytes rate ≡ infoBits rate + 2
+unfolding blockBytes infoBits
+block-size = by-rate (λ (r : ℕ). 8 * blockBytes r ≡ infoBits r + 2) refl refl refl
+
+-- no block is longer than one at 2/3
+pub info-le : (rate : ℕ) → infoBits rate ≤ 10046
+unfolding infoBits
+info-le zero = omega arith
+info-le (suc zero) = omega arith
+info-le (suc (suc r)) = omega arith
+
+-- room for 10,080 input bits is room for those of any rate
+pub input-room : (rate : ℕ) → rate < 3 → infoBits rate + 34 ≤ 10080
+unfolding infoBits
+input-room = by-rate (λ (r : ℕ). infoBits r + 34 ≤ 10080) (omega arith) (omega arith) (omega arith)
+
+-- and 1,256 bytes for a packed block of any rate
+pub block-room : (rate : ℕ) → rate < 3 → blockBytes rate ≤ 1256
+unfolding blockBytes infoBits
+block-room = by-rate (λ (r : ℕ). blockBytes r ≤ 1256) (omega arith) (omega arith) (omega arith)

@@ -1,0 +1,39 @@
+// The sizes of a block at each code rate: 0 for 1/3, 1 for 1/2, 2 for 2/3.
+ghost use mathlib.Core.Path.{_≡_};
+ghost use Prim.Native.Nat.{_<_};
+ghost use Rattle.rates.specs.Rate.{infoBits, inputBits, blockBytes};
+
+const THIRD: usize = 5006;
+const HALF: usize = 7526;
+const TWO_THIRDS: usize = 10046;
+
+// The check bits and the termination bits behind a block.
+const ADDED: usize = 34;
+
+// k, the bits of an information block.
+pub fn info_bits(rate: u64) -> usize
+    requires { ⌜ rate < 3 ⌝ }
+    ensures { λ r. ⌜ r ≡ infoBits rate ⌝ }
+{
+    match rate {
+        0 => THIRD,
+        1 => HALF,
+        _ => TWO_THIRDS,
+    }
+}
+
+// n, the input bits of the code.
+pub fn input_bits(rate: u64) -> usize
+    requires { ⌜ rate < 3 ⌝ }
+    ensures { λ r. ⌜ r ≡ inputBits rate ⌝ }
+{
+    info_bits(rate) + ADDED
+}
+
+// The bytes of a packed block.
+pub fn block_bytes(rate: u64) -> usize
+    requires { ⌜ rate < 3 ⌝ }
+    ensures { λ r. ⌜ r ≡ blockBytes rate ⌝ }
+{
+    (info_bits(rate) + 7) / 8
+}

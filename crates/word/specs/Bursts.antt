@@ -1,0 +1,109 @@
+-- Why a burst of at most 18 flipped bits is found: in the coded bits the flips lie far apart, and no two words of the code differ so.
+--
+-- Undoing the accumulator spreads the flips over at most 19 neighbouring places; undoing the interleaver moves neighbours at least 11 places
+-- apart modulo 210. But two different sets of coded bits that both are the code's differ somewhere in two places at a distance of 1 or 2.
+use mathlib.Core.Path.{_≡_, refl, sym, ap, ap₂, _∙_}
+use mathlib.Core.Bool.{Bool, true, false}
+use mathlib.Core.Logic.{_⊎_, inl, inr, ⊎-elim}
+use Prim.Native.Nat.{ℕ, zero, suc, _+_, _-_, _*_, _/_, _%_, _≤_, _<_}
+use native.Mathlib.Omega.{arith}
+use lib.Bits.{bitXor, xor-self}
+use lib.Dec.{eqb}
+use borrow.Author.Tests.{eqb-true, eqb-false}
+use Rattle.bits.specs.Choice.{bit-cases, lt-or-le}
+use Rattle.bits.specs.First.{upTo, up-to-le, one-fails, none-fails}
+use Rattle.bits.specs.Pack.{Bits}
+use Rattle.rates.specs.Rate.{infoBits, inputBits}
+use Rattle.convolution.specs.Code.{encode, encode-same, encode-plus}
+use Rattle.convolution.specs.Near.{Near, near}
+use Rattle.interleaver.specs.Interleaver.{wordBits, place, placeBack, deinterleave, place-back, back-place, back-lt, place-lt, place-mod, taken-from}
+use Rattle.accumulator.specs.Accumulator.{accumulate, differentiate, accumulate-same, accumulate-differentiate, accumulate-plus}
+
+-- zeros make zeros
+encode-zeros : (rate j : ℕ) → encode rate (λ i. 0) j ≡ 0
+encode-zeros rate j = encode-plus rate (λ i. 0) (λ i. 0) j ∙ xor-self (encode rate (λ i. 0) j)
+
+accumulate-zeros : (j : ℕ) → accumulate (λ i. 0) j ≡ 0
+accumulate-zeros j = accumulate-plus (λ i. 0) (λ i. 0) j ∙ xor-self (accumulate (λ i. 0) j)
+
+-- bits within 18 places, the accumulator undone: within 19
+abbrev Inside : (ℕ → ℕ) → ℕ → Type 0
+Inside e start = (j : ℕ) → j < wordBits → e j ≡ 1 → (start ≤ j) × (j < start + 18)
+
+spread : (e : ℕ → ℕ) (start : ℕ) → Bits e → Inside e start → (j : ℕ) → j < wordBits → differentiate e j ≡ 1 → (start ≤ j) × (j < start + 19)
+unfolding differentiate
+spread e start b h zero l one = let r = h 0 l one in omega arith
+spread e start b h (suc j) l one =
+    ⊎-elim
+    (λ (z : e (suc j) ≡ 0).
+    let o : e j ≡ 1 = sym (ap (λ (a : ℕ). bitXor a (e j)) z) ∙ one in
+    let r = h j (omega arith) o in omega arith)
+    (λ (o : e (suc j) ≡ 1). let r = h (suc j) l o in omega arith)
+    (bit-cases (e (suc j)) (b (suc j)))
+
+-- places that came from neighbours are not near each other
+apart : (p d j k start : ℕ) → 1 ≤ d → d ≤ 2 → p % 210 ≡ 11 * j % 210 → (p + d) % 210 ≡ 11 * k % 210
+    → start ≤ j → j < start + 19 → start ≤ k → k < start + 19 → ⊥
+apart p d j k start d1 d2 ej ek j1 j2 k1 k2 =
+    let a : ℕ = 11 * j / 210 + (p + d) / 210 in
+    let b : ℕ = p / 210 + 11 * k / 210 in
+    let e : 11 * j + d + 210 * b ≡ 11 * k + 210 * a = omega arith in
+    ⊎-elim
+    (λ (l : a < b). omega arith)
+    (λ (l : b ≤ a). ⊎-elim
+    (λ (m : b < a). omega arith)
+    (λ (m : a ≤ b).
+    let same : 11 * j + d ≡ 11 * k = omega arith in
+    let left : (11 * j + d) % 11 ≡ d = omega arith in
+    let right : 11 * k % 11 ≡ 0 = omega arith in
+    let z : d ≡ 0 = sym left ∙ ap (λ (m : ℕ). m % 11) same ∙ right in
+    omega arith)
+    (lt-or-le b a))
+    (lt-or-le a b)
+
+module _ (rate : ℕ) (h : rate < 3) (e : ℕ → ℕ) (be : Bits e) (start : ℕ) (inside : Inside e start) (i : ℕ) (li : i < wordBits) (oi : e i ≡ 1) where
+  -- no input difference that ends in 0 makes these coded differences
+  pub no-code : (δ : ℕ → ℕ) → Bits δ → δ (infoBits rate + 33) ≡ 0 → ((x : ℕ) → x < wordBits → encode rate δ x ≡ deinterleave (differentiate e) x) → ⊥
+  unfolding inputBits
+  no-code δ bδ last same =
+      ⊎-elim (λ (l : upTo zeroAt 0 n < n). found l) (λ (g : n ≤ upTo zeroAt 0 n). none (let m = up-to-le zeroAt n in omega arith)) (lt-or-le (upTo zeroAt 0 n) n)
+    where
+      n : ℕ
+      n = infoBits rate + 34
+
+      zeroAt : ℕ → Bool
+      zeroAt k = eqb (δ k) 0
+
+      none : upTo zeroAt 0 n ≡ n → ⊥
+      none q =
+          let z : (j : ℕ) → j < wordBits → differentiate e j ≡ 0 = λ j l.
+          ap (differentiate e) (sym (back-place j l)) ∙ sym (taken-from (differentiate e) (place j)) ∙ sym (same (place j) (place-lt j))
+          ∙ encode-same rate δ (λ i. 0) h (λ k m. eqb-true (δ k) 0 (none-fails zeroAt n q k m)) (place j) (place-lt j)
+          ∙ encode-zeros rate (place j) in
+          let zero-e : e i ≡ 0 =
+          sym (accumulate-differentiate e i) ∙ accumulate-same (differentiate e) (λ i. 0) i (λ j l. z j (omega arith)) ∙ accumulate-zeros i in
+          omega arith
+
+      found : upTo zeroAt 0 n < n → ⊥
+      found l = near-no (near δ bδ rate h last (upTo zeroAt 0 n) l one)
+        where
+          one : δ (upTo zeroAt 0 n) ≡ 1
+          one =
+              let d : ℕ = δ (upTo zeroAt 0 n) in
+              ⊎-elim (λ (z : d ≡ 0). absurd (eqb-false d 0 (one-fails zeroAt n l) z)) (λ (o : d ≡ 1). o) (bit-cases d (bδ (upTo zeroAt 0 n)))
+
+          near-no : Near (encode rate δ) → ⊥
+          near-no c =
+              let p : ℕ = c .at in
+              let d : ℕ = c .apart in
+              let j : ℕ = placeBack p in
+              let k : ℕ = placeBack (p + d) in
+              let lp : p < wordBits = let r = c .inside in omega arith in
+              let oj : differentiate e j ≡ 1 = sym (taken-from (differentiate e) p) ∙ sym (same p lp) ∙ c .this in
+              let ok : differentiate e k ≡ 1 = sym (taken-from (differentiate e) (p + d)) ∙ sym (same (p + d) (c .inside)) ∙ c .that in
+              let rj = spread e start be inside j (back-lt p) oj in
+              let rk = spread e start be inside k (back-lt (p + d)) ok in
+              apart p d j k start (c .some) (c .few)
+              (ap (λ (m : ℕ). m % 210) (sym (place-back p lp)) ∙ place-mod j)
+              (ap (λ (m : ℕ). m % 210) (sym (place-back (p + d) (c .inside))) ∙ place-mod k)
+              (rj .0) (rj .1) (rk .0) (rk .1)

@@ -1,0 +1,113 @@
+-- Words: the 15,120 bits made from one information block by steps 2 to 7, the way back, and the questions that the two calls put.
+-- The definitions are shut: the crates above know them by the laws of `Word.Laws` and the theorems of `Theorems`.
+use mathlib.Core.Path.{_≡_, refl, sym, ap, ap₂, _∙_}
+use mathlib.Core.Bool.{Bool, true, false}
+use mathlib.Core.List.{List}
+use Prim.Native.Nat.{ℕ, zero, suc, _+_, _-_, _*_, _/_, _%_, _≤_, _<_}
+use lib.Dec.{ltb, eqb}
+use lib.ListN.{length}
+use Rattle.bits.specs.Choice.{pick}
+use Rattle.bits.specs.Table.{both}
+use Rattle.bits.specs.First.{upTo}
+use Rattle.bits.specs.Pack.{val, bitAt, bytesOf, cut}
+use Rattle.rates.specs.Rate.{infoBits, blockBytes}
+use Rattle.crc.specs.Check.{register, checked}
+use Rattle.convolution.specs.Code.{terminated, encode, decode}
+use Rattle.interleaver.specs.Interleaver.{wordBits, interleave, deinterleave}
+use Rattle.accumulator.specs.Accumulator.{accumulate, differentiate}
+use Rattle.randomizer.specs.Randomizer.{randomize}
+use Rattle.word.specs.declared.WriteAnswer.{WriteAnswer}
+use Rattle.word.specs.declared.WriteAnswer.the-variants as W
+use Rattle.word.specs.declared.ReadAnswer.{ReadAnswer}
+use Rattle.word.specs.declared.ReadAnswer.the-variants as R
+pub mod Laws
+pub mod Answers
+
+-- the bytes of a word
+abbrev pub wordBytes : ℕ
+wordBytes = 1890
+
+-- ---- from a block to its word
+
+-- steps 2 and 3: the k bits of the block, their check, and two zero termination bits
+pub inputOf : ℕ → List ℕ → ℕ → ℕ
+inputOf rate block = terminated (infoBits rate + 32) (checked (infoBits rate) (bitAt block))
+
+-- step 4: the 15,120 coded bits
+pub codedOf : ℕ → List ℕ → ℕ → ℕ
+codedOf rate block = encode rate (inputOf rate block)
+
+-- steps 5, 6 and 7
+pub shuffled : (ℕ → ℕ) → ℕ → ℕ
+shuffled coded = randomize (accumulate (interleave coded))
+
+pub wordOf : ℕ → List ℕ → List ℕ
+wordOf rate block = bytesOf wordBytes (shuffled (codedOf rate block))
+
+-- ---- from a word back to its block
+
+-- the coded bits taken back out: steps 7, 6 and 5 undone, the last first
+pub codedIn : List ℕ → ℕ → ℕ
+codedIn word = deinterleave (differentiate (randomize (bitAt word)))
+
+-- the input bits, from the second output alone
+pub inputIn : ℕ → List ℕ → ℕ → ℕ
+inputIn rate word = decode rate (codedIn word)
+
+-- the block: the first k of them, packed, and spare bits of 0
+pub packedBlock : ℕ → (ℕ → ℕ) → List ℕ
+packedBlock rate x = bytesOf (blockBytes rate) (cut (infoBits rate) x)
+
+pub blockIn : ℕ → List ℕ → List ℕ
+blockIn rate word = packedBlock rate (inputIn rate word)
+
+-- ---- the questions
+
+-- question 9: are the block's two spare bits zero?
+pub spareZero : ℕ → List ℕ → Bool
+spareZero rate block = both (eqb (bitAt block (infoBits rate)) 0) (eqb (bitAt block (infoBits rate + 1)) 0)
+
+-- question 13, of coded bits c and the input bits x that were read from them: do these make coded bit j? And the first that they do not
+pub agrees : ℕ → (ℕ → ℕ) → (ℕ → ℕ) → ℕ → Bool
+agrees rate c x j = eqb (c j) (encode rate x j)
+
+pub firstWrong : ℕ → (ℕ → ℕ) → (ℕ → ℕ) → ℕ
+firstWrong rate c x = upTo (agrees rate c x) 0 wordBits
+
+-- question 14: are both termination bits zero?
+pub endsInZeros : ℕ → (ℕ → ℕ) → Bool
+endsInZeros rate x = both (eqb (x (infoBits rate + 32)) 0) (eqb (x (infoBits rate + 33)) 0)
+
+-- question 15: is the check right?
+pub checkRight : ℕ → (ℕ → ℕ) → Bool
+checkRight rate x = eqb (val (λ i. x (infoBits rate + i)) 32) (register x (infoBits rate))
+
+-- the writer: questions 2, 8 and 9
+pub writeSays : ℕ → List ℕ → ℕ → WriteAnswer
+writeSays rate block wordLength =
+    pick (ltb rate 3)
+    (pick (both (eqb (length block) (blockBytes rate)) (eqb wordLength wordBytes))
+    (pick (spareZero rate block)
+    W.Written
+    W.SpareBits)
+    W.BadLength)
+    W.BadRate
+
+-- the reader: questions 13, 14 and 15, and before them 2 and 8
+pub judged : ℕ → (ℕ → ℕ) → (ℕ → ℕ) → ReadAnswer
+judged rate c x =
+    pick (eqb (firstWrong rate c x) wordBits)
+    (pick (endsInZeros rate x)
+    (pick (checkRight rate x)
+    R.Block
+    R.BadCheck)
+    R.Unterminated)
+    (R.Miscoded (firstWrong rate c x))
+
+pub readSays : ℕ → List ℕ → ℕ → ReadAnswer
+readSays rate word blockLength =
+    pick (ltb rate 3)
+    (pick (both (eqb (length word) wordBytes) (eqb blockLength (blockBytes rate)))
+    (judged rate (codedIn word) (inputIn rate word))
+    R.BadLength)
+    R.BadRate

@@ -1,0 +1,390 @@
+-- What holds of words: the only text that opens the definitions of `Word`.
+use mathlib.Core.Path.{_≡_, refl, sym, ap, ap₂, _∙_}
+use mathlib.Core.Bool.{Bool, true, false}
+use mathlib.Core.List.{List}
+use mathlib.Core.Logic.{⊎-elim}
+use Prim.Native.Nat.{ℕ, zero, suc, _+_, _-_, _*_, _/_, _%_, _^_, _≤_, _<_}
+use native.Mathlib.Omega.{arith}
+use lib.Bits.{bitXor}
+use lib.Dec.{ltb, eqb}
+use lib.ListN.{length, getD, set, length-set}
+use lib.Seq.{getD-set-same, getD-set-other}
+use borrow.Author.Tests.{lt-ltb, le-ltb, eq-eqb, ne-eqb, ltb-true, eqb-true}
+use Rattle.bits.specs.Choice.{pick, lt-or-le, eq-or-ne}
+use Rattle.bits.specs.Sum.{sum3}
+use Rattle.bits.specs.Table.{both, both-true, tab, getD-tab, tab-same}
+use Rattle.bits.specs.First.{upTo, none-fails, all-pass, first-same}
+use Rattle.bits.specs.Loops.{Spread}
+use Rattle.bits.specs.Pack.{val, bitAt, bytesOf, cut, Bytes, Bits, bit-lt, bit-bytes, bit-val, val-bits, val-same, bytes-made, bytes-same, bytes-are, length-bytes, cut-in, cut-past, cut-bits, cut-same, cut-sum3}
+use Rattle.rates.specs.Rate.{infoBits, inputBits, blockBytes, block-size}
+use Rattle.crc.specs.Check.{register, register-same, register-lt, checkBit, checked, checked-block, checked-check, checked-bits, checked-same, checked-sum3}
+use Rattle.convolution.specs.Code.{terminated, encode, decode, encode-bits, encode-same, encode-plus, decode-bits, decode-same, decode-encode}
+use Rattle.interleaver.specs.Interleaver.{wordBits, interleave, deinterleave, interleave-bits, deinterleave-bits, interleave-same, deinterleave-same, deinterleave-interleave, interleave-deinterleave, interleave-plus, deinterleave-plus}
+use Rattle.accumulator.specs.Accumulator.{accumulate, differentiate, accumulate-bits, differentiate-bits, accumulate-same, differentiate-same, accumulate-plus, differentiate-plus, differentiate-accumulate, accumulate-differentiate}
+use Rattle.randomizer.specs.Randomizer.{randomize, randomize-bits, randomize-same, randomize-twice, randomize-plus, randomize-sum3}
+use Rattle.word.specs.Word.{wordBytes, inputOf, codedOf, shuffled, wordOf, codedIn, inputIn, packedBlock, blockIn, spareZero, agrees, firstWrong, endsInZeros, checkRight, writeSays, judged, readSays}
+use Rattle.word.specs.Answer.{writeNumber, readNumber}
+use Rattle.word.specs.declared.WriteAnswer.{WriteAnswer}
+use Rattle.word.specs.declared.WriteAnswer.the-variants as W
+use Rattle.word.specs.declared.ReadAnswer.{ReadAnswer}
+use Rattle.word.specs.declared.ReadAnswer.the-variants as R
+
+-- ---- bits all the way
+
+pub input-bits : (rate : ℕ) (block : List ℕ) → Bits (inputOf rate block)
+unfolding inputOf
+input-bits rate block =
+    cut-bits (infoBits rate + 32) (checked (infoBits rate) (bitAt block)) (checked-bits (infoBits rate) (bitAt block) (bit-lt block))
+
+pub coded-bits : (rate : ℕ) (block : List ℕ) → Bits (codedOf rate block)
+unfolding codedOf
+coded-bits rate block = encode-bits rate (inputOf rate block) (input-bits rate block)
+
+pub shuffled-bits : (c : ℕ → ℕ) → Bits c → Bits (shuffled c)
+unfolding shuffled
+shuffled-bits c h =
+    randomize-bits (accumulate (interleave c)) (accumulate-bits (interleave c) (interleave-bits c h))
+
+pub coded-in-bits : (word : List ℕ) → Bits (codedIn word)
+unfolding codedIn
+coded-in-bits word =
+    deinterleave-bits (differentiate (randomize (bitAt word)))
+    (differentiate-bits (randomize (bitAt word)) (randomize-bits (bitAt word) (bit-lt word)))
+
+pub input-in-bits : (rate : ℕ) (word : List ℕ) → Bits (inputIn rate word)
+unfolding inputIn
+input-in-bits rate word = decode-bits rate (codedIn word) (coded-in-bits word)
+
+-- ---- steps 5 to 7 and their undoing
+
+-- coded bits that agree make the same word
+pub shuffled-same : (c d : ℕ → ℕ) → ((x : ℕ) → x < wordBits → c x ≡ d x) → (j : ℕ) → shuffled c j ≡ shuffled d j
+unfolding shuffled
+shuffled-same c d h j =
+    randomize-same (accumulate (interleave c)) (accumulate (interleave d)) j
+    (accumulate-same (interleave c) (interleave d) j (λ i l. interleave-same c d h i))
+
+-- the coded bits of a word that was made of coded bits
+pub coded-back : (c : ℕ → ℕ) → Bits c → (x : ℕ) → x < wordBits → codedIn (bytesOf wordBytes (shuffled c)) x ≡ c x
+unfolding codedIn shuffled
+coded-back c h x l =
+    deinterleave-same (differentiate (randomize (bitAt (bytesOf wordBytes (shuffled c))))) (interleave c) (λ j k.
+    differentiate-same (randomize (bitAt (bytesOf wordBytes (shuffled c)))) (accumulate (interleave c)) j (λ i b.
+    randomize-same (bitAt (bytesOf wordBytes (shuffled c))) (shuffled c) i (bit-bytes wordBytes (shuffled c) (shuffled-bits c h) i (omega arith))
+    ∙ randomize-twice (accumulate (interleave c)) i)
+    ∙ differentiate-accumulate (interleave c) j) x
+    ∙ deinterleave-interleave c x l
+
+-- a word is made of its coded bits
+pub word-again : (word : List ℕ) → length word ≡ wordBytes → Bytes word → bytesOf wordBytes (shuffled (codedIn word)) ≡ word
+unfolding codedIn shuffled
+word-again word e b =
+    sym (bytes-made wordBytes (shuffled (codedIn word)) word e b (λ j l.
+    sym
+    (randomize-same (accumulate (interleave (codedIn word))) (randomize (bitAt word)) j
+    (accumulate-same (interleave (codedIn word)) (differentiate (randomize (bitAt word))) j (λ i k.
+    interleave-deinterleave (differentiate (randomize (bitAt word))) i (omega arith))
+    ∙ accumulate-differentiate (randomize (bitAt word)) j)
+    ∙ randomize-twice (bitAt word) j)))
+
+-- steps 5 to 7 on packed bytes, one after another, as the code takes them
+pub shuffled-made : (c : ℕ → ℕ) → Bits c → bytesOf wordBytes (randomize (bitAt (bytesOf wordBytes (accumulate (bitAt (bytesOf wordBytes (interleave c))))))) ≡ bytesOf wordBytes (shuffled c)
+unfolding shuffled
+shuffled-made c h =
+    let w1 : ℕ → ℕ = bitAt (bytesOf wordBytes (interleave c)) in
+    let w2 : ℕ → ℕ = bitAt (bytesOf wordBytes (accumulate w1)) in
+    let b1 : Bits w1 = bit-lt (bytesOf wordBytes (interleave c)) in
+    bytes-same wordBytes (randomize w2) (shuffled c) (λ j l.
+    randomize-same w2 (accumulate (interleave c)) j
+    (bit-bytes wordBytes (accumulate w1) (accumulate-bits w1 b1) j (omega arith)
+    ∙ accumulate-same w1 (interleave c) j (λ i k. bit-bytes wordBytes (interleave c) (interleave-bits c h) i (omega arith))))
+
+-- the word of a list of coded bits
+pub word-from : (rate : ℕ) (block coded : List ℕ) → coded ≡ tab wordBits (codedOf rate block) → bytesOf wordBytes (shuffled (λ j. getD coded j 0)) ≡ wordOf rate block
+unfolding wordOf
+word-from rate block coded e =
+    bytes-same wordBytes (shuffled (λ j. getD coded j 0)) (shuffled (codedOf rate block)) (λ j l.
+    shuffled-same (λ j. getD coded j 0) (codedOf rate block) (λ x k.
+    ap (λ (xs : List ℕ). getD xs x 0) e ∙ getD-tab wordBits (codedOf rate block) x k) j)
+
+-- and steps 7 to 5 undone
+pub coded-made : (word w1 w2 coded : List ℕ) → w1 ≡ bytesOf wordBytes (randomize (bitAt word)) → w2 ≡ bytesOf wordBytes (differentiate (bitAt w1))
+    → coded ≡ tab wordBits (deinterleave (bitAt w2)) → coded ≡ tab wordBits (codedIn word)
+unfolding codedIn
+coded-made word w1 w2 coded e1 e2 e3 =
+    e3 ∙ tab-same wordBits (deinterleave (bitAt w2)) (codedIn word) (λ x l.
+    deinterleave-same (bitAt w2) (differentiate (randomize (bitAt word))) (λ j k.
+    ap (λ (w : List ℕ). bitAt w j) e2
+    ∙ bit-bytes wordBytes (differentiate (bitAt w1)) (differentiate-bits (bitAt w1) (bit-lt w1)) j (omega arith)
+    ∙ differentiate-same (bitAt w1) (randomize (bitAt word)) j (λ i b.
+    ap (λ (w : List ℕ). bitAt w i) e1
+    ∙ bit-bytes wordBytes (randomize (bitAt word)) (randomize-bits (bitAt word) (bit-lt word)) i (omega arith))) x)
+
+-- bits added to a word are added, as steps 7, 6 and 5 undone leave them, to its coded bits
+pub coded-plus : (word other : List ℕ) (e : ℕ → ℕ) → ((j : ℕ) → j < wordBits → bitAt other j ≡ bitXor (bitAt word j) (e j))
+    → (x : ℕ) → codedIn other x ≡ bitXor (codedIn word x) (deinterleave (differentiate e) x)
+unfolding codedIn
+coded-plus word other e h x =
+    deinterleave-same (differentiate (randomize (bitAt other))) (λ j. bitXor (differentiate (randomize (bitAt word)) j) (differentiate e j)) (λ j l.
+    differentiate-same (randomize (bitAt other)) (λ i. bitXor (randomize (bitAt word) i) (e i)) j (λ i k.
+    randomize-same (bitAt other) (λ i. bitXor (bitAt word i) (e i)) i (h i (omega arith)) ∙ randomize-plus (bitAt word) e i)
+    ∙ differentiate-plus (randomize (bitAt word)) e j) x
+    ∙ deinterleave-plus (differentiate (randomize (bitAt word))) (differentiate e) x
+
+-- the word of the sum of three is the sum of the three words, bit by bit
+pub shuffled-sum3 : (c d e : ℕ → ℕ) (j : ℕ) → shuffled (λ x. sum3 (c x) (d x) (e x)) j ≡ sum3 (shuffled c j) (shuffled d j) (shuffled e j)
+unfolding shuffled
+shuffled-sum3 c d e j =
+    randomize-same (accumulate (interleave (λ x. sum3 (c x) (d x) (e x)))) (λ i. sum3 (accumulate (interleave c) i) (accumulate (interleave d) i) (accumulate (interleave e) i)) j
+    (accumulate-same (interleave (λ x. sum3 (c x) (d x) (e x))) (λ i. sum3 (interleave c i) (interleave d i) (interleave e i)) j (λ i l.
+    interleave-plus (λ x. bitXor (c x) (d x)) e i ∙ ap (λ (b : ℕ). bitXor b (interleave e i)) (interleave-plus c d i))
+    ∙ accumulate-plus (λ i. bitXor (interleave c i) (interleave d i)) (interleave e) j
+    ∙ ap (λ (b : ℕ). bitXor b (accumulate (interleave e) j)) (accumulate-plus (interleave c) (interleave d) j))
+    ∙ randomize-sum3 (accumulate (interleave c)) (accumulate (interleave d)) (accumulate (interleave e)) j
+
+-- the input bits of the sum, and its coded bits
+pub coded-sum3 : (rate : ℕ) (a b c s : List ℕ) → rate < 3 → ((j : ℕ) → bitAt s j ≡ sum3 (bitAt a j) (bitAt b j) (bitAt c j))
+    → (j : ℕ) → j < wordBits → codedOf rate s j ≡ sum3 (codedOf rate a j) (codedOf rate b j) (codedOf rate c j)
+unfolding codedOf inputOf
+coded-sum3 rate a b c s h e j l =
+    let k : ℕ = infoBits rate in
+    let x : ℕ → ℕ = inputOf rate a in
+    let y : ℕ → ℕ = inputOf rate b in
+    let z : ℕ → ℕ = inputOf rate c in
+    encode-same rate (inputOf rate s) (λ i. sum3 (x i) (y i) (z i)) h (λ i u.
+    cut-same (k + 32) (checked k (bitAt s)) (λ i. sum3 (checked k (bitAt a) i) (checked k (bitAt b) i) (checked k (bitAt c) i)) (λ i v.
+    checked-same k (bitAt s) (λ i. sum3 (bitAt a i) (bitAt b i) (bitAt c i)) (λ i w. e i) i
+    ∙ checked-sum3 k (bitAt a) (bitAt b) (bitAt c) (bit-lt a) (bit-lt b) (bit-lt c) i) i
+    ∙ cut-sum3 (k + 32) (checked k (bitAt a)) (checked k (bitAt b)) (checked k (bitAt c)) i) j l
+    ∙ encode-plus rate (λ i. bitXor (x i) (y i)) z j
+    ∙ ap (λ (b : ℕ). bitXor b (encode rate z j)) (encode-plus rate x y j)
+
+-- ---- blocks
+
+-- a packed block of a rate: as many bytes as the rate implies, its bits, and zeros behind them
+pub record Packed (rate : ℕ) (block : List ℕ) : Type 0 where
+  pub size : length block ≡ blockBytes rate
+  pub bytes : Bytes block
+  pub spare : (i : ℕ) → infoBits rate ≤ i → i < 8 * blockBytes rate → bitAt block i ≡ 0
+
+-- the three parts of the input bits
+pub input-block : (rate : ℕ) (block : List ℕ) (i : ℕ) → i < infoBits rate → inputOf rate block i ≡ bitAt block i
+unfolding inputOf
+input-block rate block i l =
+    cut-in (infoBits rate + 32) (checked (infoBits rate) (bitAt block)) i (omega arith) ∙ checked-block (infoBits rate) (bitAt block) i l
+
+pub input-check : (rate : ℕ) (block : List ℕ) (i : ℕ) → i < 32 → inputOf rate block (infoBits rate + i) ≡ checkBit (register (bitAt block) (infoBits rate)) i
+unfolding inputOf
+input-check rate block i l =
+    let e : infoBits rate + i - infoBits rate ≡ i = omega arith in
+    cut-in (infoBits rate + 32) (checked (infoBits rate) (bitAt block)) (infoBits rate + i) (omega arith)
+    ∙ checked-check (infoBits rate) (bitAt block) (infoBits rate + i) (omega arith)
+    ∙ ap (checkBit (register (bitAt block) (infoBits rate))) e
+
+pub input-end : (rate : ℕ) (block : List ℕ) (i : ℕ) → infoBits rate + 32 ≤ i → inputOf rate block i ≡ 0
+unfolding inputOf
+input-end rate block i l = cut-past (infoBits rate + 32) (checked (infoBits rate) (bitAt block)) i l
+
+-- the input bits that a written word gives are those that made it
+pub input-back : (rate : ℕ) (block : List ℕ) → rate < 3 → (i : ℕ) → i < inputBits rate → inputIn rate (wordOf rate block) i ≡ inputOf rate block i
+unfolding inputIn wordOf codedOf
+input-back rate block h i l =
+    decode-same rate (codedIn (wordOf rate block)) (encode rate (inputOf rate block)) h (coded-back (codedOf rate block) (coded-bits rate block)) i l
+    ∙ decode-encode rate (inputOf rate block) h i
+
+-- ---- a written word passes each question
+
+pub passes-13 : (rate : ℕ) (block : List ℕ) → rate < 3 → firstWrong rate (codedIn (wordOf rate block)) (inputIn rate (wordOf rate block)) ≡ wordBits
+unfolding firstWrong agrees wordOf codedOf
+passes-13 rate block h =
+    all-pass (agrees rate (codedIn (wordOf rate block)) (inputIn rate (wordOf rate block))) wordBits (λ j l.
+    eq-eqb (codedIn (wordOf rate block) j) (encode rate (inputIn rate (wordOf rate block)) j)
+    (coded-back (codedOf rate block) (coded-bits rate block) j l
+    ∙ sym (encode-same rate (inputIn rate (wordOf rate block)) (inputOf rate block) h (input-back rate block h) j l)))
+
+pub passes-14 : (rate : ℕ) (block : List ℕ) → rate < 3 → endsInZeros rate (inputIn rate (wordOf rate block)) ≡ true
+unfolding endsInZeros inputBits
+passes-14 rate block h =
+    let e : inputIn rate (wordOf rate block) (infoBits rate + 32) ≡ 0 =
+    input-back rate block h (infoBits rate + 32) (omega arith) ∙ input-end rate block (infoBits rate + 32) (omega arith) in
+    let f : inputIn rate (wordOf rate block) (infoBits rate + 33) ≡ 0 =
+    input-back rate block h (infoBits rate + 33) (omega arith) ∙ input-end rate block (infoBits rate + 33) (omega arith) in
+    rw (e, f) refl
+
+pub passes-15 : (rate : ℕ) (block : List ℕ) → rate < 3 → checkRight rate (inputIn rate (wordOf rate block)) ≡ true
+unfolding checkRight inputBits checkBit
+passes-15 rate block h =
+    let x : ℕ → ℕ = inputIn rate (wordOf rate block) in
+    let k : ℕ = infoBits rate in
+    let r : ℕ = register (bitAt block) k in
+    eq-eqb (val (λ i. x (k + i)) 32) (register x k)
+    (val-same (λ i. x (k + i)) (λ i. r / 2 ^ (32 - 1 - i) % 2) 32 (λ i l. input-back rate block h (k + i) (omega arith) ∙ input-check rate block i l)
+    ∙ val-bits r 32 (register-lt (bitAt block) (bit-lt block) k)
+    ∙ register-same (bitAt block) x k (λ i l. sym (input-back rate block h i (omega arith) ∙ input-block rate block i l)))
+
+pub block-back : (rate : ℕ) (block : List ℕ) → rate < 3 → Packed rate block → blockIn rate (wordOf rate block) ≡ block
+unfolding blockIn packedBlock inputBits
+block-back rate block h p =
+    sym (bytes-made (blockBytes rate) (cut (infoBits rate) (inputIn rate (wordOf rate block))) block (p .size) (p .bytes) (λ j l.
+    ⊎-elim
+    (λ (b : j < infoBits rate). sym (cut-in (infoBits rate) (inputIn rate (wordOf rate block)) j b ∙ input-back rate block h j (omega arith) ∙ input-block rate block j b))
+    (λ (b : infoBits rate ≤ j). p .spare j b l ∙ sym (cut-past (infoBits rate) (inputIn rate (wordOf rate block)) j b))
+    (lt-or-le j (infoBits rate))))
+
+-- ---- a word that passes them was written
+
+-- what questions 13, 14 and 15 say when they are passed
+pub record Sound (rate : ℕ) (word : List ℕ) : Type 0 where
+  pub coded : (j : ℕ) → j < wordBits → codedIn word j ≡ encode rate (inputIn rate word) j
+  pub end0 : inputIn rate word (infoBits rate + 32) ≡ 0
+  pub end1 : inputIn rate word (infoBits rate + 33) ≡ 0
+  pub check : val (λ i. inputIn rate word (infoBits rate + i)) 32 ≡ register (inputIn rate word) (infoBits rate)
+
+pub coded-said : (rate : ℕ) (word : List ℕ) → firstWrong rate (codedIn word) (inputIn rate word) ≡ wordBits → (j : ℕ) → j < wordBits → codedIn word j ≡ encode rate (inputIn rate word) j
+unfolding firstWrong agrees
+coded-said rate word e j l = eqb-true (codedIn word j) (encode rate (inputIn rate word) j) (none-fails (agrees rate (codedIn word) (inputIn rate word)) wordBits e j l)
+
+pub ends-said : (rate : ℕ) (word : List ℕ) → endsInZeros rate (inputIn rate word) ≡ true → (inputIn rate word (infoBits rate + 32) ≡ 0) × (inputIn rate word (infoBits rate + 33) ≡ 0)
+unfolding endsInZeros
+ends-said rate word e =
+    let q = both-true (eqb (inputIn rate word (infoBits rate + 32)) 0) (eqb (inputIn rate word (infoBits rate + 33)) 0) e in
+    (eqb-true (inputIn rate word (infoBits rate + 32)) 0 (q .0), eqb-true (inputIn rate word (infoBits rate + 33)) 0 (q .1))
+
+pub sound : (rate : ℕ) (word : List ℕ) → firstWrong rate (codedIn word) (inputIn rate word) ≡ wordBits → endsInZeros rate (inputIn rate word) ≡ true → checkRight rate (inputIn rate word) ≡ true → Sound rate word
+unfolding checkRight
+sound rate word e13 e14 e15 =
+    record {
+      coded = coded-said rate word e13;
+      end0 = ends-said rate word e14 .0;
+      end1 = ends-said rate word e14 .1;
+      check = eqb-true (val (λ i. inputIn rate word (infoBits rate + i)) 32) (register (inputIn rate word) (infoBits rate)) e15;
+    }
+
+-- the block that is read
+pub block-bit : (rate : ℕ) (word : List ℕ) → rate < 3 → (i : ℕ) → i < infoBits rate → bitAt (blockIn rate word) i ≡ inputIn rate word i
+unfolding blockIn packedBlock
+block-bit rate word h i l =
+    let b : 8 * blockBytes rate ≡ infoBits rate + 2 = block-size rate h in
+    bit-bytes (blockBytes rate) (cut (infoBits rate) (inputIn rate word)) (cut-bits (infoBits rate) (inputIn rate word) (input-in-bits rate word)) i (omega arith)
+    ∙ cut-in (infoBits rate) (inputIn rate word) i l
+
+pub block-packed : (rate : ℕ) (word : List ℕ) → Packed rate (blockIn rate word)
+unfolding blockIn packedBlock
+block-packed rate word =
+    let x : ℕ → ℕ = cut (infoBits rate) (inputIn rate word) in
+    let b : Bits x = cut-bits (infoBits rate) (inputIn rate word) (input-in-bits rate word) in
+    record {
+      size = length-bytes (blockBytes rate) x;
+      bytes = bytes-are (blockBytes rate) x b;
+      spare = λ i l u. bit-bytes (blockBytes rate) x b i u ∙ cut-past (infoBits rate) (inputIn rate word) i l;
+    }
+
+-- its input bits are those read
+input-again : (rate : ℕ) (word : List ℕ) → rate < 3 → Sound rate word → (i : ℕ) → i < inputBits rate → inputOf rate (blockIn rate word) i ≡ inputIn rate word i
+unfolding inputBits checkBit
+input-again rate word h s i l =
+    let k : ℕ = infoBits rate in
+    let x : ℕ → ℕ = inputIn rate word in
+    let b : List ℕ = blockIn rate word in
+    ⊎-elim
+    (λ (u : i < k). input-block rate b i u ∙ block-bit rate word h i u)
+    (λ (u : k ≤ i). ⊎-elim
+    (λ (v : i < k + 32).
+    let e : k + (i - k) ≡ i = omega arith in
+    ap (inputOf rate b) (sym e) ∙ input-check rate b (i - k) (omega arith)
+    ∙ ap (λ (r : ℕ). checkBit r (i - k)) (register-same (bitAt b) x k (λ t w. block-bit rate word h t w) ∙ sym (s .check))
+    ∙ bit-val (λ t. x (k + t)) (λ t. input-in-bits rate word (k + t)) (31 - (i - k)) (i - k) 32 (omega arith)
+    ∙ ap x e)
+    (λ (v : k + 32 ≤ i). input-end rate b i v ∙ sym (last i v l))
+    (lt-or-le i (k + 32)))
+    (lt-or-le i k)
+  where
+    last : (i : ℕ) → infoBits rate + 32 ≤ i → i < infoBits rate + 34 → inputIn rate word i ≡ 0
+    last i u v =
+        ⊎-elim
+        (λ (w : i < infoBits rate + 33). let e : i ≡ infoBits rate + 32 = omega arith in ap (inputIn rate word) e ∙ s .end0)
+        (λ (w : infoBits rate + 33 ≤ i). let e : i ≡ infoBits rate + 33 = omega arith in ap (inputIn rate word) e ∙ s .end1)
+        (lt-or-le i (infoBits rate + 33))
+
+pub written-again : (rate : ℕ) (word : List ℕ) → rate < 3 → length word ≡ wordBytes → Bytes word → Sound rate word → wordOf rate (blockIn rate word) ≡ word
+unfolding wordOf codedOf
+written-again rate word h e b s =
+    bytes-same wordBytes (shuffled (codedOf rate (blockIn rate word))) (shuffled (codedIn word)) (λ j l.
+    shuffled-same (codedOf rate (blockIn rate word)) (codedIn word) (λ x k.
+    encode-same rate (inputOf rate (blockIn rate word)) (inputIn rate word) h (input-again rate word h s) x k ∙ sym (s .coded x k)) j)
+    ∙ word-again word e b
+
+-- ---- what a word is made of, for the theorems
+
+pub word-length : (rate : ℕ) (block : List ℕ) → length (wordOf rate block) ≡ wordBytes
+unfolding wordOf
+word-length rate block = length-bytes wordBytes (shuffled (codedOf rate block))
+
+pub word-bytes : (rate : ℕ) (block : List ℕ) → Bytes (wordOf rate block)
+unfolding wordOf
+word-bytes rate block = bytes-are wordBytes (shuffled (codedOf rate block)) (shuffled-bits (codedOf rate block) (coded-bits rate block))
+
+pub word-bit : (rate : ℕ) (block : List ℕ) (j : ℕ) → j < wordBits → bitAt (wordOf rate block) j ≡ shuffled (codedOf rate block) j
+unfolding wordOf
+word-bit rate block j l = bit-bytes wordBytes (shuffled (codedOf rate block)) (shuffled-bits (codedOf rate block) (coded-bits rate block)) j (omega arith)
+
+-- the coded bits taken out of a written word are the code of its input bits
+pub coded-written : (rate : ℕ) (block : List ℕ) (x : ℕ) → x < wordBits → codedIn (wordOf rate block) x ≡ encode rate (inputOf rate block) x
+unfolding wordOf codedOf
+coded-written rate block x l = coded-back (codedOf rate block) (coded-bits rate block) x l
+
+-- a list of bytes with the right bits is the word
+pub word-is : (rate : ℕ) (block xs : List ℕ) → length xs ≡ wordBytes → Bytes xs → ((j : ℕ) → j < wordBits → bitAt xs j ≡ shuffled (codedOf rate block) j) → xs ≡ wordOf rate block
+unfolding wordOf
+word-is rate block xs e b h = bytes-made wordBytes (shuffled (codedOf rate block)) xs e b (λ j l. h j (omega arith))
+
+-- ---- the code's lists in place of the functions
+
+-- the input bits, put one after another: the block's, the check's, and two zeros
+pub input-made : (rate : ℕ) (block xs ys : List ℕ) (check k : ℕ) → k ≡ infoBits rate → check ≡ register (bitAt block) k → k + 34 ≤ length xs
+    → ((i : ℕ) → i < k → getD xs i 0 ≡ bitAt block i) → Spread xs k 32 check 32 ys
+    → (i : ℕ) → i < inputBits rate → getD (set (set ys (k + 32) 0) (k + 33) 0) i 0 ≡ inputOf rate block i
+unfolding inputBits checkBit
+input-made rate block xs ys check k ek e long h s i l =
+    let zs : List ℕ = set ys (k + 32) 0 in
+    let ly : length ys ≡ length xs = s .long in
+    let lz : length zs ≡ length ys = length-set ys (k + 32) 0 in
+    ⊎-elim
+    (λ (u : i < k + 32).
+    getD-set-other zs (k + 33) i 0 0 (λ q. omega arith) ∙ getD-set-other ys (k + 32) i 0 0 (λ q. omega arith)
+    ∙ ⊎-elim
+      (λ (v : i < k). s .earlier i v ∙ h i v ∙ sym (input-block rate block i (omega arith)))
+      (λ (v : k ≤ i).
+      let d : i ≡ k + (i - k) = omega arith in
+      let d' : i ≡ infoBits rate + (i - k) = omega arith in
+      ap (λ (j : ℕ). getD ys j 0) d ∙ s .here (i - k) (omega arith)
+      ∙ ap (λ (r : ℕ). r / 2 ^ (31 - (i - k)) % 2) (e ∙ ap (register (bitAt block)) ek)
+      ∙ sym (ap (inputOf rate block) d' ∙ input-check rate block (i - k) (omega arith)))
+      (lt-or-le i k))
+    (λ (u : k + 32 ≤ i).
+    ⊎-elim
+    (λ (v : i ≡ k + 33). ap (λ (j : ℕ). getD (set zs (k + 33) 0) j 0) v ∙ getD-set-same zs (k + 33) 0 0 (omega arith))
+    (λ (v : i ≡ k + 33 → ⊥).
+    let d : i ≡ k + 32 = omega arith in
+    getD-set-other zs (k + 33) i 0 0 v ∙ ap (λ (j : ℕ). getD zs j 0) d ∙ getD-set-same ys (k + 32) 0 0 (omega arith))
+    (eq-or-ne i (k + 33))
+    ∙ sym (input-end rate block i (omega arith)))
+    (lt-or-le i (k + 32))
+
+-- questions 13 to 15 look at the coded bits and at the input bits, and at nothing behind them
+pub judged-same : (rate : ℕ) (c d x y : ℕ → ℕ) → rate < 3 → ((j : ℕ) → j < wordBits → c j ≡ d j) → ((i : ℕ) → i < inputBits rate → x i ≡ y i) → judged rate c x ≡ judged rate d y
+unfolding judged firstWrong agrees endsInZeros checkRight inputBits
+judged-same rate c d x y h ec ex =
+    let k : ℕ = infoBits rate in
+    let wrong : firstWrong rate c x ≡ firstWrong rate d y =
+        first-same (agrees rate c x) (agrees rate d y) wordBits (λ j l. ap₂ eqb (ec j l) (encode-same rate x y h ex j l)) in
+    let end0 : x (k + 32) ≡ y (k + 32) = ex (k + 32) (omega arith) in
+    let end1 : x (k + 33) ≡ y (k + 33) = ex (k + 33) (omega arith) in
+    let field : val (λ i. x (k + i)) 32 ≡ val (λ i. y (k + i)) 32 = val-same (λ i. x (k + i)) (λ i. y (k + i)) 32 (λ i l. ex (k + i) (omega arith)) in
+    let check : register x k ≡ register y k = register-same x y k (λ i l. ex i (omega arith)) in
+    rw (wrong, end0, end1, field, check) refl
+
+-- the block is made of the first k input bits alone
+pub packed-same : (rate : ℕ) (x y : ℕ → ℕ) → ((i : ℕ) → i < infoBits rate → x i ≡ y i) → packedBlock rate x ≡ packedBlock rate y
+unfolding packedBlock
+packed-same rate x y e = bytes-same (blockBytes rate) (cut (infoBits rate) x) (cut (infoBits rate) y) (λ j l. cut-same (infoBits rate) x y e j)

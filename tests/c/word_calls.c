@@ -1,0 +1,577 @@
+/*
+ * Test of the two word calls from C: known answers, round trips, damaged words, and refusals of
+ * every number with the lent bytes unchanged.
+ *
+ * The sanitizers watch this program but not the library, which is not built with them. So each
+ * slice is lent from pages of its own: it ends where a page begins that may not be touched, the
+ * bytes before it are compared after the call, and the slice that a call reads is write-protected.
+ */
+#define _DEFAULT_SOURCE /* MAP_ANONYMOUS */
+#include <inttypes.h>
+#include <stdbool.h>
+#include <stdio.h>
+#include <stdlib.h>
+#include <string.h>
+#include <sys/mman.h>
+
+#include "mahyrei.h"
+
+enum {
+    RATES = 3,
+    CHECK_BITS = 32,
+    BURST = 18 /* the longest stretch of flips that is refused before the check */
+};
+
+/* ---- checks, each of them counted */
+
+static unsigned long checks, failures;
+static unsigned long met[256]; /* answers by number */
+
+static void check(bool ok, int line, uint64_t rate, const char *what) {
+    checks++;
+    if (!ok && ++failures <= 20) { /* the first say enough */
+        fprintf(stderr, "word_calls.c:%d: rate %" PRIu64 ": %s\n", line, rate, what);
+    }
+}
+
+#define CHECK(rate, condition) check((condition), __LINE__, (rate), #condition)
+
+/* ---- random numbers: xorshift64* */
+
+static uint64_t random_state = UINT64_C(0x9E3779B97F4A7C15);
+
+static uint64_t random_number(void) {
+    random_state ^= random_state >> 12;
+    random_state ^= random_state << 25;
+    random_state ^= random_state >> 27;
+    return random_state * UINT64_C(0x2545F4914F6CDD1D);
+}
+
+static size_t random_below(size_t limit) {
+    return (size_t)((random_number() >> 16) % limit);
+}
+
+static void fill_random(uint8_t *bytes, size_t len) {
+    for (size_t i = 0; i < len; i++) {
+        bytes[i] = (uint8_t)(random_number() >> 56);
+    }
+}
+
+/* ---- lent slices */
+
+enum { PAGE = 4096 };
+
+struct lent {
+    uint8_t *page; /* a page for the slice at its end; the next page may not be touched */
+    uint8_t *slice;
+    size_t len;
+    uint8_t before[PAGE]; /* what the page held when it was lent */
+};
+
+static struct lent lent_block, lent_word;
+
+static void map_pages(struct lent *lent) {
+    lent->page = mmap(NULL, 2 * PAGE, PROT_READ | PROT_WRITE, MAP_PRIVATE | MAP_ANONYMOUS, -1, 0);
+    if (lent->page == MAP_FAILED || mprotect(lent->page + PAGE, PAGE, PROT_NONE) != 0) {
+        perror("mmap");
+        exit(1);
+    }
+}
+
+static void protect(const struct lent *lent, int protection) {
+    if (mprotect(lent->page, PAGE, protection) != 0) {
+        perror("mprotect");
+        exit(1);
+    }
+}
+
+/* A slice of random bytes, with random bytes before it. */
+static void lend(struct lent *lent, size_t len) {
+    fill_random(lent->page, PAGE);
+    lent->slice = lent->page + PAGE - len;
+    lent->len = len;
+}
+
+static void lend_copy(struct lent *lent, const uint8_t *bytes, size_t len) {
+    lend(lent, len);
+    memcpy(lent->slice, bytes, len);
+}
+
+static bool slice_is(const struct lent *lent, const uint8_t *bytes) {
+    return memcmp(lent->slice, bytes, lent->len) == 0;
+}
+
+/* One call on the lent slices, and what holds of their bytes after every call. */
+static uint64_t call(bool write, uint64_t rate) {
+    struct lent *from = write ? &lent_block : &lent_word;
+    struct lent *to = write ? &lent_word : &lent_block;
+    memcpy(from->before, from->page, PAGE);
+    memcpy(to->before, to->page, PAGE);
+    protect(from, PROT_READ);
+    const uint64_t answer = write ? word_write(rate, from->slice, from->len, to->slice, to->len)
+                                  : word_read(rate, from->slice, from->len, to->slice, to->len);
+    protect(from, PROT_READ | PROT_WRITE);
+    met[answer_number(answer)]++;
+
+    CHECK(rate, memcmp(from->page, from->before, PAGE) == 0);
+    const bool accepted = answer == MAHYREI_ACCEPTED;
+    CHECK(rate, memcmp(to->page, to->before, accepted ? PAGE - to->len : PAGE) == 0);
+    return answer;
+}
+
+/* ---- blocks and words */
+
+static void zero_block(uint8_t *block, size_t len) {
+    memset(block, 0, len);
+}
+
+static void counting_block(uint8_t *block, size_t len) {
+    for (size_t i = 0; i < len; i++) {
+        block[i] = (uint8_t)i;
+    }
+    block[len - 1] &= 0xFC;
+}
+
+static void ones_block(uint8_t *block, size_t len) {
+    memset(block, 0xFF, len);
+    block[len - 1] = 0xFC;
+}
+
+static void random_block(uint8_t *block, size_t len) {
+    fill_random(block, len);
+    block[len - 1] &= 0xFC;
+}
+
+static void write_word(uint64_t rate, const uint8_t *block, uint8_t *word) {
+    lend_copy(&lent_block, block, word_block_bytes(rate));
+    lend(&lent_word, MAHYREI_WORD_BYTES);
+    CHECK(rate, call(true, rate) == MAHYREI_ACCEPTED);
+    memcpy(word, lent_word.slice, MAHYREI_WORD_BYTES);
+}
+
+static uint64_t read_word(uint64_t rate, const uint8_t *word) {
+    lend_copy(&lent_word, word, MAHYREI_WORD_BYTES);
+    lend(&lent_block, word_block_bytes(rate));
+    return call(false, rate);
+}
+
+static void flip(uint8_t *word, size_t place) {
+    word[place / 8] = (uint8_t)(word[place / 8] ^ 0x80 >> place % 8);
+}
+
+/* Changes one coded bit, the accumulator and the interleaver undone: the accumulator carries the
+ * change from the output place that takes the coded bit on to the end of the word. */
+static void flip_coded(uint8_t *word, size_t coded_place) {
+    static size_t output_place[MAHYREI_WORD_BITS];
+    static bool ready;
+    for (uint64_t j = 0; !ready && j < MAHYREI_WORD_BITS; j++) {
+        output_place[(11 * j + 210 * j * j) % MAHYREI_WORD_BITS] = (size_t)j;
+    }
+    ready = true;
+    for (size_t j = output_place[coded_place]; j < MAHYREI_WORD_BITS; j++) {
+        flip(word, j);
+    }
+}
+
+/* Input bits of the convolutional code: the block, its check and two termination bits. */
+static size_t input_bits(uint64_t rate) {
+    return word_block_bytes(rate) * 8 - 2 + CHECK_BITS + 2;
+}
+
+/* The first coded place of input bit i: of its first output where that is kept, else its second. */
+static size_t coded_place(uint64_t rate, size_t i) {
+    return rate == MAHYREI_RATE_1_3 ? 3 * i : rate == MAHYREI_RATE_1_2 ? 2 * i : (3 * i + 1) / 2;
+}
+
+/* Changes one input bit: those coded bits in which it is a term. */
+static void flip_input(uint64_t rate, uint8_t *word, size_t i) {
+    static const bool FIRST[3] = {true, false, true}; /* 1 + D^2 */
+    for (size_t delay = 0; delay < 3 && i + delay < input_bits(rate); delay++) {
+        const size_t step = i + delay;
+        size_t place = coded_place(rate, step);
+        if (rate != MAHYREI_RATE_2_3 || step % 2 == 0) {
+            if (FIRST[delay]) {
+                flip_coded(word, place);
+            }
+            place++;
+        }
+        flip_coded(word, place); /* 1 + D + D^2 */
+        if (rate == MAHYREI_RATE_1_3) {
+            flip_coded(word, place + 1);
+        }
+    }
+}
+
+/* ---- the tests */
+
+static uint64_t fnv1a(const uint8_t *bytes, size_t len) {
+    uint64_t hash = UINT64_C(0xCBF29CE484222325);
+    for (size_t i = 0; i < len; i++) {
+        hash = (hash ^ bytes[i]) * UINT64_C(0x100000001B3);
+    }
+    return hash;
+}
+
+/* Words made alike by two programs with no common code, tests/second/word.rs and
+ * bench/plain_word.c. The word of zeros starts as the randomizer's sequence does. */
+static const struct {
+    uint64_t rate;
+    void (*make)(uint8_t *block, size_t len);
+    uint8_t first[8], last[8];
+    uint64_t fnv1a;
+} KNOWN_WORDS[] = {
+    {0,
+     zero_block,
+     {0xFF, 0x48, 0x0E, 0xC0, 0x9A, 0x0D, 0x70, 0xBC},
+     {0x40, 0x76, 0x04, 0xD0, 0x6B, 0x85, 0xE4, 0x71},
+     0x005EB946DE147C53},
+    {0,
+     counting_block,
+     {0xFA, 0x74, 0x63, 0xDC, 0x85, 0x16, 0x82, 0x97},
+     {0xCB, 0x32, 0xA1, 0x63, 0xCF, 0x29, 0xF0, 0xB5},
+     0x8F0543149BBE87DD},
+    {0,
+     ones_block,
+     {0x49, 0x93, 0x63, 0x76, 0x41, 0x60, 0xC6, 0x67},
+     {0x64, 0xE4, 0x4D, 0xF4, 0xF9, 0xCC, 0xC0, 0xE3},
+     0x7E1DA92453889FD2},
+    {1,
+     zero_block,
+     {0xFF, 0x48, 0x0E, 0xC0, 0x9A, 0x0D, 0x70, 0xBC},
+     {0x40, 0x76, 0x04, 0xD0, 0x6B, 0x85, 0xE4, 0x71},
+     0xDA918D7FF7E7B9BE},
+    {1,
+     counting_block,
+     {0xF9, 0xAB, 0x53, 0x5C, 0xAE, 0x04, 0xD1, 0xD6},
+     {0x90, 0xCC, 0x6F, 0x80, 0x32, 0xDA, 0x12, 0x61},
+     0x6957D9BC4272855A},
+    {1,
+     ones_block,
+     {0x66, 0xD1, 0x97, 0x59, 0x03, 0x94, 0xE9, 0x25},
+     {0x26, 0x10, 0x62, 0xB6, 0x0D, 0xE3, 0x82, 0x17},
+     0xB379E59FE343B250},
+    {2,
+     zero_block,
+     {0xFF, 0x48, 0x0E, 0xC0, 0x9A, 0x0D, 0x70, 0xBC},
+     {0x40, 0x76, 0x04, 0xD0, 0x6B, 0x85, 0xE4, 0x71},
+     0x8C79A086836BA97F},
+    {2,
+     counting_block,
+     {0x81, 0x5F, 0x10, 0xBE, 0x58, 0xC6, 0x64, 0x49},
+     {0x15, 0x67, 0xA1, 0xAE, 0x27, 0x28, 0x2D, 0xCF},
+     0x1B7D0D6D76BEC0D6},
+    {2,
+     ones_block,
+     {0x49, 0x93, 0x63, 0x76, 0x41, 0x60, 0xC6, 0x67},
+     {0x64, 0xE4, 0x4D, 0xF4, 0xF9, 0xCC, 0xC0, 0xE3},
+     0x038577455F61FBFE},
+};
+
+static void test_known_words(void) {
+    uint8_t block[MAHYREI_BLOCK_BYTES_MAX], word[MAHYREI_WORD_BYTES];
+    for (size_t i = 0; i < sizeof KNOWN_WORDS / sizeof KNOWN_WORDS[0]; i++) {
+        const uint64_t rate = KNOWN_WORDS[i].rate;
+        KNOWN_WORDS[i].make(block, word_block_bytes(rate));
+        write_word(rate, block, word);
+        CHECK(rate, memcmp(word, KNOWN_WORDS[i].first, 8) == 0);
+        CHECK(rate, memcmp(word + MAHYREI_WORD_BYTES - 8, KNOWN_WORDS[i].last, 8) == 0);
+        CHECK(rate, fnv1a(word, MAHYREI_WORD_BYTES) == KNOWN_WORDS[i].fnv1a);
+        CHECK(rate, read_word(rate, word) == MAHYREI_ACCEPTED);
+        CHECK(rate, slice_is(&lent_block, block));
+    }
+}
+
+/* The word of the counting block with all bits from first to last flipped, and the place at which
+ * 13 is answered, by rate; made like the known words. */
+static const struct {
+    size_t first, last;
+    uint64_t place[RATES];
+} KNOWN_REFUSALS[] = {
+    {0, 0, {0, 0, 0}},
+    {1, 1, {221, 220, 222}},
+    {5000, 5017, {5637, 5638, 5637}},
+    {7559, 7559, {7560, 7560, 7560}},
+    {7560, 7560, {7560, 7560, 7560}},
+    {15118, 15118, {198, 198, 198}},
+    {15119, 15119, {198, 198, 198}},
+};
+
+static void test_known_refusals(uint64_t rate) {
+    uint8_t block[MAHYREI_BLOCK_BYTES_MAX], word[MAHYREI_WORD_BYTES];
+    counting_block(block, word_block_bytes(rate));
+    for (size_t i = 0; i < sizeof KNOWN_REFUSALS / sizeof KNOWN_REFUSALS[0]; i++) {
+        write_word(rate, block, word);
+        for (size_t place = KNOWN_REFUSALS[i].first; place <= KNOWN_REFUSALS[i].last; place++) {
+            flip(word, place);
+        }
+        CHECK(rate, read_word(rate, word) == KNOWN_REFUSALS[i].place[rate] * 256 + 13);
+    }
+    static const uint64_t ZEROS[RATES] = {3, 4, 6};
+    memset(word, 0, sizeof word);
+    CHECK(rate, read_word(rate, word) == ZEROS[rate] * 256 + 13);
+    memset(word, 0xFF, sizeof word);
+    CHECK(rate, read_word(rate, word) == 13);
+}
+
+static void test_round_trips(uint64_t rate) {
+    uint8_t block[MAHYREI_BLOCK_BYTES_MAX], word[MAHYREI_WORD_BYTES], again[MAHYREI_WORD_BYTES];
+    for (int i = 0; i < 200; i++) {
+        random_block(block, word_block_bytes(rate));
+        write_word(rate, block, word);
+        CHECK(rate, read_word(rate, word) == MAHYREI_ACCEPTED);
+        CHECK(rate, slice_is(&lent_block, block));
+        write_word(rate, block, again); /* over other bytes */
+        CHECK(rate, memcmp(word, again, sizeof word) == 0);
+    }
+}
+
+/* The sum of three words is the word of the sum of their blocks. */
+static void test_sums(uint64_t rate) {
+    const size_t len = word_block_bytes(rate);
+    for (int i = 0; i < 30; i++) {
+        uint8_t sum_block[MAHYREI_BLOCK_BYTES_MAX] = {0}, sum[MAHYREI_WORD_BYTES] = {0};
+        uint8_t block[MAHYREI_BLOCK_BYTES_MAX], word[MAHYREI_WORD_BYTES];
+        for (int term = 0; term < 3; term++) {
+            random_block(block, len);
+            write_word(rate, block, word);
+            for (size_t j = 0; j < len; j++) {
+                sum_block[j] ^= block[j];
+            }
+            for (size_t j = 0; j < sizeof word; j++) {
+                sum[j] ^= word[j];
+            }
+        }
+        write_word(rate, sum_block, word);
+        CHECK(rate, memcmp(word, sum, sizeof word) == 0);
+        CHECK(rate, read_word(rate, sum) == MAHYREI_ACCEPTED);
+        CHECK(rate, slice_is(&lent_block, sum_block));
+    }
+}
+
+/* 13, at a place where the re-encoding can differ, which no second output is; or 14. */
+static bool refused_before_check(uint64_t rate, uint64_t answer) {
+    const uint64_t place = answer_place(answer);
+    const bool second_output = rate == MAHYREI_RATE_1_3   ? place % 3 == 1
+                               : rate == MAHYREI_RATE_1_2 ? place % 2 == 1
+                                                          : place % 3 != 0;
+    return answer == MAHYREI_BAD_TERMINATION || (answer_number(answer) == MAHYREI_BAD_CODE &&
+                                                 place < MAHYREI_WORD_BITS && !second_output);
+}
+
+static void test_flips(uint64_t rate) {
+    uint8_t block[MAHYREI_BLOCK_BYTES_MAX], word[MAHYREI_WORD_BYTES];
+    random_block(block, word_block_bytes(rate));
+    write_word(rate, block, word);
+    for (size_t place = 0; place < MAHYREI_WORD_BITS; place++) {
+        const bool near_an_end = place < 64 || place >= MAHYREI_WORD_BITS - 64;
+        if (near_an_end || place % 5 == rate) {
+            flip(word, place);
+            CHECK(rate, refused_before_check(rate, read_word(rate, word)));
+            flip(word, place);
+        }
+    }
+    for (size_t span = 2; span <= BURST; span++) {
+        for (int i = 0; i < 40; i++) {
+            const size_t ends = MAHYREI_WORD_BITS - span;
+            const size_t start = i == 0 ? 0 : i == 1 ? ends : random_below(ends + 1);
+            uint8_t damaged[MAHYREI_WORD_BYTES];
+            memcpy(damaged, word, sizeof word);
+            flip(damaged, start);
+            flip(damaged, start + span - 1);
+            for (size_t place = start + 1; place < start + span - 1; place++) {
+                if (random_below(2) == 1) {
+                    flip(damaged, place);
+                }
+            }
+            CHECK(rate, refused_before_check(rate, read_word(rate, damaged)));
+        }
+    }
+    CHECK(rate, read_word(rate, word) == MAHYREI_ACCEPTED);
+    CHECK(rate, slice_is(&lent_block, block));
+}
+
+/* What reading answers when one coded bit is wrong: output 0, 1 or 2 of input bit i. */
+static uint64_t one_wrong(uint64_t rate, size_t i, int output) {
+    if (output == 2) {
+        return (coded_place(rate, i) + 2) * 256 + MAHYREI_BAD_CODE;
+    }
+    /* A wrong second output makes a wrong input bit, and that shows at the next first output. */
+    const size_t step = rate == MAHYREI_RATE_2_3 && i % 2 == 1 ? i + 1 : i;
+    return step < input_bits(rate) ? coded_place(rate, step) * 256 + MAHYREI_BAD_CODE
+                                   : MAHYREI_BAD_TERMINATION;
+}
+
+static void test_coded_flips(uint64_t rate) {
+    uint8_t block[MAHYREI_BLOCK_BYTES_MAX], word[MAHYREI_WORD_BYTES];
+    random_block(block, word_block_bytes(rate));
+    write_word(rate, block, word);
+    for (size_t i = 0; i < input_bits(rate); i++) {
+        if (i % 41 != 0 && i > 3 && i + 4 < input_bits(rate)) {
+            continue;
+        }
+        size_t place = coded_place(rate, i);
+        for (int output = 0; output < 3; output++) {
+            const bool kept = output == 1 || (output == 2 && rate == MAHYREI_RATE_1_3) ||
+                              (output == 0 && (rate != MAHYREI_RATE_2_3 || i % 2 == 0));
+            if (kept) {
+                flip_coded(word, place);
+                CHECK(rate, read_word(rate, word) == one_wrong(rate, i, output));
+                flip_coded(word, place);
+                place++;
+            }
+        }
+    }
+}
+
+/* Words of the code whose input no block has: 14 comes before 15, and 13 before both. */
+static void test_wrong_inputs(uint64_t rate) {
+    uint8_t block[MAHYREI_BLOCK_BYTES_MAX], word[MAHYREI_WORD_BYTES];
+    const size_t n = input_bits(rate), check_start = n - 2 - CHECK_BITS;
+    random_block(block, word_block_bytes(rate));
+    write_word(rate, block, word);
+
+    flip_input(rate, word, n - 1);
+    CHECK(rate, read_word(rate, word) == MAHYREI_BAD_TERMINATION);
+    flip_input(rate, word, n - 2);
+    CHECK(rate, read_word(rate, word) == MAHYREI_BAD_TERMINATION);
+    flip_input(rate, word, n - 1);
+    CHECK(rate, read_word(rate, word) == MAHYREI_BAD_TERMINATION);
+    flip_input(rate, word, check_start);
+    CHECK(rate, read_word(rate, word) == MAHYREI_BAD_TERMINATION);
+    flip_coded(word, 6); /* a first output at each rate */
+    CHECK(rate, read_word(rate, word) == 6 * 256 + MAHYREI_BAD_CODE);
+    flip_coded(word, 6);
+    flip_input(rate, word, n - 2);
+    CHECK(rate, read_word(rate, word) == MAHYREI_BAD_CHECK);
+    flip_input(rate, word, check_start);
+    CHECK(rate, read_word(rate, word) == MAHYREI_ACCEPTED);
+    CHECK(rate, slice_is(&lent_block, block));
+
+    for (size_t i = 0; i < n - 2; i++) {
+        if (i % 101 == 0 || i + 1 == check_start || i >= check_start) {
+            flip_input(rate, word, i);
+            CHECK(rate, read_word(rate, word) == MAHYREI_BAD_CHECK);
+            flip_input(rate, word, i);
+        }
+    }
+}
+
+static void test_other_rate(uint64_t rate) {
+    uint8_t block[MAHYREI_BLOCK_BYTES_MAX], word[MAHYREI_WORD_BYTES];
+    random_block(block, word_block_bytes(rate));
+    write_word(rate, block, word);
+    for (uint64_t other = 0; other < RATES; other++) {
+        const unsigned number = other == rate ? MAHYREI_ACCEPTED : MAHYREI_BAD_CODE;
+        CHECK(other, answer_number(read_word(other, word)) == number);
+    }
+}
+
+static void lend_null(struct lent *lent) {
+    lend(lent, 0);
+    lent->slice = NULL;
+}
+
+/* Question 2 comes first, whatever else is wrong. */
+static void test_refused_rates(void) {
+    static const uint64_t WRONG[] = {
+        3, 4, 255, 256, 257, 258, UINT64_C(1) << 32, (UINT64_C(1) << 32) + 2, UINT64_MAX};
+    for (size_t i = 0; i < sizeof WRONG / sizeof WRONG[0]; i++) {
+        for (int write = 0; write < 2; write++) {
+            for (uint64_t like = 0; like < RATES; like++) {
+                lend(&lent_block, word_block_bytes(like));
+                lend(&lent_word, MAHYREI_WORD_BYTES);
+                lent_block.slice[lent_block.len - 1] |= 3;
+                CHECK(WRONG[i], call(write, WRONG[i]) == MAHYREI_BAD_RATE);
+            }
+            lend_null(&lent_block);
+            lend_null(&lent_word);
+            CHECK(WRONG[i], call(write, WRONG[i]) == MAHYREI_BAD_RATE);
+        }
+    }
+}
+
+/* Question 8 comes before those on the bits: the word is random, and the spare bits are set. */
+static void test_refused_lengths(uint64_t rate) {
+    const size_t block_len = word_block_bytes(rate), word_len = MAHYREI_WORD_BYTES;
+    const size_t lengths[] = {0,
+                              1,
+                              block_len - 1,
+                              block_len,
+                              block_len + 1,
+                              MAHYREI_BLOCK_BYTES_1_3,
+                              MAHYREI_BLOCK_BYTES_1_2,
+                              MAHYREI_BLOCK_BYTES_2_3,
+                              word_len - 1,
+                              word_len,
+                              word_len + 1,
+                              PAGE};
+    const size_t count = sizeof lengths / sizeof lengths[0];
+    for (int write = 0; write < 2; write++) {
+        for (size_t i = 0; i < count * count; i++) {
+            const size_t block = lengths[i / count], word = lengths[i % count];
+            if (block == block_len && word == word_len) {
+                continue;
+            }
+            lend(&lent_block, block);
+            lend(&lent_word, word);
+            if (block > 0) {
+                lent_block.slice[block - 1] |= 3;
+            }
+            CHECK(rate, call(write, rate) == MAHYREI_BAD_LENGTH);
+        }
+        lend_null(&lent_block);
+        lend(&lent_word, word_len);
+        CHECK(rate, call(write, rate) == MAHYREI_BAD_LENGTH);
+        lend(&lent_block, block_len);
+        lend_null(&lent_word);
+        CHECK(rate, call(write, rate) == MAHYREI_BAD_LENGTH);
+        lend_null(&lent_block);
+        CHECK(rate, call(write, rate) == MAHYREI_BAD_LENGTH);
+    }
+}
+
+static void test_spare_bits(uint64_t rate) {
+    uint8_t block[MAHYREI_BLOCK_BYTES_MAX];
+    const size_t len = word_block_bytes(rate);
+    for (uint8_t spare = 0; spare < 4; spare++) {
+        random_block(block, len);
+        block[len - 1] |= spare;
+        lend_copy(&lent_block, block, len);
+        lend(&lent_word, MAHYREI_WORD_BYTES);
+        CHECK(rate, call(true, rate) == (spare == 0 ? MAHYREI_ACCEPTED : MAHYREI_BAD_SPARE));
+    }
+}
+
+static void test_every_number_met(void) {
+    static const unsigned NUMBERS[] = {0, 2, 8, 9, 13, 14, 15};
+    unsigned long total = 0, expected = 0;
+    for (size_t i = 0; i < 256; i++) {
+        total += met[i];
+    }
+    for (size_t i = 0; i < sizeof NUMBERS / sizeof NUMBERS[0]; i++) {
+        CHECK(NUMBERS[i], met[NUMBERS[i]] > 0);
+        expected += met[NUMBERS[i]];
+    }
+    CHECK(0, total == expected);
+    printf("word_calls: %lu calls, %lu checks, %lu failed\n", total, checks, failures);
+}
+
+int main(void) {
+    map_pages(&lent_block);
+    map_pages(&lent_word);
+    test_known_words();
+    test_refused_rates();
+    for (uint64_t rate = 0; rate < RATES; rate++) {
+        test_known_refusals(rate);
+        test_round_trips(rate);
+        test_sums(rate);
+        test_flips(rate);
+        test_coded_flips(rate);
+        test_wrong_inputs(rate);
+        test_other_rate(rate);
+        test_refused_lengths(rate);
+        test_spare_bits(rate);
+    }
+    test_every_number_met();
+    return failures == 0 ? EXIT_SUCCESS : EXIT_FAILURE;
+}

@@ -1,0 +1,556 @@
+//! Compares the library's two calls with the second implementation: `compare [WORDS [SEED]]`.
+//!
+//! Every word is written by both from the same block, then read by both, as it is or damaged.
+//! Beside each word goes a call with arguments that are wrong in one way or several. Compared are
+//! the answer and every lent byte, with a margin around each slice; and each answer's number must
+//! be one that the kind of word or call allows, so the two cannot merely agree on nonsense.
+
+mod word;
+
+use std::process::ExitCode;
+use std::time::Instant;
+use word::{Rate, Refusal, WORD_BITS, WORD_BYTES};
+
+/// The C calls of include/mahyrei.h.
+mod library {
+    extern "C" {
+        pub fn word_write(
+            rate: u64,
+            block: *const u8,
+            block_len: usize,
+            word: *mut u8,
+            word_len: usize,
+        ) -> u64;
+        pub fn word_read(
+            rate: u64,
+            word: *const u8,
+            word_len: usize,
+            block: *mut u8,
+            block_len: usize,
+        ) -> u64;
+    }
+}
+
+const WORDS: u64 = 24_000;
+const SEED: u64 = 1;
+
+/// One turn of every kind of word and of wrong call at each rate, which meets every number.
+const LEAST_WORDS: u64 = 3 * 32;
+
+/// The numbers that the two calls answer, and what each says.
+const NUMBERS: [(u8, &str); 7] = [
+    (0, "accepted"),
+    (2, "rate"),
+    (8, "length"),
+    (9, "spare bits"),
+    (13, "coded bits"),
+    (14, "termination"),
+    (15, "check"),
+];
+
+/// splitmix64.
+struct Rng(u64);
+
+impl Rng {
+    /// A stream of its own for each word, so that a word does not depend on those before it.
+    fn for_word(seed: u64, index: u64) -> Rng {
+        let mut rng = Rng(seed);
+        Rng(rng.next() ^ index.wrapping_mul(0xD134_2543_DE82_EF95))
+    }
+
+    fn next(&mut self) -> u64 {
+        self.0 = self.0.wrapping_add(0x9E37_79B9_7F4A_7C15);
+        let z = (self.0 ^ self.0 >> 30).wrapping_mul(0xBF58_476D_1CE4_E5B9);
+        let z = (z ^ z >> 27).wrapping_mul(0x94D0_49BB_1331_11EB);
+        z ^ z >> 31
+    }
+
+    fn below(&mut self, limit: usize) -> usize {
+        (self.next() % limit as u64) as usize
+    }
+
+    fn pick<T: Copy>(&mut self, from: &[T]) -> T {
+        from[self.below(from.len())]
+    }
+
+    fn bytes(&mut self, len: usize) -> Vec<u8> {
+        let eights = std::iter::repeat_with(|| self.next().to_le_bytes());
+        eights.flatten().take(len).collect()
+    }
+
+    fn bits(&mut self, len: usize) -> Vec<bool> {
+        let mut bits = word::unpack(&self.bytes(len.div_ceil(8)));
+        bits.truncate(len);
+        bits
+    }
+}
+
+/// Information bits of the next block: mostly random, else of a pattern that is easy to get wrong.
+fn some_block(rng: &mut Rng, rate: &Rate) -> Vec<bool> {
+    let k = rate.block_bits;
+    let place = match rng.below(4) {
+        0 => rng.below(40),
+        1 => k - 1 - rng.below(40),
+        _ => rng.below(k),
+    };
+    match rng.below(16) {
+        0 => vec![false; k],
+        1 => vec![true; k],
+        2 => (0..k).map(|i| i == place).collect(),
+        3 => (0..k).map(|i| i != place).collect(),
+        4 => (0..k).map(|i| i < place).collect(),
+        5 => (0..k).map(|i| i % (1 + place % 24) == 0).collect(),
+        6 => (0..k).map(|i| (i / 8) >> (7 - i % 8) & 1 == 1).collect(),
+        7 => (0..k).map(|_| rng.below(200) == 0).collect(),
+        _ => rng.bits(k),
+    }
+}
+
+/// A kind of damage that is done to a written word before it is read.
+struct Damage {
+    name: &'static str,
+    /// The numbers that reading it may give.
+    numbers: &'static [u8],
+    /// The damaged word, from the rate's number and the block.
+    word: fn(&mut Rng, u64, &[bool]) -> Vec<u8>,
+}
+
+const NONE: Damage = Damage {
+    name: "sound",
+    numbers: &[0],
+    word: |_, rate, block| sound(rate, block),
+};
+
+const DAMAGES: [Damage; 16] = [
+    Damage {
+        name: "one bit",
+        numbers: &[13, 14],
+        word: |rng, rate, block| flipped(sound(rate, block), &[rng.below(WORD_BITS)]),
+    },
+    Damage {
+        name: "one bit near an end",
+        numbers: &[13, 14],
+        word: |rng, rate, block| {
+            let near = rng.below(32);
+            let place = rng.pick(&[near, WORD_BITS - 1 - near]);
+            flipped(sound(rate, block), &[place])
+        },
+    },
+    Damage {
+        name: "burst of 2 to 18 bits",
+        numbers: &[13, 14],
+        word: |rng, rate, block| {
+            let last = 1 + rng.below(17);
+            let start = rng.below(WORD_BITS - last);
+            let mut places = vec![start, start + last];
+            places.extend((1..last).filter(|_| rng.below(2) == 1).map(|i| start + i));
+            flipped(sound(rate, block), &places)
+        },
+    },
+    Damage {
+        name: "bits anywhere",
+        numbers: &[13, 14, 15],
+        word: |rng, rate, block| {
+            let mut bits = word::unpack(&sound(rate, block));
+            bits[rng.below(WORD_BITS)] ^= true;
+            let chance = 1 + rng.below(5000);
+            for bit in &mut bits {
+                *bit ^= rng.below(chance) == 0;
+            }
+            word::pack(&bits)
+        },
+    },
+    Damage {
+        name: "random word",
+        numbers: &[13],
+        word: |rng, _, _| rng.bytes(WORD_BYTES),
+    },
+    Damage {
+        name: "one coded bit",
+        numbers: &[13, 14],
+        word: |rng, rate, block| {
+            let (any, near) = (rng.below(WORD_BITS), rng.below(12));
+            let place = rng.pick(&[any, near, WORD_BITS - 1 - near]);
+            let mut coded = word::coded_of_word(&sound(rate, block));
+            coded[place] ^= true;
+            word::word_of_coded(&coded)
+        },
+    },
+    Damage {
+        name: "last coded bits",
+        numbers: &[0, 13, 14, 15],
+        word: |rng, rate, block| {
+            let mut coded = word::coded_of_word(&sound(rate, block));
+            for bit in &mut coded[WORD_BITS - 6..] {
+                *bit = rng.below(2) == 1;
+            }
+            word::word_of_coded(&coded)
+        },
+    },
+    Damage {
+        name: "termination",
+        numbers: &[14],
+        word: |rng, rate, block| with_inputs(rate, block, |inputs, at| wrong_end(rng, inputs, at)),
+    },
+    Damage {
+        name: "termination and check",
+        numbers: &[14],
+        word: |rng, rate, block| {
+            with_inputs(rate, block, |inputs, at| {
+                inputs[at + rng.below(word::CHECK_BITS)] ^= true;
+                wrong_end(rng, inputs, at);
+            })
+        },
+    },
+    Damage {
+        name: "one check bit",
+        numbers: &[15],
+        word: |rng, rate, block| {
+            with_inputs(rate, block, |inputs, at| {
+                inputs[at + rng.below(word::CHECK_BITS)] ^= true;
+            })
+        },
+    },
+    Damage {
+        name: "one block bit under the old check",
+        numbers: &[15],
+        word: |rng, rate, block| {
+            with_inputs(rate, block, |inputs, at| inputs[rng.below(at)] ^= true)
+        },
+    },
+    Damage {
+        name: "inverted check",
+        numbers: &[15],
+        word: |_, rate, block| {
+            with_inputs(rate, block, |inputs, at| {
+                for bit in &mut inputs[at..at + word::CHECK_BITS] {
+                    *bit = !*bit;
+                }
+            })
+        },
+    },
+    Damage {
+        name: "randomizer left running",
+        numbers: &[13],
+        word: |_, rate, block| {
+            let bits = word::randomize(&word::unpack(&sound(rate, block)));
+            let late = word::sequence().skip(WORD_BITS);
+            let bits: Vec<bool> = bits.iter().zip(late).map(|(bit, pn)| bit ^ pn).collect();
+            word::pack(&bits)
+        },
+    },
+    Damage {
+        name: "interleaver run backwards",
+        numbers: &[13],
+        word: |_, rate, block| {
+            let coded = word::coded_of_word(&sound(rate, block));
+            let mut bits = vec![false; WORD_BITS];
+            for (place, bit) in coded.into_iter().enumerate() {
+                bits[word::coded_place(place)] = bit;
+            }
+            word::pack(&word::randomize(&word::accumulate(&bits)))
+        },
+    },
+    Damage {
+        name: "word of a random block at another rate",
+        numbers: &[13],
+        word: |rng, rate, _| {
+            let other = (rate + 1 + rng.next() % 2) % 3;
+            let block = rng.bits(rate_of(other).block_bits);
+            sound(other, &block)
+        },
+    },
+    Damage {
+        name: "sum of two words and the word of zeros",
+        numbers: &[0],
+        word: |rng, rate, block| {
+            let other = rng.bits(block.len());
+            let words = [block, &other, &vec![false; block.len()]].map(|b| sound(rate, b));
+            let sum = |i: usize| words.iter().fold(0, |sum, word| sum ^ word[i]);
+            (0..WORD_BYTES).map(sum).collect()
+        },
+    },
+];
+
+fn rate_of(number: u64) -> &'static Rate {
+    Rate::of(number).expect("a rate below 3")
+}
+
+fn sound(rate: u64, block: &[bool]) -> Vec<u8> {
+    word::word_of_inputs(rate_of(rate), &word::terminated(block))
+}
+
+fn flipped(mut word: Vec<u8>, places: &[usize]) -> Vec<u8> {
+    for place in places {
+        word[place / 8] ^= 0x80 >> (place % 8);
+    }
+    word
+}
+
+/// The word of the block's inputs after a change to them, which is told where the check starts.
+fn with_inputs(rate: u64, block: &[bool], change: impl FnOnce(&mut [bool], usize)) -> Vec<u8> {
+    let mut inputs = word::terminated(block);
+    change(&mut inputs, block.len());
+    word::word_of_inputs(rate_of(rate), &inputs)
+}
+
+/// Sets one of the termination bits or both.
+fn wrong_end(rng: &mut Rng, inputs: &mut [bool], check: usize) {
+    let wrong = 1 + rng.below(3);
+    inputs[check + word::CHECK_BITS] = wrong & 1 == 1;
+    inputs[check + word::CHECK_BITS + 1] = wrong & 2 == 2;
+}
+
+#[derive(Clone, Copy)]
+enum Call {
+    Write,
+    Read,
+}
+
+/// A slice lent to the library, within a margin of random bytes.
+struct Lent {
+    area: Vec<u8>,
+    len: usize,
+}
+
+impl Lent {
+    const MARGIN: usize = 32;
+
+    fn new(rng: &mut Rng, slice: &[u8]) -> Lent {
+        let mut area = rng.bytes(Lent::MARGIN);
+        area.extend_from_slice(slice);
+        area.extend(rng.bytes(Lent::MARGIN));
+        let len = slice.len();
+        Lent { area, len }
+    }
+
+    fn slice(&mut self) -> &mut [u8] {
+        &mut self.area[Lent::MARGIN..Lent::MARGIN + self.len]
+    }
+}
+
+/// What has been compared, and what came of it.
+#[derive(Default)]
+struct Tally {
+    /// Answers by call and number.
+    answers: [[u64; 16]; 2],
+    bytes: u64,
+    differences: u64,
+}
+
+impl Tally {
+    /// Puts one call to both and compares the answer and every lent byte. The slice to be written
+    /// holds random bytes before. `what` says which call this is, where something differs.
+    fn compare(
+        &mut self,
+        rng: &mut Rng,
+        call: Call,
+        rate: u64,
+        input: &[u8],
+        output_len: usize,
+        numbers: &[u8],
+        what: &str,
+    ) {
+        let mut from = Lent::new(rng, input);
+        let output = rng.bytes(output_len);
+        let mut to = Lent::new(rng, &output);
+        let (from_before, mut to_expected) = (from.area.clone(), to.area.clone());
+
+        let result = match call {
+            Call::Write => word::write(rate, input, output_len),
+            Call::Read => word::read(rate, input, output_len),
+        };
+        let expected = match result {
+            Ok(bytes) => {
+                to_expected[Lent::MARGIN..Lent::MARGIN + output_len].copy_from_slice(&bytes);
+                0
+            }
+            Err(Refusal { number, place }) => place as u64 * 256 + u64::from(number),
+        };
+
+        let (input, output) = (from.slice(), to.slice());
+        // SAFETY: each pointer is valid for the length beside it, and the two do not overlap.
+        let answer = unsafe {
+            let function = match call {
+                Call::Write => library::word_write,
+                Call::Read => library::word_read,
+            };
+            function(
+                rate,
+                input.as_ptr(),
+                input.len(),
+                output.as_mut_ptr(),
+                output.len(),
+            )
+        };
+
+        let number = (answer % 256) as u8;
+        if let Some(count) = self.answers[call as usize].get_mut(usize::from(number)) {
+            *count += 1;
+        }
+        self.bytes += (from.area.len() + to.area.len()) as u64;
+        let mut differ = |problem: String| {
+            self.differences += 1;
+            println!("{what}, rate {rate}: {problem}");
+        };
+        if answer != expected {
+            let parts = |answer: u64| format!("number {} place {}", answer % 256, answer / 256);
+            differ(format!(
+                "library {}, second {}",
+                parts(answer),
+                parts(expected)
+            ));
+        }
+        if !numbers.contains(&number) {
+            differ(format!("number {number}, where only {numbers:?} can be"));
+        }
+        for (area, should, which) in [
+            (&from.area, &from_before, "read"),
+            (&to.area, &to_expected, "written"),
+        ] {
+            if let Some(at) = (0..area.len()).find(|&at| area[at] != should[at]) {
+                let at = at as isize - Lent::MARGIN as isize;
+                differ(format!("byte {at} of the slice to be {which} is wrong"));
+            }
+        }
+    }
+}
+
+/// A call with wrong arguments, one way of being wrong for each bit of `wrong`.
+fn refused_call(tally: &mut Tally, rng: &mut Rng, rate: u64, wrong: u64, what: &str) {
+    let wrong_rate = wrong & 1 != 0;
+    let wrong_input = wrong & 2 != 0;
+    let wrong_output = wrong & 4 != 0;
+    let call = if wrong & 8 != 0 {
+        Call::Write
+    } else {
+        Call::Read
+    };
+    let spare = wrong & 16 != 0;
+
+    let block_len = rate_of(rate).block_bytes();
+    let (mut input_len, mut output_len) = match call {
+        Call::Write => (block_len, WORD_BYTES),
+        Call::Read => (WORD_BYTES, block_len),
+    };
+    for (len, is_wrong) in [
+        (&mut input_len, wrong_input),
+        (&mut output_len, wrong_output),
+    ] {
+        let right = *len;
+        while is_wrong && *len == right {
+            let any = rng.below(4000);
+            *len = rng.pick(&[0, 1, right - 1, right + 1, 626, 941, 1256, 1890, any]);
+        }
+    }
+    // `wide` is a rate in its low 32 bits
+    let (wide, any) = ((1 << 32) + rng.next() % 3, rng.next() | 4);
+    let far = [3, 4, 255, 256, 258, 1 << 63, u64::MAX, wide, any];
+    let rate = if wrong_rate { rng.pick(&far) } else { rate };
+
+    let mut input = rng.bytes(input_len);
+    if let (Call::Write, Some(last)) = (call, input.last_mut()) {
+        *last = *last & 0xFC | if spare { 1 + rng.below(3) as u8 } else { 0 };
+    }
+    let number = match call {
+        _ if wrong_rate => 2,
+        _ if wrong_input || wrong_output => 8,
+        Call::Write if spare => 9,
+        Call::Write => 0,
+        Call::Read => 13,
+    };
+    tally.compare(rng, call, rate, &input, output_len, &[number], what);
+}
+
+fn argument(index: usize, name: &str, default: u64) -> Result<u64, String> {
+    let text = std::env::args()
+        .nth(index)
+        .or_else(|| std::env::var(name).ok());
+    match text.as_deref() {
+        None | Some("") => Ok(default),
+        Some(text) => text
+            .parse()
+            .map_err(|_| format!("{name} is a number, not '{text}'")),
+    }
+}
+
+fn run() -> Result<(), String> {
+    let (words, seed) = (argument(1, "WORDS", WORDS)?, argument(2, "SEED", SEED)?);
+    if words < LEAST_WORDS {
+        return Err(format!("WORDS is {LEAST_WORDS} or more"));
+    }
+    println!("library against second implementation: {words} words, SEED={seed}");
+    let started = Instant::now();
+    let mut tally = Tally::default();
+
+    for index in 0..words {
+        let rng = &mut Rng::for_word(seed, index);
+        let (rate, turn) = (index % 3, index / 3);
+        // a quarter of the words stay sound
+        let damage = match turn % 4 {
+            0 => &NONE,
+            _ => &DAMAGES[(turn * 3 / 4) as usize % DAMAGES.len()],
+        };
+        let what = format!("word {index} ({})", damage.name);
+
+        let block = some_block(rng, rate_of(rate));
+        let packed = word::pack(&block);
+        tally.compare(rng, Call::Write, rate, &packed, WORD_BYTES, &[0], &what);
+        let word = (damage.word)(rng, rate, &block);
+        tally.compare(
+            rng,
+            Call::Read,
+            rate,
+            &word,
+            packed.len(),
+            damage.numbers,
+            &what,
+        );
+        refused_call(
+            &mut tally,
+            rng,
+            rate,
+            turn % 32,
+            &format!("beside word {index}"),
+        );
+        if tally.differences > 10 {
+            return Err("too many differences, the rest is left out".to_string());
+        }
+    }
+
+    println!(
+        "  {:<16} {:>10} {:>10}",
+        "answer", "word_write", "word_read"
+    );
+    for (number, name) in NUMBERS {
+        let [write, read] = tally.answers.map(|answers| answers[usize::from(number)]);
+        println!("  {number:>2} {name:<13} {write:>10} {read:>10}");
+    }
+    println!(
+        "  {} bytes compared in {:.1} s, {} differences",
+        tally.bytes,
+        started.elapsed().as_secs_f64(),
+        tally.differences
+    );
+
+    if tally.differences > 0 {
+        return Err(format!(
+            "library and second implementation differ; SEED={seed} shows it again"
+        ));
+    }
+    let met = |&(number, _): &(u8, &str)| tally.answers.iter().any(|a| a[usize::from(number)] > 0);
+    if !NUMBERS.iter().all(met) {
+        return Err("an answer was never met".to_string());
+    }
+    Ok(())
+}
+
+fn main() -> ExitCode {
+    match run() {
+        Ok(()) => ExitCode::SUCCESS,
+        Err(problem) => {
+            println!("FAILED: {problem}");
+            ExitCode::FAILURE
+        }
+    }
+}
