@@ -8,7 +8,7 @@ use lib.Bits.{bitXor, xor-zero-r}
 use lib.ListN.{length, getD, set, length-set}
 use lib.Seq.{getD-set-other}
 use Rattle.bits.specs.Table.{fill}
-use Rattle.bits.specs.Pack.{val, val-same, bit-val, bitAt, bit-lt, Bits}
+use Rattle.bits.specs.Pack.{val, val-same, bitAt, bit-lt, Bits}
 use Rattle.accumulator.specs.Accumulator.{accumulate, differentiate, accumulate-bits}
 
 -- bit t of a byte
@@ -115,4 +115,5 @@ made-more f xs out i v m l e =
     record {
       size = length-set out i v ∙ m .size;
       done = fill out f i v l e (m .done);
-      rest = λ k h. let n : k ≡ i → ⊥ = λ q. omega arith in getD-set-other out i k v 0 n ∙ m .rest k (omega arith) }
+      rest = λ k h. let n : k ≡ i → ⊥ = λ q. omega arith in getD-set-other out i k v 0 n ∙ m .rest k (omega arith);
+    }

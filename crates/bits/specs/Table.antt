@@ -1,13 +1,13 @@
 -- A list by index. `tab` is shut, so that no length is ever counted out; its laws say all there is to know.
 use mathlib.Core.Path.{_≡_, refl, sym, ap, ap₂, _∙_}
 use mathlib.Core.Bool.{Bool, true, false}
-use mathlib.Core.List.{List, [], _∷_, _++_}
+use mathlib.Core.List.{List, [], _∷_, _++_, append-nil}
 use mathlib.Core.Logic.{⊎-elim}
 use Prim.Native.Nat.{ℕ, zero, suc, _+_, _-_, _*_, _≤_, _<_}
 use native.Mathlib.Omega.{arith}
 use lib.Dec.{T}
-use lib.ListN.{length, getD, set, length-set}
-use lib.Seq.{ext-getD, getD-set-same, getD-set-other}
+use lib.ListN.{length, getD, set, take, drop}
+use lib.Seq.{ext-getD, length-take-le, getD-take, take-length, drop-length, getD-set-same, getD-set-other}
 use Rattle.bits.specs.Choice.{pick, lt-or-le, eq-or-ne}
 
 -- the list f 0, f 1, .. f (n - 1)
@@ -39,6 +39,10 @@ tab-made n f xs e h =
     let k : i < n = omega arith in
     h i k ∙ sym (getD-tab n f i k))
 
+-- so is the front of a longer list
+pub front-made : (n : ℕ) (f : ℕ → ℕ) (xs : List ℕ) → n ≤ length xs → ((i : ℕ) → i < n → getD xs i 0 ≡ f i) → take n xs ≡ tab n f
+front-made n f xs l h = tab-made n f (take n xs) (length-take-le n xs l) (λ i k. getD-take n xs i 0 k ∙ h i k)
+
 -- functions that agree make the same list
 pub tab-same : (n : ℕ) (f g : ℕ → ℕ) → ((i : ℕ) → i < n → f i ≡ g i) → tab n f ≡ tab n g
 tab-same n f g h = tab-made n g (tab n f) (length-tab n f) (λ i l. getD-tab n f i l ∙ h i l)
@@ -47,6 +51,11 @@ tab-same n f g h = tab-made n g (tab n f) (length-tab n f) (λ i l. getD-tab n f
 pub tab-bits : (n : ℕ) (f : ℕ → ℕ) → ((i : ℕ) → f i < 2) → (i : ℕ) → getD (tab n f) i 0 < 2
 tab-bits n f h i =
     ⊎-elim (λ (l : i < n). rw (getD-tab n f i l) (h i)) (λ (l : n ≤ i). rw (getD-tab-past n f i l) (omega arith)) (lt-or-le i n)
+
+-- a copy of a list over one of the same length
+pub copied : (from to : List ℕ) → length to ≡ length from → take (length from) from ++ drop (length from) to ≡ from
+copied from to e =
+    ap₂ (λ (a b : List ℕ). a ++ b) (take-length from) (ap (λ (n : ℕ). drop n to) (sym e) ∙ drop-length to) ∙ append-nil from
 
 -- a loop that fills a list from the front: one place more
 pub fill : (xs : List ℕ) (f : ℕ → ℕ) (i v : ℕ) → i < length xs → v ≡ f i → ((k : ℕ) → k < i → getD xs k 0 ≡ f k)

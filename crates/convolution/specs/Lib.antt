@@ -1,3 +1,6 @@
 pub mod Code
 pub mod Distance
 pub mod Near
+pub mod Ready
+pub mod Turns
+pub mod Compare

@@ -1,1 +1,3 @@
 pub mod Interleaver
+pub mod Rows
+pub mod Spread

@@ -4,7 +4,9 @@ ghost use Prim.Native.Nat.{_<_};
 ghost use Rattle.rates.specs.Rate.{infoBits, inputBits, blockBytes};
 
 const THIRD: usize = 5006;
+
 const HALF: usize = 7526;
+
 const TWO_THIRDS: usize = 10046;
 
 // The check bits and the termination bits behind a block.

@@ -21,7 +21,13 @@ readNumber (R.Miscoded at) = 13
 readNumber R.Unterminated = 14
 readNumber R.BadCheck = 15
 
--- the place: the first wrong coded bit for 13, else 0; the writer has none
+-- the place: the first wrong coded bit for 13, else 0
+abbrev pub writePlace : WriteAnswer → ℕ
+writePlace W.Written = 0
+writePlace W.BadRate = 0
+writePlace W.BadLength = 0
+writePlace W.SpareBits = 0
+
 abbrev pub readPlace : ReadAnswer → ℕ
 readPlace R.Block = 0
 readPlace R.BadRate = 0
@@ -32,7 +38,7 @@ readPlace R.BadCheck = 0
 
 -- to C both go as one number
 abbrev pub writeCode : WriteAnswer → ℕ
-writeCode a = 0 * 256 + writeNumber a
+writeCode a = writePlace a * 256 + writeNumber a
 
 abbrev pub readCode : ReadAnswer → ℕ
 readCode a = readPlace a * 256 + readNumber a

@@ -31,22 +31,23 @@ pub record Undoes (word work coded : List ℕ) : Type 0 where
   pub work-is : length work ≡ wordBytes
   pub coded-is : length coded ≡ 15120
 
--- reading from coded bits: they, room for the input bits of any rate, and the block
-pub record Reads (rate : ℕ) (coded room block : List ℕ) : Type 0 where
+-- reading from coded bits: they, room for the input bits and for the packed block of any rate, and the block
+pub record Reads (rate : ℕ) (coded room packed block : List ℕ) : Type 0 where
   pub rate-is : rate < 3
   pub coded-is : length coded ≡ 15120
   pub bits-are : (i : ℕ) → getD coded i 0 < 2
   pub room-is : length room ≡ 10080
+  pub packed-is : length packed ≡ 1256
   pub block-is : length block ≡ blockBytes rate
 
--- the same with the input bits read: they, room for the packed block of any rate, and the block
+-- the same with the input bits read: they, a place to pack the block in, and the block
 pub record Settles (rate : ℕ) (coded input packed block : List ℕ) : Type 0 where
   pub rate-is : rate < 3
   pub coded-is : length coded ≡ 15120
   pub coded-bits : (i : ℕ) → getD coded i 0 < 2
   pub input-is : length input ≡ inputBits rate
   pub input-bits : (i : ℕ) → getD input i 0 < 2
-  pub packed-is : length packed ≡ 1256
+  pub packed-is : length packed ≡ blockBytes rate
   pub block-is : length block ≡ blockBytes rate
 
 -- questions 13 to 15: the coded bits, the input bits, and the block that these make

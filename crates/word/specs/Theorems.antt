@@ -40,7 +40,7 @@ written-read rate block b e =
     let h : rate < 3 = a .rate-is in
     let word : List ℕ = wordOf rate block in (
       Answers.read-judged rate word (length block) h (Laws.word-length rate block) (a .block-is)
-      ∙ Answers.judged-done rate (codedIn word) (inputIn rate word) (Laws.passes-13 rate block h) (Laws.passes-14 rate block h) (Laws.passes-15 rate block h),
+          ∙ Answers.judged-done rate (codedIn word) (inputIn rate word) (Laws.passes-13 rate block h) (Laws.passes-14 rate block h) (Laws.passes-15 rate block h),
       Laws.block-back rate block h (Answers.accepted-packed rate block wordBytes b e),
     )
 

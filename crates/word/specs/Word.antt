@@ -22,6 +22,7 @@ use Rattle.word.specs.declared.ReadAnswer.{ReadAnswer}
 use Rattle.word.specs.declared.ReadAnswer.the-variants as R
 pub mod Laws
 pub mod Answers
+pub mod Judging
 
 -- the bytes of a word
 abbrev pub wordBytes : ℕ

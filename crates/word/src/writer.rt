@@ -1,12 +1,14 @@
 // Steps 2 to 7: a block to its word.
 use crate::WriteAnswer;
-
 ghost use mathlib.Core.Path.{_≡_};
 ghost use Prim.Native.Nat.{ℕ, _+_, _<_};
 ghost use lib.ListN.{length, getD};
+ghost use Rattle.bits.specs.Pack.{bytesOf};
+ghost use Rattle.bits.specs.Table.{tab};
 ghost use Rattle.rates.specs.Rate.{inputBits};
-ghost use Rattle.word.specs.Word.{wordBytes, inputOf, codedOf, wordOf, writeSays};
-ghost use Rattle.word.specs.Rooms.{Inputs};
+ghost use Rattle.word.specs.Word.{wordBytes, inputOf, codedOf, shuffled, wordOf, writeSays};
+ghost use Rattle.word.specs.Word.Answers.{WriteAccepted};
+ghost use Rattle.word.specs.Rooms.{Inputs, Codes, Shuffles};
 
 // Questions 2, 8 and 9.
 pub fn judge(rate: u64, block: &[u8], word_length: usize) -> WriteAnswer
@@ -39,4 +41,35 @@ fn take_in(rate: u64, block: &[u8], room: &mut [u8])
     bits::packing::put_number(room, k, 32, check as u64);
     room[k + 32] = 0;
     room[k + 33] = 0;
+}
+
+// Steps 2 to 4: the coded bits. `room` is for the input bits.
+fn encode(rate: u64, block: &[u8], room: &mut [u8], coded: &mut [u8])
+    requires { ⌜ Codes rate (now block) (now room) (now coded) ⌝ }
+    ensures { λ _. ⌜ now (coded .exit) ≡ tab 15120 (codedOf rate (now (block .entry))) ⌝ }
+{
+    let n = rates::input_bits(rate);
+    take_in(rate, block, room);
+    convolution::encode(rate, &room[..n], coded);
+}
+
+// Steps 5 to 7.
+fn shuffle(coded: &[u8], word: &mut [u8])
+    requires { ⌜ Shuffles (now coded) (now word) ⌝ }
+    ensures { λ _. ⌜ now (word .exit) ≡ bytesOf wordBytes (shuffled (λ j. getD (now (coded .entry)) j 0)) ⌝ }
+{
+    interleaver::interleave(coded, word);
+    accumulator::accumulate(word);
+    randomizer::randomize(word);
+}
+
+// The word of a block that passed the questions.
+pub fn code(rate: u64, block: &[u8], word: &mut [u8])
+    requires { ⌜ WriteAccepted rate (now block) (length (now word)) ⌝ }
+    ensures { λ _. ⌜ now (word .exit) ≡ wordOf rate (now (block .entry)) ⌝ }
+{
+    let mut input = [0u8; 10080];
+    let mut coded = [0u8; 15120];
+    encode(rate, block, &mut input, &mut coded);
+    shuffle(&coded, word);
 }

@@ -1,7 +1,7 @@
 -- `accumulate` meets its contract: at the loop's head the first i bytes are made, the others as they were given, and `last` is the output before bit 8 i.
-use mathlib.Core.Path.{_≡_, refl, sym, ap, _∙_}
+use mathlib.Core.Path.{_≡_, refl, ap, _∙_}
 use mathlib.Core.List.{List}
-use Prim.Native.Nat.{ℕ, _+_, _-_, _*_, _≤_, _<_}
+use Prim.Native.Nat.{ℕ, _+_, _-_, _*_, _≤_}
 use native.Mathlib.Omega.{arith}
 use lib.Bits.{and-mask}
 use lib.ListN.{length, getD}
@@ -49,10 +49,10 @@ loop-again c =
     let l = c .before .before .before .loop in
     let xs = c .before .before .before .before .before .args .word .now in
     let e : c .summed .result ≡ made xs (l .i) =
-        c .summed .ensures
-        ∙ ap (λ (b : ℕ). val (accumulateFrom (l .last) (bitOf b)) 8) (l .inv .2 .rest (l .i) (search needs))
-        ∙ ap (λ (p : ℕ). val (accumulateFrom p (bitOf (getD xs (l .i) 0))) 8) (l .inv .1)
-        ∙ accumulated-byte xs (l .i) in
+    c .summed .ensures
+    ∙ ap (λ (b : ℕ). val (accumulateFrom (l .last) (bitOf b)) 8) (l .inv .2 .rest (l .i) (search needs))
+    ∙ ap (λ (p : ℕ). val (accumulateFrom p (bitOf (getD xs (l .i) 0))) 8) (l .inv .1)
+    ∙ accumulated-byte xs (l .i) in
     (search needs, and-mask (c .summed .result) 1 ∙ accumulated-last xs (l .i) (c .summed .result) e, made-more (made xs) xs (l .word) (l .i) (c .summed .result) (l .inv .2) (search needs) e)
 
 same-length : tie.Need-same-length Inv-loop μ-loop

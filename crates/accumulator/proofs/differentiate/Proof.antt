@@ -1,7 +1,7 @@
 -- `differentiate` meets its contract: at the loop's head the first i bytes are made, the others as they were given, and `prior` is the given bit before bit 8 i.
-use mathlib.Core.Path.{_≡_, refl, sym, ap, _∙_}
+use mathlib.Core.Path.{_≡_, refl, ap, _∙_}
 use mathlib.Core.List.{List}
-use Prim.Native.Nat.{ℕ, _+_, _-_, _*_, _%_, _≤_, _<_}
+use Prim.Native.Nat.{ℕ, _+_, _-_, _*_, _%_, _≤_}
 use native.Mathlib.Omega.{arith}
 use lib.Bits.{and-mask}
 use lib.ListN.{length, getD}
@@ -50,10 +50,10 @@ loop-again c =
     let xs = c .before .before .before .before .before .args .word .now in
     let given : getD (l .word) (l .i) 0 ≡ getD xs (l .i) 0 = l .inv .2 .rest (l .i) (search needs) in
     let e : c .stepped .result ≡ made xs (l .i) =
-        c .stepped .ensures
-        ∙ ap (λ (b : ℕ). val (differentiateFrom (l .prior) (bitOf b)) 8) given
-        ∙ ap (λ (p : ℕ). val (differentiateFrom p (bitOf (getD xs (l .i) 0))) 8) (l .inv .1)
-        ∙ differentiated-byte xs (l .i) in
+    c .stepped .ensures
+    ∙ ap (λ (b : ℕ). val (differentiateFrom (l .prior) (bitOf b)) 8) given
+    ∙ ap (λ (p : ℕ). val (differentiateFrom p (bitOf (getD xs (l .i) 0))) 8) (l .inv .1)
+    ∙ differentiated-byte xs (l .i) in
     (search needs, and-mask (getD (l .word) (l .i) 0) 1 ∙ ap (λ (b : ℕ). b % 2) given ∙ given-last xs (l .i), made-more (made xs) xs (l .word) (l .i) (c .stepped .result) (l .inv .2) (search needs) e)
 
 same-length : tie.Need-same-length Inv-loop μ-loop

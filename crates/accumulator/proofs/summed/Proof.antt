@@ -1,12 +1,12 @@
 -- `summed` meets its contract: antt computes both sides for each byte and each bit before it.
-use mathlib.Core.Path.{_≡_, ap}
+use mathlib.Core.Path.{_≡_}
 use mathlib.Core.Logic.{⊎-elim}
 use Prim.Native.Nat.{ℕ, _*_, _/_, _<_}
 use lib.Bits.{bitXor}
 use lib.Dec.{eqb, eqb→eq}
 use borrow.Author.Needs.{needs}
 use Rattle.bits.specs.Choice.{bit-cases}
-use Rattle.bits.specs.Table.{allBelow, below-all}
+use Rattle.bits.specs.Table.{below-all}
 use Rattle.bits.specs.Pack.{val}
 use Rattle.accumulator.specs.Bytes.{bitOf, accumulateFrom}
 use Rattle.accumulator.proofs.summed.Statement.{statement}

@@ -11,12 +11,13 @@ use lib.ListN.{length, getD}
 use borrow.Author.Tests.{lt-ltb, le-ltb, eq-eqb, ne-eqb, ltb-true, eqb-true}
 use Rattle.bits.specs.Choice.{pick, lt-or-le, bit-cases, pick-yes}
 use Rattle.bits.specs.Table.{both, both-true}
+use Rattle.bits.specs.First.{up-to-le}
 use Rattle.bits.specs.Pack.{bitAt, Bytes}
 use Rattle.rates.specs.Rate.{infoBits, blockBytes, block-size, by-rate}
 use Rattle.interleaver.specs.Interleaver.{wordBits}
-use Rattle.word.specs.Word.{wordBytes, codedIn, inputIn, spareZero, firstWrong, endsInZeros, checkRight, writeSays, judged, readSays}
+use Rattle.word.specs.Word.{wordBytes, codedIn, inputIn, spareZero, agrees, firstWrong, endsInZeros, checkRight, writeSays, judged, readSays}
 use Rattle.word.specs.Word.Laws.{Packed, Sound, sound}
-use Rattle.word.specs.Answer.{writeNumber, readNumber}
+use Rattle.word.specs.Answer.{writeNumber, readNumber, readPlace}
 use Rattle.word.specs.declared.WriteAnswer.{WriteAnswer}
 use Rattle.word.specs.declared.WriteAnswer.the-variants as W
 use Rattle.word.specs.declared.ReadAnswer.{ReadAnswer}
@@ -194,3 +195,23 @@ read-accepted rate word n e =
       block-is = eqb-true n (blockBytes rate) (l .1);
       sound-is = sound rate word (eqb-true (firstWrong rate (codedIn word) (inputIn rate word)) wordBits (q13 .0)) (q14 .0) (q15 .0);
     }
+
+-- a place is no more than the number of coded bits
+pub read-place : (rate : ℕ) (word : List ℕ) (n : ℕ) → readPlace (readSays rate word n) ≤ 15120
+unfolding readSays judged firstWrong
+read-place rate word n =
+    cases (ltb rate 3) (both (eqb (length word) wordBytes) (eqb n (blockBytes rate))) (eqb (firstWrong rate c x) wordBits) (endsInZeros rate x) (checkRight rate x)
+  where
+    c : ℕ → ℕ
+    c = codedIn word
+
+    x : ℕ → ℕ
+    x = inputIn rate word
+
+    cases : (a b d e f : Bool) → readPlace (pick a (pick b (pick d (pick e (pick f R.Block R.BadCheck) R.Unterminated) (R.Miscoded (firstWrong rate c x))) R.BadLength) R.BadRate) ≤ 15120
+    cases false b d e f = omega arith
+    cases true false d e f = omega arith
+    cases true true false e f = up-to-le (agrees rate c x) wordBits
+    cases true true true false f = omega arith
+    cases true true true true false = omega arith
+    cases true true true true true = omega arith

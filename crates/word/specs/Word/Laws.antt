@@ -7,8 +7,8 @@ use Prim.Native.Nat.{ℕ, zero, suc, _+_, _-_, _*_, _/_, _%_, _^_, _≤_, _<_}
 use native.Mathlib.Omega.{arith}
 use lib.Bits.{bitXor}
 use lib.Dec.{ltb, eqb}
-use lib.ListN.{length, getD, set, length-set}
-use lib.Seq.{getD-set-same, getD-set-other}
+use lib.ListN.{length, getD, take, set, length-set, length-take, List·getD-eq-default}
+use lib.Seq.{getD-take, getD-set-same, getD-set-other}
 use borrow.Author.Tests.{lt-ltb, le-ltb, eq-eqb, ne-eqb, ltb-true, eqb-true}
 use Rattle.bits.specs.Choice.{pick, lt-or-le, eq-or-ne}
 use Rattle.bits.specs.Sum.{sum3}
@@ -88,16 +88,17 @@ word-again word e b =
     ∙ randomize-twice (bitAt word) j)))
 
 -- steps 5 to 7 on packed bytes, one after another, as the code takes them
-pub shuffled-made : (c : ℕ → ℕ) → Bits c → bytesOf wordBytes (randomize (bitAt (bytesOf wordBytes (accumulate (bitAt (bytesOf wordBytes (interleave c))))))) ≡ bytesOf wordBytes (shuffled c)
+pub shuffled-made : (c : ℕ → ℕ) (w1 w2 w3 : List ℕ) → Bits c → w1 ≡ bytesOf wordBytes (interleave c) → w2 ≡ bytesOf (length w1) (accumulate (bitAt w1))
+    → w3 ≡ bytesOf wordBytes (randomize (bitAt w2)) → w3 ≡ bytesOf wordBytes (shuffled c)
 unfolding shuffled
-shuffled-made c h =
-    let w1 : ℕ → ℕ = bitAt (bytesOf wordBytes (interleave c)) in
-    let w2 : ℕ → ℕ = bitAt (bytesOf wordBytes (accumulate w1)) in
-    let b1 : Bits w1 = bit-lt (bytesOf wordBytes (interleave c)) in
-    bytes-same wordBytes (randomize w2) (shuffled c) (λ j l.
-    randomize-same w2 (accumulate (interleave c)) j
-    (bit-bytes wordBytes (accumulate w1) (accumulate-bits w1 b1) j (omega arith)
-    ∙ accumulate-same w1 (interleave c) j (λ i k. bit-bytes wordBytes (interleave c) (interleave-bits c h) i (omega arith))))
+shuffled-made c w1 w2 w3 h e1 e2 e3 =
+    let n1 : length w1 ≡ wordBytes = ap length e1 ∙ length-bytes wordBytes (interleave c) in
+    e3 ∙ bytes-same wordBytes (randomize (bitAt w2)) (shuffled c) (λ j l.
+    randomize-same (bitAt w2) (accumulate (interleave c)) j
+    (ap (λ (w : List ℕ). bitAt w j) e2
+    ∙ bit-bytes (length w1) (accumulate (bitAt w1)) (accumulate-bits (bitAt w1) (bit-lt w1)) j (omega arith)
+    ∙ accumulate-same (bitAt w1) (interleave c) j (λ i k.
+    ap (λ (w : List ℕ). bitAt w i) e1 ∙ bit-bytes wordBytes (interleave c) (interleave-bits c h) i (omega arith))))
 
 -- the word of a list of coded bits
 pub word-from : (rate : ℕ) (block coded : List ℕ) → coded ≡ tab wordBits (codedOf rate block) → bytesOf wordBytes (shuffled (λ j. getD coded j 0)) ≡ wordOf rate block
@@ -108,16 +109,17 @@ word-from rate block coded e =
     ap (λ (xs : List ℕ). getD xs x 0) e ∙ getD-tab wordBits (codedOf rate block) x k) j)
 
 -- and steps 7 to 5 undone
-pub coded-made : (word w1 w2 coded : List ℕ) → w1 ≡ bytesOf wordBytes (randomize (bitAt word)) → w2 ≡ bytesOf wordBytes (differentiate (bitAt w1))
+pub coded-made : (word w0 w1 w2 coded : List ℕ) → w0 ≡ word → w1 ≡ bytesOf wordBytes (randomize (bitAt w0)) → w2 ≡ bytesOf (length w1) (differentiate (bitAt w1))
     → coded ≡ tab wordBits (deinterleave (bitAt w2)) → coded ≡ tab wordBits (codedIn word)
 unfolding codedIn
-coded-made word w1 w2 coded e1 e2 e3 =
+coded-made word w0 w1 w2 coded e0 e1 e2 e3 =
+    let n1 : length w1 ≡ wordBytes = ap length e1 ∙ length-bytes wordBytes (randomize (bitAt w0)) in
     e3 ∙ tab-same wordBits (deinterleave (bitAt w2)) (codedIn word) (λ x l.
     deinterleave-same (bitAt w2) (differentiate (randomize (bitAt word))) (λ j k.
     ap (λ (w : List ℕ). bitAt w j) e2
-    ∙ bit-bytes wordBytes (differentiate (bitAt w1)) (differentiate-bits (bitAt w1) (bit-lt w1)) j (omega arith)
+    ∙ bit-bytes (length w1) (differentiate (bitAt w1)) (differentiate-bits (bitAt w1) (bit-lt w1)) j (omega arith)
     ∙ differentiate-same (bitAt w1) (randomize (bitAt word)) j (λ i b.
-    ap (λ (w : List ℕ). bitAt w i) e1
+    ap (λ (w : List ℕ). bitAt w i) (e1 ∙ ap (λ (w : List ℕ). bytesOf wordBytes (randomize (bitAt w))) e0)
     ∙ bit-bytes wordBytes (randomize (bitAt word)) (randomize-bits (bitAt word) (bit-lt word)) i (omega arith))) x)
 
 -- bits added to a word are added, as steps 7, 6 and 5 undone leave them, to its coded bits
@@ -353,14 +355,14 @@ input-made rate block xs ys check k ek e long h s i l =
     (λ (u : i < k + 32).
     getD-set-other zs (k + 33) i 0 0 (λ q. omega arith) ∙ getD-set-other ys (k + 32) i 0 0 (λ q. omega arith)
     ∙ ⊎-elim
-      (λ (v : i < k). s .earlier i v ∙ h i v ∙ sym (input-block rate block i (omega arith)))
-      (λ (v : k ≤ i).
-      let d : i ≡ k + (i - k) = omega arith in
-      let d' : i ≡ infoBits rate + (i - k) = omega arith in
-      ap (λ (j : ℕ). getD ys j 0) d ∙ s .here (i - k) (omega arith)
-      ∙ ap (λ (r : ℕ). r / 2 ^ (31 - (i - k)) % 2) (e ∙ ap (register (bitAt block)) ek)
-      ∙ sym (ap (inputOf rate block) d' ∙ input-check rate block (i - k) (omega arith)))
-      (lt-or-le i k))
+    (λ (v : i < k). s .earlier i v ∙ h i v ∙ sym (input-block rate block i (omega arith)))
+    (λ (v : k ≤ i).
+    let d : i ≡ k + (i - k) = omega arith in
+    let d' : i ≡ infoBits rate + (i - k) = omega arith in
+    ap (λ (j : ℕ). getD ys j 0) d ∙ s .here (i - k) (omega arith)
+    ∙ ap (λ (r : ℕ). r / 2 ^ (31 - (i - k)) % 2) (e ∙ ap (register (bitAt block)) ek)
+    ∙ sym (ap (inputOf rate block) d' ∙ input-check rate block (i - k) (omega arith)))
+    (lt-or-le i k))
     (λ (u : k + 32 ≤ i).
     ⊎-elim
     (λ (v : i ≡ k + 33). ap (λ (j : ℕ). getD (set zs (k + 33) 0) j 0) v ∙ getD-set-same zs (k + 33) 0 0 (omega arith))
@@ -371,13 +373,22 @@ input-made rate block xs ys check k ek e long h s i l =
     ∙ sym (input-end rate block i (omega arith)))
     (lt-or-le i (k + 32))
 
+-- the coded bits of a list of input bits
+pub coded-list : (rate : ℕ) (block input : List ℕ) → rate < 3 → input ≡ tab (inputBits rate) (inputOf rate block)
+    → tab wordBits (encode rate (λ i. getD input i 0)) ≡ tab wordBits (codedOf rate block)
+unfolding codedOf
+coded-list rate block input h e =
+    tab-same wordBits (encode rate (λ i. getD input i 0)) (codedOf rate block) (λ j l.
+    encode-same rate (λ i. getD input i 0) (inputOf rate block) h (λ i k.
+    ap (λ (xs : List ℕ). getD xs i 0) e ∙ getD-tab (inputBits rate) (inputOf rate block) i k) j l)
+
 -- questions 13 to 15 look at the coded bits and at the input bits, and at nothing behind them
 pub judged-same : (rate : ℕ) (c d x y : ℕ → ℕ) → rate < 3 → ((j : ℕ) → j < wordBits → c j ≡ d j) → ((i : ℕ) → i < inputBits rate → x i ≡ y i) → judged rate c x ≡ judged rate d y
 unfolding judged firstWrong agrees endsInZeros checkRight inputBits
 judged-same rate c d x y h ec ex =
     let k : ℕ = infoBits rate in
     let wrong : firstWrong rate c x ≡ firstWrong rate d y =
-        first-same (agrees rate c x) (agrees rate d y) wordBits (λ j l. ap₂ eqb (ec j l) (encode-same rate x y h ex j l)) in
+    first-same (agrees rate c x) (agrees rate d y) wordBits (λ j l. ap₂ eqb (ec j l) (encode-same rate x y h ex j l)) in
     let end0 : x (k + 32) ≡ y (k + 32) = ex (k + 32) (omega arith) in
     let end1 : x (k + 33) ≡ y (k + 33) = ex (k + 33) (omega arith) in
     let field : val (λ i. x (k + i)) 32 ≡ val (λ i. y (k + i)) 32 = val-same (λ i. x (k + i)) (λ i. y (k + i)) 32 (λ i l. ex (k + i) (omega arith)) in
@@ -388,3 +399,56 @@ judged-same rate c d x y h ec ex =
 pub packed-same : (rate : ℕ) (x y : ℕ → ℕ) → ((i : ℕ) → i < infoBits rate → x i ≡ y i) → packedBlock rate x ≡ packedBlock rate y
 unfolding packedBlock
 packed-same rate x y e = bytes-same (blockBytes rate) (cut (infoBits rate) x) (cut (infoBits rate) y) (λ j l. cut-same (infoBits rate) x y e j)
+
+pub packed-length : (rate : ℕ) (x : ℕ → ℕ) → length (packedBlock rate x) ≡ blockBytes rate
+unfolding packedBlock
+packed-length rate x = length-bytes (blockBytes rate) (cut (infoBits rate) x)
+
+-- the first k of a list of input bits, packed
+pub packed-made : (rate : ℕ) (input : List ℕ) (n k : ℕ) → n ≡ blockBytes rate → k ≡ infoBits rate → bytesOf n (λ i. getD (take k input) i 0) ≡ packedBlock rate (λ i. getD input i 0)
+unfolding packedBlock
+packed-made rate input n k en ek =
+    ap (λ (m : ℕ). bytesOf m (λ i. getD (take k input) i 0)) en
+    ∙ bytes-same (blockBytes rate) (λ i. getD (take k input) i 0) (cut (infoBits rate) (λ i. getD input i 0)) (λ j l.
+    ⊎-elim
+    (λ (u : j < k). getD-take k input j 0 u ∙ sym (cut-in (infoBits rate) (λ i. getD input i 0) j (omega arith)))
+    (λ (u : k ≤ j).
+    let short : length (take k input) ≤ j = omega (arith, length-take k input) in
+    List·getD-eq-default (take k input) 0 short ∙ sym (cut-past (infoBits rate) (λ i. getD input i 0) j (omega arith)))
+    (lt-or-le j k))
+
+-- bits at the front of a list of bits
+pub front-bits : (input : List ℕ) (k : ℕ) → ((i : ℕ) → getD input i 0 < 2) → (i : ℕ) → getD (take k input) i 0 < 2
+front-bits input k h i =
+    ⊎-elim
+    (λ (u : i < k). rw (getD-take k input i 0 u) (h i))
+    (λ (u : k ≤ i).
+    let short : length (take k input) ≤ i = omega (arith, length-take k input) in
+    rw (List·getD-eq-default (take k input) 0 short) (omega arith))
+    (lt-or-le i k)
+
+-- the input bits that were read, as a list
+pub judged-list : (rate : ℕ) (c x : ℕ → ℕ) (input : List ℕ) → rate < 3 → input ≡ tab (inputBits rate) x → judged rate c (λ i. getD input i 0) ≡ judged rate c x
+judged-list rate c x input h e =
+    judged-same rate c c (λ i. getD input i 0) x h (λ j l. refl) (λ i l. ap (λ (xs : List ℕ). getD xs i 0) e ∙ getD-tab (inputBits rate) x i l)
+
+pub packed-list : (rate : ℕ) (x : ℕ → ℕ) (input : List ℕ) → input ≡ tab (inputBits rate) x → packedBlock rate (λ i. getD input i 0) ≡ packedBlock rate x
+unfolding inputBits
+packed-list rate x input e =
+    packed-same rate (λ i. getD input i 0) x (λ i l. ap (λ (xs : List ℕ). getD xs i 0) e ∙ getD-tab (inputBits rate) x i (omega arith))
+
+-- and from the coded bits as a list
+pub judged-coded : (rate : ℕ) (word coded : List ℕ) → rate < 3 → coded ≡ tab wordBits (codedIn word)
+    → judged rate (λ j. getD coded j 0) (decode rate (λ j. getD coded j 0)) ≡ judged rate (codedIn word) (inputIn rate word)
+unfolding inputIn
+judged-coded rate word coded h e =
+    let c : (j : ℕ) → j < wordBits → getD coded j 0 ≡ codedIn word j = λ j l. ap (λ (xs : List ℕ). getD xs j 0) e ∙ getD-tab wordBits (codedIn word) j l in
+    judged-same rate (λ j. getD coded j 0) (codedIn word) (decode rate (λ j. getD coded j 0)) (inputIn rate word) h c
+    (λ i l. decode-same rate (λ j. getD coded j 0) (codedIn word) h c i l)
+
+pub block-coded : (rate : ℕ) (word coded : List ℕ) → rate < 3 → coded ≡ tab wordBits (codedIn word)
+    → packedBlock rate (decode rate (λ j. getD coded j 0)) ≡ blockIn rate word
+unfolding blockIn inputIn inputBits
+block-coded rate word coded h e =
+    packed-same rate (decode rate (λ j. getD coded j 0)) (inputIn rate word) (λ i l.
+    decode-same rate (λ j. getD coded j 0) (codedIn word) h (λ j k. ap (λ (xs : List ℕ). getD xs j 0) e ∙ getD-tab wordBits (codedIn word) j k) i (omega arith))

@@ -39,9 +39,11 @@ loop-less c = search needs
 
 loop-again : tie.Need-loop-again Inv-loop μ-loop
 loop-again c =
-    let l = c .before .before .loop in
-    (search needs, length-set (l .out) (l .j) (c .bit-at .result) ∙ l .inv .1,
-    fill (l .out) _ (l .j) (c .bit-at .result) (omega (arith, c .before .before .before .before .before .unpack-bytes .kept .1 .1 .0)) (c .bit-at .ensures) (l .inv .2))
+    let l = c .before .before .loop in (
+      search needs,
+      length-set (l .out) (l .j) (c .bit-at .result) ∙ l .inv .1,
+      fill (l .out) _ (l .j) (c .bit-at .result) (omega (arith, c .before .before .before .before .before .unpack-bytes .kept .1 .1 .0)) (c .bit-at .ensures) (l .inv .2),
+    )
 
 same-length : tie.Need-same-length Inv-loop μ-loop
 same-length c = c .before .loop .inv .1 ∙ c .before .before .before .before .unpack-bytes .kept .1 .1 .0

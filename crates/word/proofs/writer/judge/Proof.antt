@@ -9,45 +9,35 @@ use Rattle.word.specs.Word.Answers as Answers
 use borrow.Author.Needs.{needs}
 use Rattle.word.proofs.writer.judge.Statement.{statement}
 use Rattle.word.proofs.writer.judge.Tie as tie
-use Rattle.word.proofs.writer.judge.Reads as reads
-use Rattle.word.proofs.writer.judge.Lts as lts
-use Rattle.rates.proofs.block_bytes.Reads as block-bytes-reads
 
--- src/writer.rt:18:9
 returns : tie.Need-returns
 returns c =
     let a = c .before .before .args in
     sym (Answers.write-rate (a .rate) (a .block .now) (a .word-length) (c .if1 .taken))
 
--- src/writer.rt:20:9
 block-bytes-requires : tie.Need-block-bytes-requires
 block-bytes-requires c κs = search needs
 
--- src/writer.rt:22:9
 returns-2 : tie.Need-returns-2
 returns-2 c =
     let a = c .before .before .before .before .args in
     sym (Answers.write-block-length (a .rate) (a .block .now) (a .word-length) (omega arith) (λ e. c .if2 .taken (e ∙ sym (c .before .block-bytes .ensures))))
 
--- src/writer.rt:25:9
 returns-3 : tie.Need-returns-3
 returns-3 c =
     let a = c .before .before .before .before .before .args in
     sym (Answers.write-word-length (a .rate) (a .block .now) (a .word-length) (omega arith) (omega arith) (c .if3 .taken))
 
--- src/writer.rt:27:14
 sub-if4 : tie.Need-sub-if4
 sub-if4 c =
     let h : c .before .before .before .before .before .args .rate < 3 = omega arith in
     omega (arith, block-size (c .before .before .before .before .before .args .rate) h)
 
--- src/writer.rt:27:8
 shared-slice-read-if4 : tie.Need-shared-slice-read-if4
 shared-slice-read-if4 c =
     let h : c .before .before .before .before .before .before .args .rate < 3 = omega arith in
     omega (arith, block-size (c .before .before .before .before .before .before .args .rate) h)
 
--- src/writer.rt:28:9
 returns-4 : tie.Need-returns-4
 returns-4 c =
     let a = c .before .before .before .before .before .before .before .args in
@@ -58,7 +48,6 @@ returns-4 c =
     (Answers.spare-no (a .rate) (a .block .now) h
     (λ z. c .if4 .taken (and-mask _ 2 ∙ ap (λ (n : ℕ). getD (a .block .now) (n - 1) 0 % 4) size ∙ z))))
 
--- src/writer.rt:14:1
 returns-5 : tie.Need-returns-5
 returns-5 c =
     let a = c .before .before .before .before .before .before .before .args in

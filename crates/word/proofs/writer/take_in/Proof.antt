@@ -8,63 +8,46 @@ use Rattle.word.specs.Word.Laws.{input-made}
 use borrow.Author.Needs.{needs}
 use Rattle.word.proofs.writer.take_in.Statement.{statement}
 use Rattle.word.proofs.writer.take_in.Tie as tie
-use Rattle.word.proofs.writer.take_in.Reads as reads
-use Rattle.word.proofs.writer.take_in.Lts as lts
-use Rattle.bits.proofs.packing.put_number.Reads as put-number-reads
-use Rattle.bits.proofs.packing.unpack.Reads as unpack-reads
-use Rattle.crc.proofs.check.Reads as check-reads
-use Rattle.rates.proofs.info_bits.Reads as info-bits-reads
 
--- src/writer.rt:36:9
 info-bits-requires : tie.Need-info-bits-requires
 info-bits-requires c κs = search needs
 
--- src/writer.rt:37:9
 check-requires : tie.Need-check-requires
 check-requires c κs = let s = c .before .before .before in omega (arith, block-size (s .args .rate) (s .pre .rate-is))
 
--- src/writer.rt:38:5
 unpack-requires : tie.Need-unpack-requires
 unpack-requires c κs =
     let s = c .before .before .before .before .before in
     omega (arith, block-size (s .args .rate) (s .pre .rate-is), input-room (s .args .rate) (s .pre .rate-is))
 
--- src/writer.rt:39:44
 cast-put-number : tie.Need-cast-put-number
 cast-put-number c = search needs
 
--- src/writer.rt:39:5
 put-number-requires : tie.Need-put-number-requires
 put-number-requires c κs =
     let s = c .before .before .before .before .before .before .before .before .before in
     omega (arith, input-room (s .args .rate) (s .pre .rate-is), c .before .before .before .unpack .kept .1 .1 .0)
 
--- src/writer.rt:40:10
 add-room : tie.Need-add-room
 add-room c = let s = c .before .before .before .before .before .before .before .before .before .before .before .before in omega (arith, input-room (s .args .rate) (s .pre .rate-is))
 
--- src/writer.rt:40:5
 slice-write-room : tie.Need-slice-write-room
 slice-write-room c =
     let s = c .before .before .before .before .before .before .before .before .before .before .before .before in
     omega (arith, input-room (s .args .rate) (s .pre .rate-is), c .before .before .put-number .kept .0, c .before .before .before .before .before .before .unpack .kept .1 .1 .0)
 
--- src/writer.rt:41:10
 add-room-2 : tie.Need-add-room-2
 add-room-2 c = let s = c .before .before .before .before .before .before .before .before .before .before .before .before in omega (arith, input-room (s .args .rate) (s .pre .rate-is))
 
--- src/writer.rt:41:5
 slice-write-room-2 : tie.Need-slice-write-room-2
 slice-write-room-2 c =
     let s = c .before .before .before .before .before .before .before .before .before .before .before .before in
     simp length-set (omega (arith, input-room (s .args .rate) (s .pre .rate-is), c .before .before .put-number .kept .0, c .before .before .before .before .before .before .unpack .kept .1 .1 .0))
 
--- src/writer.rt:32:1
 same-length : tie.Need-same-length
 same-length c =
     simp length-set (c .before .before .put-number .kept .0 ∙ c .before .before .before .before .before .before .unpack .kept .1 .1 .0)
 
--- src/writer.rt:32:1
 returns : tie.Need-returns
 returns c =
     let s = c .before .before .before .before .before .before .before .before .before .before .before .before in

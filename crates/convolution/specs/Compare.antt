@@ -1,0 +1,53 @@
+-- Comparing two lists of bits: stretches that agree, told by the differences joined with `bitOr`.
+use mathlib.Core.Path.{_≡_, sym, ap, _∙_}
+use mathlib.Core.Bool.{Bool, true}
+use mathlib.Core.List.{List}
+use mathlib.Core.Logic.{⊎-elim}
+use Prim.Native.Nat.{ℕ, _+_, _≤_, _<_}
+use native.Mathlib.Omega.{arith}
+use lib.Bits.{bitOr, bitXor, or-add-and, and-le-l, and-le-r}
+use lib.Dec.{eqb}
+use lib.ListN.{length, getD}
+use borrow.Author.Tests.{eq-eqb}
+use Rattle.bits.specs.Choice.{lt-or-le}
+use Rattle.bits.specs.First.{upTo, first-same}
+use Rattle.bits.specs.Sum.{same-xor}
+use Rattle.bits.specs.Table.{tab, getD-tab}
+
+-- place j holds the same in both
+abbrev pub sameAt : List ℕ → List ℕ → ℕ → Bool
+sameAt made coded j = eqb (getD coded j 0) (getD made j 0)
+
+-- and so do the n places from i on
+abbrev pub Same : List ℕ → List ℕ → ℕ → ℕ → Type 0
+Same made coded i n = (k : ℕ) → i ≤ k → k < i + n → sameAt made coded k ≡ true
+
+-- two lists of coded bits
+pub record Both (made coded : List ℕ) : Type 0 where
+  pub made-size : length made ≡ 15120
+  pub coded-size : length coded ≡ 15120
+
+or-zero : (a b : ℕ) → bitOr a b ≡ 0 → (a ≡ 0) × (b ≡ 0)
+or-zero a b e = omega (arith, or-add-and a b, and-le-l a b, and-le-r a b)
+
+pub same-none : (made coded : List ℕ) (i : ℕ) → Same made coded i 0
+same-none made coded i k l h = absurd (omega arith)
+
+-- one place more: no difference so far, and none there
+pub same-on : (made coded : List ℕ) (i n d : ℕ) → (d ≡ 0 → Same made coded i n)
+    → bitOr d (bitXor (getD coded (i + n) 0) (getD made (i + n) 0)) ≡ 0 → Same made coded i (n + 1)
+same-on made coded i n d before e k l h =
+    let z = or-zero d (bitXor (getD coded (i + n) 0) (getD made (i + n) 0)) e in
+    ⊎-elim
+    (λ (b : k < i + n). before (z .0) k l b)
+    (λ (b : i + n ≤ k).
+    let q : i + n ≡ k = omega arith in
+    let s : getD coded (i + n) 0 ≡ getD made (i + n) 0 = same-xor (getD coded (i + n) 0) (getD made (i + n) 0) (z .1) in
+    ap (sameAt made coded) (sym q) ∙ eq-eqb (getD coded (i + n) 0) (getD made (i + n) 0) s)
+    (lt-or-le k (i + n))
+
+-- where one list is made by a function, the comparison is with its values
+pub same-made : (f : ℕ → ℕ) (made coded : List ℕ) → made ≡ tab 15120 f → upTo (sameAt made coded) 0 15120 ≡ upTo (λ j. eqb (getD coded j 0) (f j)) 0 15120
+same-made f made coded e =
+    first-same (sameAt made coded) (λ j. eqb (getD coded j 0) (f j)) 15120 (λ k l.
+    ap (eqb (getD coded k 0)) (ap (λ (xs : List ℕ). getD xs k 0) e ∙ getD-tab 15120 f k l))

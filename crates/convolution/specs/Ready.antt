@@ -1,0 +1,77 @@
+-- What the functions on input bits and coded bits ask of their callers.
+use mathlib.Core.Path.{_≡_, ap, _∙_}
+use mathlib.Core.List.{List}
+use Prim.Native.Nat.{ℕ, _*_, _≤_, _<_}
+use native.Mathlib.Omega.{arith}
+use lib.ListN.{length, getD}
+use Rattle.rates.specs.Rate.{infoBits, inputBits}
+
+-- the input bits at a rate, and room for their coded bits or coded bits to be compared with them
+pub record Encodes (rate : ℕ) (input coded : List ℕ) : Type 0 where
+  pub rate-ok : rate < 3
+  pub input-size : length input ≡ inputBits rate
+  pub input-bits : (i : ℕ) → getD input i 0 < 2
+  pub coded-size : length coded ≡ 15120
+
+-- coded bits, and room for the input bits at a rate
+pub record Decodes (rate : ℕ) (coded input : List ℕ) : Type 0 where
+  pub rate-ok : rate < 3
+  pub coded-size : length coded ≡ 15120
+  pub coded-bits : (j : ℕ) → getD coded j 0 < 2
+  pub input-size : length input ≡ inputBits rate
+
+-- the same, at the rates with three coded bits to a turn, of one input bit or two
+pub record Threes (per : ℕ) (input coded : List ℕ) : Type 0 where
+  pub low : 1 ≤ per
+  pub high : per ≤ 2
+  pub input-size : length input ≡ 5040 * per
+  pub coded-size : length coded ≡ 15120
+
+-- and with two, of one input bit
+pub record Twos (input coded : List ℕ) : Type 0 where
+  pub input-size : length input ≡ 7560
+  pub coded-size : length coded ≡ 15120
+
+-- coded bits with a second output every `step` places, and room for the n input bits
+pub record Steps (step n : ℕ) (coded input : List ℕ) : Type 0 where
+  pub low : 2 ≤ step
+  pub high : step ≤ 3
+  pub all : step * n ≡ 15120
+  pub coded-size : length coded ≡ 15120
+  pub input-size : length input ≡ n
+
+-- coded bits with two second outputs in a row
+pub record Pairs (coded input : List ℕ) : Type 0 where
+  pub coded-size : length coded ≡ 15120
+  pub input-size : length input ≡ 10080
+
+-- what each rate hands on
+module _ (rate : ℕ) (input coded : List ℕ) (h : Encodes rate input coded) where
+  pub encodes-third : rate ≡ 0 → Threes 1 input coded
+  unfolding inputBits infoBits
+  encodes-third e =
+      record { low = omega arith; high = omega arith; input-size = h .input-size ∙ ap inputBits e; coded-size = h .coded-size }
+
+  pub encodes-half : rate ≡ 1 → Twos input coded
+  unfolding inputBits infoBits
+  encodes-half e = record { input-size = h .input-size ∙ ap inputBits e; coded-size = h .coded-size }
+
+  pub encodes-two-thirds : rate ≡ 2 → Threes 2 input coded
+  unfolding inputBits infoBits
+  encodes-two-thirds e =
+      record { low = omega arith; high = omega arith; input-size = h .input-size ∙ ap inputBits e; coded-size = h .coded-size }
+
+module _ (rate : ℕ) (coded input : List ℕ) (h : Decodes rate coded input) where
+  pub decodes-third : rate ≡ 0 → Steps 3 5040 coded input
+  unfolding inputBits infoBits
+  decodes-third e =
+      record { low = omega arith; high = omega arith; all = omega arith; coded-size = h .coded-size; input-size = h .input-size ∙ ap inputBits e }
+
+  pub decodes-half : rate ≡ 1 → Steps 2 7560 coded input
+  unfolding inputBits infoBits
+  decodes-half e =
+      record { low = omega arith; high = omega arith; all = omega arith; coded-size = h .coded-size; input-size = h .input-size ∙ ap inputBits e }
+
+  pub decodes-two-thirds : rate ≡ 2 → Pairs coded input
+  unfolding inputBits infoBits
+  decodes-two-thirds e = record { coded-size = h .coded-size; input-size = h .input-size ∙ ap inputBits e }

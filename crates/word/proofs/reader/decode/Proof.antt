@@ -1,0 +1,69 @@
+-- The coded bits are taken out of a copy of the word, and the block is read from them.
+use mathlib.Core.Path.{_≡_, refl, sym, ap, _∙_}
+use mathlib.Core.List.{List}
+use Prim.Native.Nat.{ℕ}
+use lib.ListN.{length, getD}
+use Rattle.bits.specs.Table.{tab, length-tab, tab-bits}
+use Rattle.word.specs.Answer.{afterRead}
+use Rattle.word.specs.Word.{codedIn}
+use Rattle.word.specs.Word.Laws.{coded-in-bits, judged-coded, block-coded}
+use borrow.Author.Needs.{needs}
+use Rattle.word.proofs.reader.decode.Statement.{statement}
+use Rattle.word.proofs.reader.decode.Tie as tie
+
+slice-aggregate-take-out : tie.Need-slice-aggregate-take-out
+slice-aggregate-take-out c = search needs
+
+slice-aggregate-take-out-2 : tie.Need-slice-aggregate-take-out-2
+slice-aggregate-take-out-2 c = search needs
+
+take-out-requires : tie.Need-take-out-requires
+take-out-requires c κs = search needs
+
+slice-aggregate-read-coded : tie.Need-slice-aggregate-read-coded
+slice-aggregate-read-coded c = search needs
+
+slice-aggregate-read-coded-2 : tie.Need-slice-aggregate-read-coded-2
+slice-aggregate-read-coded-2 c = search needs
+
+slice-aggregate-read-coded-3 : tie.Need-slice-aggregate-read-coded-3
+slice-aggregate-read-coded-3 c = search needs
+
+read-coded-requires : tie.Need-read-coded-requires
+read-coded-requires c κs =
+    let s = c .before .before .before .before .before .before .before .before .before .before .before in
+    let e = c .before .before .before .before .before .before .take-out .ensures in
+    record {
+      rate-is = s .pre .rate-is;
+      coded-is = ap length e ∙ length-tab 15120 (codedIn (s .args .word .now));
+      bits-are = λ i. rw e (tab-bits 15120 (codedIn (s .args .word .now)) (coded-in-bits (s .args .word .now)) i);
+      room-is = refl;
+      packed-is = refl;
+      block-is = s .pre .block-is;
+    }
+
+same-length : tie.Need-same-length
+same-length c = search needs
+
+returns : tie.Need-returns
+returns c =
+    let s = c .before .before .before .before .before .before .before .before .before .before .before .before .before .before .before .before in
+    let e = c .before .before .before .before .before .before .before .before .before .before .before .take-out .ensures in
+    let t = c .before .before .before .before .read-coded in (
+      t .ensures .0 ∙ judged-coded (s .args .rate) (s .args .word .now) _ (s .pre .rate-is) e,
+      t .ensures .1 ∙ ap (λ (b : List ℕ). afterRead (t .result) b (s .args .block .now)) (block-coded (s .args .rate) (s .args .word .now) _ (s .pre .rate-is) e),
+    )
+
+pub decode-spec : {M : Type 1} → statement M
+decode-spec =
+    tie.close
+    (tie.spec
+    slice-aggregate-take-out
+    slice-aggregate-take-out-2
+    take-out-requires
+    slice-aggregate-read-coded
+    slice-aggregate-read-coded-2
+    slice-aggregate-read-coded-3
+    read-coded-requires
+    same-length
+    returns)

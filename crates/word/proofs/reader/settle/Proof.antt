@@ -1,0 +1,94 @@
+-- The input bits are packed aside and judged; the block is copied from there on acceptance, and otherwise left alone.
+use mathlib.Core.Path.{_≡_, refl, sym, ap, _∙_}
+use mathlib.Core.List.{List}
+use Prim.Native.Nat.{ℕ, _≤_, _<_}
+use native.Mathlib.Omega.{arith}
+use lib.ListN.{length, take, getD}
+use lib.Seq.{length-take-le}
+use Rattle.bits.specs.Table.{copied}
+use Rattle.rates.specs.Rate.{infoBits, inputBits, block-room}
+use Rattle.word.specs.Answer.{afterRead}
+use Rattle.word.specs.Word.{packedBlock}
+use Rattle.word.specs.Word.Laws.{packed-made, front-bits}
+use Rattle.word.proofs.Kept.{read-kept}
+use Rattle.word.specs.declared.ReadAnswer.the-variants as R
+use borrow.Author.Needs.{needs}
+use Rattle.word.proofs.reader.settle.Statement.{statement}
+use Rattle.word.proofs.reader.settle.Tie as tie
+
+info-bits-requires : tie.Need-info-bits-requires
+info-bits-requires c κs = search needs
+
+slice-aggregate-pack : tie.Need-slice-aggregate-pack
+unfolding inputBits
+slice-aggregate-pack c =
+    let s = c .before .before .before .before .before .before in
+    sym (length-take-le _ _ (omega (arith, c .before .info-bits .ensures, s .pre .input-is)))
+
+pack-requires : tie.Need-pack-requires
+pack-requires c κs =
+    let s = c .before .before .before .before .before .before .before in
+    (omega (arith, s .pre .packed-is, block-room (s .args .rate) (s .pre .rate-is)), front-bits (s .args .input .now) (c .before .before .info-bits .result) (s .pre .input-bits))
+
+judge-requires : tie.Need-judge-requires
+judge-requires c κs =
+    let s = c .before .before .before .before .before .before .before .before .before .before .before in
+    record {
+      rate-is = s .pre .rate-is;
+      coded-is = s .pre .coded-is;
+      coded-bits = s .pre .coded-bits;
+      input-is = s .pre .input-is;
+      input-bits = s .pre .input-bits;
+      block-is = c .before .before .before .pack .ensures
+          ∙ packed-made (s .args .rate) (s .args .input .now) (length (s .args .packed .now)) _ (s .pre .packed-is) (c .before .before .before .before .before .before .info-bits .ensures);
+    }
+
+enum-told : tie.Need-enum-told
+enum-told c = search needs
+
+same-length : tie.Need-same-length
+same-length c = search needs
+
+returns : tie.Need-returns
+returns c = (c .before .judge .ensures, read-kept (c .before .judge .result) _ _ (c .match .keys2))
+
+copy-requires : tie.Need-copy-requires
+copy-requires c κs = search needs
+
+same-length-2 : tie.Need-same-length-2
+same-length-2 c = search needs
+
+same-length-3 : tie.Need-same-length-3
+same-length-3 c = search needs
+
+returns-2 : tie.Need-returns-2
+returns-2 c =
+    let j = c .before .before .before .before .before .before .before in
+    let s = j .before .before .before .before .before .before .before .before .before .before .before .before in
+    let p = j .before .before .before .before in
+    let x : ℕ → ℕ = λ i. getD (s .args .input .now) i 0 in
+    let packed : p .pack .last .1 .0 ≡ packedBlock (s .args .rate) x =
+    p .pack .ensures ∙ packed-made (s .args .rate) (s .args .input .now) (length (s .args .packed .now)) _ (s .pre .packed-is) (p .before .before .before .info-bits .ensures) in
+    let done : j .judge .result ≡ R.Block = c .before .before .before .before .before .enum-told .given .1 in (
+      j .judge .ensures,
+      c .before .before .copy .ensures .1
+          ∙ copied (p .pack .last .1 .0) (s .args .block .now) (s .pre .block-is ∙ sym (s .pre .packed-is) ∙ sym (p .pack .kept .1 .0))
+          ∙ packed
+          ∙ ap (λ (a : _). afterRead a (packedBlock (s .args .rate) x) (s .args .block .now)) (sym done),
+    )
+
+pub settle-spec : {M : Type 1} → statement M
+settle-spec =
+    tie.close
+    (tie.spec
+    info-bits-requires
+    slice-aggregate-pack
+    pack-requires
+    judge-requires
+    enum-told
+    same-length
+    returns
+    copy-requires
+    same-length-2
+    same-length-3
+    returns-2)

@@ -1,0 +1,80 @@
+-- The front of the room holds the input bits, and the code makes the coded bits of them.
+use mathlib.Core.Path.{_≡_, sym, ap, _∙_}
+use mathlib.Core.List.{List}
+use Prim.Native.Nat.{ℕ, _≤_, _<_}
+use native.Mathlib.Omega.{arith}
+use lib.ListN.{length, take, getD}
+use lib.Seq.{length-take-le}
+use Rattle.bits.specs.Table.{tab, length-tab, tab-bits, front-made}
+use Rattle.rates.specs.Rate.{inputBits, input-room}
+use Rattle.convolution.specs.Ready.{Encodes}
+use Rattle.word.specs.Word.{inputOf}
+use Rattle.word.specs.Word.Laws.{input-bits, coded-list}
+use borrow.Author.Needs.{needs}
+use Rattle.word.proofs.writer.encode.Statement.{statement}
+use Rattle.word.proofs.writer.encode.Tie as tie
+
+-- the front of the room
+front : (s : tie.Start) (xs : List ℕ) (n : ℕ) → n ≡ inputBits (s .args .rate) → length xs ≡ length (s .args .room .now)
+    → ((i : ℕ) → i < inputBits (s .args .rate) → getD xs i 0 ≡ inputOf (s .args .rate) (s .args .block .now) i)
+    → take n xs ≡ tab (inputBits (s .args .rate)) (inputOf (s .args .rate) (s .args .block .now))
+unfolding inputBits
+front s xs n en el h =
+    ap (λ (m : ℕ). take m xs) en
+    ∙ front-made (inputBits (s .args .rate)) (inputOf (s .args .rate) (s .args .block .now)) xs
+    (omega (arith, input-room (s .args .rate) (s .pre .rate-is), s .pre .room-is)) h
+
+input-bits-requires : tie.Need-input-bits-requires
+input-bits-requires c κs = search needs
+
+take-in-requires : tie.Need-take-in-requires
+take-in-requires c κs = search needs
+
+slice-reshare-prefix-encode : tie.Need-slice-reshare-prefix-encode
+unfolding inputBits
+slice-reshare-prefix-encode c =
+    let s = c .before .before .before .before .before .before .before .before in
+    omega (arith, input-room (s .args .rate) (s .pre .rate-is), c .before .before .take-in .kept .1 .1 .0, s .pre .room-is, c .before .before .before .before .input-bits .ensures)
+
+slice-aggregate-encode : tie.Need-slice-aggregate-encode
+unfolding inputBits
+slice-aggregate-encode c =
+    let s = c .before .before .before .before .before .before .before .before .before in
+    sym (length-take-le _ _ (omega (arith, input-room (s .args .rate) (s .pre .rate-is), c .before .before .before .take-in .kept .1 .1 .0, s .pre .room-is, c .before .before .before .before .before .input-bits .ensures)))
+
+encode-requires : tie.Need-encode-requires
+encode-requires c κs =
+    let s = c .before .before .before .before .before .before .before .before .before .before in
+    let e = front s (c .before .before .before .before .take-in .last .1 .1 .0) _ (c .before .before .before .before .before .before .input-bits .ensures) (c .before .before .before .before .take-in .kept .1 .1 .0) (c .before .before .before .before .take-in .ensures) in
+    record {
+      rate-ok = s .pre .rate-is;
+      input-size = ap length e ∙ length-tab (inputBits (s .args .rate)) (inputOf (s .args .rate) (s .args .block .now));
+      input-bits = λ i. rw e (tab-bits (inputBits (s .args .rate)) (inputOf (s .args .rate) (s .args .block .now)) (input-bits (s .args .rate) (s .args .block .now)) i);
+      coded-size = s .pre .coded-is;
+    }
+
+same-length : tie.Need-same-length
+same-length c = search needs
+
+same-length-2 : tie.Need-same-length-2
+same-length-2 c = search needs
+
+returns : tie.Need-returns
+returns c =
+    let s = c .before .before .before .before .before .before .before .before .before .before .before .before .before in
+    let t = c .before .before .before .before .before .before .before in
+    let e = front s (t .take-in .last .1 .1 .0) _ (t .before .before .input-bits .ensures) (t .take-in .kept .1 .1 .0) (t .take-in .ensures) in
+    c .before .before .encode .ensures ∙ coded-list (s .args .rate) (s .args .block .now) _ (s .pre .rate-is) e
+
+pub encode-spec : {M : Type 1} → statement M
+encode-spec =
+    tie.close
+    (tie.spec
+    input-bits-requires
+    take-in-requires
+    slice-reshare-prefix-encode
+    slice-aggregate-encode
+    encode-requires
+    same-length
+    same-length-2
+    returns)
