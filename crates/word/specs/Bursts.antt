@@ -26,11 +26,15 @@ encode-zeros rate j = encode-plus rate (λ i. 0) (λ i. 0) j ∙ xor-self (encod
 accumulate-zeros : (j : ℕ) → accumulate (λ i. 0) j ≡ 0
 accumulate-zeros j = accumulate-plus (λ i. 0) (λ i. 0) j ∙ xor-self (accumulate (λ i. 0) j)
 
--- bits within 18 places, the accumulator undone: within 19
-abbrev Inside : (ℕ → ℕ) → ℕ → Type 0
-Inside e start = (j : ℕ) → j < wordBits → e j ≡ 1 → (start ≤ j) × (j < start + 18)
+-- the longest burst that is always found
+abbrev pub burst : ℕ
+burst = 18
 
-spread : (e : ℕ → ℕ) (start : ℕ) → Bits e → Inside e start → (j : ℕ) → j < wordBits → differentiate e j ≡ 1 → (start ≤ j) × (j < start + 19)
+-- bits within a burst; with the accumulator undone, within one place more
+abbrev Inside : (ℕ → ℕ) → ℕ → Type 0
+Inside e start = (j : ℕ) → j < wordBits → e j ≡ 1 → (start ≤ j) × (j < start + burst)
+
+spread : (e : ℕ → ℕ) (start : ℕ) → Bits e → Inside e start → (j : ℕ) → j < wordBits → differentiate e j ≡ 1 → (start ≤ j) × (j < start + (burst + 1))
 unfolding differentiate
 spread e start b h zero l one = let r = h 0 l one in omega arith
 spread e start b h (suc j) l one =
@@ -43,7 +47,7 @@ spread e start b h (suc j) l one =
 
 -- places that came from neighbours are not near each other
 apart : (p d j k start : ℕ) → 1 ≤ d → d ≤ 2 → p % 210 ≡ 11 * j % 210 → (p + d) % 210 ≡ 11 * k % 210
-    → start ≤ j → j < start + 19 → start ≤ k → k < start + 19 → ⊥
+    → start ≤ j → j < start + (burst + 1) → start ≤ k → k < start + (burst + 1) → ⊥
 apart p d j k start d1 d2 ej ek j1 j2 k1 k2 =
     let a : ℕ = 11 * j / 210 + (p + d) / 210 in
     let b : ℕ = p / 210 + 11 * k / 210 in

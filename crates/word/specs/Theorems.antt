@@ -22,7 +22,7 @@ use Rattle.convolution.specs.Near.{Near, near}
 use Rattle.interleaver.specs.Interleaver.{wordBits, place, placeBack, deinterleave, place-back, back-place, back-lt, place-lt, place-mod, taken-from}
 use Rattle.accumulator.specs.Accumulator.{accumulate, differentiate, accumulate-same, accumulate-differentiate, accumulate-plus}
 use Rattle.word.specs.Answer.{readNumber}
-use Rattle.word.specs.Bursts.{no-code}
+use Rattle.word.specs.Bursts.{burst, no-code}
 use Rattle.word.specs.Word.{wordBytes, inputOf, codedOf, wordOf, blockIn, codedIn, inputIn, writeSays, readSays, firstWrong, endsInZeros}
 use Rattle.word.specs.Word.Laws.{Packed}
 use Rattle.word.specs.Word.Laws as Laws
@@ -127,12 +127,12 @@ unfoldable pub flipped : (ℕ → Bool) → List ℕ → List ℕ
 flipped flips word = bytesOf wordBytes (λ j. bitXor (bitAt word j) (bool (flips j)))
 
 -- none of the set's bits lies outside the 18 bits start, start + 1, .. start + 17
-abbrev pub Within18 : (ℕ → Bool) → ℕ → Type 0
-Within18 flips start = (j : ℕ) → j < wordBits → flips j ≡ true → (start ≤ j) × (j < start + 18)
+abbrev pub WithinBurst : (ℕ → Bool) → ℕ → Type 0
+WithinBurst flips start = (j : ℕ) → j < wordBits → flips j ≡ true → (start ≤ j) × (j < start + burst)
 
 -- One or more flipped bits within 18 consecutive ones: the reader says 13 or 14, or 8 where the slice for the block has another length.
 pub flips-found : (rate : ℕ) (block : List ℕ) → Bytes block → writeSays rate block wordBytes ≡ W.Written
-    → (flips : ℕ → Bool) (start : ℕ) → Within18 flips start → (i : ℕ) → i < wordBits → flips i ≡ true
+    → (flips : ℕ → Bool) (start : ℕ) → WithinBurst flips start → (i : ℕ) → i < wordBits → flips i ≡ true
     → (n : ℕ)
     → (n ≡ blockBytes rate → (readNumber (readSays rate (flipped flips (wordOf rate block)) n) ≡ 13) ⊎ (readNumber (readSays rate (flipped flips (wordOf rate block)) n) ≡ 14))
     × ((n ≡ blockBytes rate → ⊥) → readNumber (readSays rate (flipped flips (wordOf rate block)) n) ≡ 8)
