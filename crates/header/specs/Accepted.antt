@@ -1,0 +1,225 @@
+-- What the loops over the marker symbols keep, and what an accepted header with its marker symbols is known to be.
+use mathlib.Core.Path.{_≡_, refl, sym, ap, ap₂, _∙_}
+use mathlib.Core.Bool.{Bool, true, false}
+use mathlib.Core.List.{List}
+use mathlib.Core.Logic.{⊎-elim}
+use Prim.Native.Nat.{ℕ, _+_, _≤_, _<_}
+use native.Mathlib.Omega.{arith}
+use native.Mathlib.Nat.{min-le-left, min-le-right, min-eq-right}
+use lib.Dec.{ltb, eqb}
+use lib.ListN.{length, getD, set}
+use lib.Seq.{getD-set-same, getD-set-other}
+use borrow.Author.Tests.{ltb-true, eqb-true, le-ltb, eq-eqb, ne-eqb}
+use Rattle.bits.specs.Choice.{lt-or-le, eq-or-ne}
+use Rattle.bits.specs.First.{upTo, none-fails, first-here, first-end, first-same}
+use Rattle.bits.specs.Pack.{Bytes, cut, cut-in, cut-past}
+use Rattle.bits.specs.Table.{tab, length-tab, getD-tab, getD-tab-past, tab-made}
+use Rattle.header.specs.Header.{fieldsOf, headerOf}
+use Rattle.header.specs.Layout.{made-read}
+use Rattle.header.specs.Quantities.{pulseOrder}
+use Rattle.header.specs.Questions.{headerNumber, ask, headerSays}
+use Rattle.header.specs.Valid.{Valid, GoodHeader, ask-good, header-good}
+use Rattle.header.specs.Shape.{order-least}
+use Rattle.header.specs.Marks.{lentMarks, below, allUnder, marksGood, andThen, runSays, parametersOf, noParameters, checkedOf, checked}
+use Rattle.header.specs.declared.Fields.{Fields}
+use Rattle.header.specs.declared.Parameters.{Parameters}
+use Rattle.header.specs.declared.Checked.{Checked}
+use Rattle.header.specs.declared.HeaderAnswer.{HeaderAnswer}
+use Rattle.header.specs.declared.HeaderAnswer.the-variants.{Good, BadHeader, BadRate, BadOrder, BadRows, BadSpread, BadFrames, BadMarkers}
+
+pub lent-le : (f : Fields) (marker : List ℕ) → lentMarks f marker ≤ length marker
+unfolding lentMarks
+lent-le f marker = min-le-left (length marker) (f .markers)
+
+pub lent-most : (f : Fields) (marker : List ℕ) → lentMarks f marker ≤ f .markers
+unfolding lentMarks
+lent-most f marker = min-le-right (length marker) (f .markers)
+
+-- a slice of the right length is carried whole
+pub lent-all : (f : Fields) (marker : List ℕ) → length marker ≡ f .markers → lentMarks f marker ≡ f .markers
+unfolding lentMarks
+lent-all f marker e = rw e (min-eq-right (omega arith))
+
+-- a symbol that is not below M is found wherever it stands, in a short slice too
+pub mark-bad : (f : Fields) (marker : List ℕ) (i : ℕ) → i < lentMarks f marker → pulseOrder f ≤ getD marker i 0 → marksGood f marker ≡ false
+unfolding marksGood
+mark-bad f marker i l h =
+    ne-eqb (upTo test 0 n) n (λ e. let b : getD marker i 0 < pulseOrder f = ltb-true (getD marker i 0) (pulseOrder f) (none-fails test n e i l) in omega arith)
+  where
+    n : ℕ
+    n = lentMarks f marker
+
+    test : ℕ → Bool
+    test = below (pulseOrder f) marker
+
+-- and what stands past the W-th does not matter
+pub marks-same : (f : Fields) (marker other : List ℕ) → lentMarks f marker ≡ lentMarks f other
+    → ((i : ℕ) → i < lentMarks f marker → getD marker i 0 ≡ getD other i 0) → marksGood f marker ≡ marksGood f other
+unfolding marksGood
+marks-same f marker other e h =
+    ap (λ (n : ℕ). eqb n (lentMarks f marker))
+    (first-same (below (pulseOrder f) marker) (below (pulseOrder f) other) (lentMarks f marker) (λ i l. ap (λ (x : ℕ). ltb x (pulseOrder f)) (h i l)))
+    ∙ ap (λ (n : ℕ). allUnder (pulseOrder f) n other) e
+
+-- the loop over the symbols: one that is not below M, and the end
+pub under-no : (order n : ℕ) (marker : List ℕ) (i : ℕ) → i < n → order ≤ getD marker i 0 → upTo (below order marker) i n ≡ upTo (below order marker) 0 n
+    → allUnder order n marker ≡ false
+under-no order n marker i l h e =
+    let here : upTo (below order marker) 0 n ≡ i = sym e ∙ first-here (below order marker) n i l (le-ltb (getD marker i 0) order h) in
+    ne-eqb (upTo (below order marker) 0 n) n (λ q. omega arith)
+
+pub under-yes : (order n : ℕ) (marker : List ℕ) (i : ℕ) → n ≤ i → i ≤ n → upTo (below order marker) i n ≡ upTo (below order marker) 0 n → allUnder order n marker ≡ true
+under-yes order n marker i l h e = eq-eqb (upTo (below order marker) 0 n) n (sym e ∙ first-end (below order marker) n i l h)
+
+-- one symbol more is carried along
+pub cut-more : (x : ℕ → ℕ) (xs : List ℕ) (i : ℕ) → i < length xs → ((k : ℕ) → k < 32 → getD xs k 0 ≡ cut i x k)
+    → (k : ℕ) → k < 32 → getD (set xs i (x i)) k 0 ≡ cut (i + 1) x k
+cut-more x xs i l h k b =
+    ⊎-elim
+    (λ (e : k ≡ i). rw e (getD-set-same xs i (x i) 0 l ∙ sym (cut-in (i + 1) x i (omega arith))))
+    (λ (n : k ≡ i → ⊥). getD-set-other xs i k (x i) 0 n ∙ h k b ∙ ⊎-elim
+    (λ (m : k < i). cut-in i x k m ∙ sym (cut-in (i + 1) x k (omega arith)))
+    (λ (m : i ≤ k).
+    let o : i + 1 ≤ k = ⊎-elim (λ (z : k < i + 1). absurd (n (omega arith))) (λ (z : i + 1 ≤ k). z) (lt-or-le k (i + 1)) in
+    cut-past i x k m ∙ sym (cut-past (i + 1) x k o))
+    (lt-or-le k i))
+    (eq-or-ne k i)
+
+pub parameters-same : (f : Fields) (marker marks : List ℕ) (n : ℕ) → length marks ≡ 32 → n ≡ lentMarks f marker
+    → ((k : ℕ) → k < 32 → getD marks k 0 ≡ cut (lentMarks f marker) (λ i. getD marker i 0) k)
+    → _≡_ {A = Parameters} (record { fields = f; marks = marks; count = n }) (parametersOf f marker)
+unfolding parametersOf
+parameters-same f marker marks n e en h =
+    ap₂ (λ (m : List ℕ) (c : ℕ). record { fields = f; marks = m; count = c }) (tab-made 32 (cut (lentMarks f marker) (λ i. getD marker i 0)) marks e h) en
+
+-- ---- the three ways out of a check
+
+module _ (header marker : List ℕ) where
+  -- a header that is turned away: its own answer
+  pub checked-header : (a : HeaderAnswer) → a ≡ headerSays header → (a ≡ Good → ⊥) → (none : Parameters) → none ≡ noParameters
+      → _≡_ {A = Checked} (record { answer = a; parameters = none }) (checked header marker)
+  unfolding checked checkedOf runSays
+  checked-header a e n none en = cases a e n
+    where
+      rest : HeaderAnswer
+      rest = ask (marksGood (fieldsOf header) marker) BadMarkers Good
+
+      p : Parameters
+      p = parametersOf (fieldsOf header) marker
+
+      that : (a : HeaderAnswer) → a ≡ headerSays header → checkedOf (andThen a rest) p ≡ checked header marker
+      that a e = ap (λ (b : HeaderAnswer). checkedOf (andThen b rest) p) e
+
+      same : (a : HeaderAnswer) → _≡_ {A = Checked} (record { answer = a; parameters = none }) (record { answer = a; parameters = noParameters })
+      same a = ap (λ (q : Parameters). record { answer = a; parameters = q }) en
+
+      cases : (a : HeaderAnswer) → a ≡ headerSays header → (a ≡ Good → ⊥) → _≡_ {A = Checked} (record { answer = a; parameters = none }) (checked header marker)
+      cases Good e n = absurd (n refl)
+      cases BadHeader e n = same BadHeader ∙ that BadHeader e
+      cases BadRate e n = same BadRate ∙ that BadRate e
+      cases BadOrder e n = same BadOrder ∙ that BadOrder e
+      cases BadRows e n = same BadRows ∙ that BadRows e
+      cases BadSpread e n = same BadSpread ∙ that BadSpread e
+      cases BadFrames e n = same BadFrames ∙ that BadFrames e
+      cases BadMarkers e n = same BadMarkers ∙ that BadMarkers e
+
+  -- a marker symbol that is not below M
+  pub checked-marks : headerSays header ≡ Good → marksGood (fieldsOf header) marker ≡ false → (none : Parameters) → none ≡ noParameters
+      → _≡_ {A = Checked} (record { answer = BadMarkers; parameters = none }) (checked header marker)
+  unfolding checked checkedOf runSays
+  checked-marks g b none en = ap (λ (q : Parameters). record { answer = BadMarkers; parameters = q }) en ∙ sym (rw (g, b) refl)
+
+  -- acceptance
+  pub checked-good : headerSays header ≡ Good → marksGood (fieldsOf header) marker ≡ true → (p : Parameters) → p ≡ parametersOf (fieldsOf header) marker
+      → _≡_ {A = Checked} (record { answer = Good; parameters = p }) (checked header marker)
+  unfolding checked checkedOf runSays
+  checked-good g b p e = ap (λ (q : Parameters). record { answer = Good; parameters = q }) e ∙ sym (rw (g, b) refl)
+
+-- ---- what acceptance gives
+
+-- an accepted call: the header is good, and the marker symbols that were looked at are below M
+pub run-good : (header marker : List ℕ) → runSays header marker ≡ Good → (headerSays header ≡ Good) × (marksGood (fieldsOf header) marker ≡ true)
+unfolding runSays
+run-good header marker e = cases (headerSays header) refl e
+  where
+    rest : HeaderAnswer
+    rest = ask (marksGood (fieldsOf header) marker) BadMarkers Good
+
+    never : (a : HeaderAnswer) → a ≡ Good → 1 ≤ headerNumber a → ⊥
+    never a q l = let z : headerNumber a ≡ 0 = ap headerNumber q in omega arith
+
+    cases : (a : HeaderAnswer) → headerSays header ≡ a → andThen a rest ≡ Good → (headerSays header ≡ Good) × (marksGood (fieldsOf header) marker ≡ true)
+    cases Good q r = (q, ask-good (marksGood (fieldsOf header) marker) BadMarkers Good (omega arith) r .0)
+    cases BadHeader q r = absurd (never BadHeader r (omega arith))
+    cases BadRate q r = absurd (never BadRate r (omega arith))
+    cases BadOrder q r = absurd (never BadOrder r (omega arith))
+    cases BadRows q r = absurd (never BadRows r (omega arith))
+    cases BadSpread q r = absurd (never BadSpread r (omega arith))
+    cases BadFrames q r = absurd (never BadFrames r (omega arith))
+    cases BadMarkers q r = absurd (never BadMarkers r (omega arith))
+
+-- the checked parameters: 32 bytes, the lent symbols first, zeros behind them, all below M
+pub record CarriesMarks (f : Fields) (marker : List ℕ) (p : Parameters) : Type 0 where
+  pub fields : p .fields ≡ f
+  pub long : length (p .marks) ≡ 32
+  pub count : p .count ≡ lentMarks f marker
+  pub lent : (i : ℕ) → i < lentMarks f marker → getD (p .marks) i 0 ≡ getD marker i 0
+  pub behind : (i : ℕ) → lentMarks f marker ≤ i → getD (p .marks) i 0 ≡ 0
+  pub below : (i : ℕ) → getD (p .marks) i 0 < pulseOrder f
+
+pub carries-marks : (f : Fields) → Valid f → (marker : List ℕ) → marksGood f marker ≡ true → CarriesMarks f marker (parametersOf f marker)
+unfolding parametersOf marksGood
+carries-marks f v marker g = record {
+  fields = refl;
+  long = length-tab 32 x;
+  count = refl;
+  lent = inside;
+  behind = outside;
+  below = λ i. ⊎-elim
+      (λ (l : i < n). rw (inside i l) (ltb-true (getD marker i 0) (pulseOrder f)
+      (none-fails (below (pulseOrder f) marker) n (eqb-true (upTo (below (pulseOrder f) marker) 0 n) n g) i l)))
+      (λ (l : n ≤ i). rw (outside i l) (let m = order-least f (v .shaped) in omega arith))
+      (lt-or-le i n);
+}
+  where
+    n : ℕ
+    n = lentMarks f marker
+
+    x : ℕ → ℕ
+    x = cut n (λ i. getD marker i 0)
+
+    inside : (i : ℕ) → i < n → getD (tab 32 x) i 0 ≡ getD marker i 0
+    inside i l =
+        let a = lent-most f marker in
+        let b = v .markers-most in
+        getD-tab 32 x i (omega arith) ∙ cut-in n (λ i. getD marker i 0) i l
+
+    outside : (i : ℕ) → n ≤ i → getD (tab 32 x) i 0 ≡ 0
+    outside i l =
+        ⊎-elim (λ (m : i < 32). getD-tab 32 x i m ∙ cut-past n (λ i. getD marker i 0) i l) (λ (m : 32 ≤ i). getD-tab-past 32 x i m) (lt-or-le i 32)
+
+-- an accepted call, whole
+pub record Accepted (header marker : List ℕ) : Type 0 where
+  pub header-is : GoodHeader header
+  pub carries : CarriesMarks (fieldsOf header) marker (checked header marker .parameters)
+
+pub check-accepted : (header marker : List ℕ) → checked header marker .answer ≡ Good → Accepted header marker
+unfolding checked checkedOf
+check-accepted header marker e =
+    let r = run-good header marker e in
+    let g = header-good header (r .0) in
+    let p : checked header marker .parameters ≡ parametersOf (fieldsOf header) marker =
+    ap (λ (a : HeaderAnswer). checkedOf a (parametersOf (fieldsOf header) marker) .parameters) e in
+    record {
+      header-is = g;
+      carries = rw p (carries-marks (fieldsOf header) (g .valid) marker (r .1));
+    }
+
+-- the answer is that of the questions
+pub check-answer : (header marker : List ℕ) → checked header marker .answer ≡ runSays header marker
+unfolding checked checkedOf
+check-answer header marker = refl
+
+-- a good header is the one that its fields make
+pub good-made : (header : List ℕ) → Bytes header → headerSays header ≡ Good → headerOf (fieldsOf header) ≡ header
+good-made header b e = let g = header-good header e in made-read header (g .long) b (g .spare)

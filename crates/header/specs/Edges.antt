@@ -1,0 +1,75 @@
+-- Document 01's example and its edges, which antt computes.
+use mathlib.Core.Path.{_≡_, refl}
+use mathlib.Core.Bool.{true, false}
+use mathlib.Core.List.{List, [], _∷_}
+use Prim.Native.Nat.{ℕ}
+use Rattle.bits.specs.First.{firstFrom}
+use Rattle.bits.specs.Pack.{val, bitAt, bytesOf}
+use Rattle.bits.specs.Table.{tab}
+use Rattle.rates.specs.Rate.{infoBits}
+use Rattle.header.specs.Header.{field, fieldsOf, packed, headerOf}
+use Rattle.header.specs.Quantities.{pulseOrder, symbolsPerWord, markedBits, blockCount, spread, sequenceLength, sequenceRows, symbolCount}
+use Rattle.header.specs.Questions.{question2, question3, question4, question5, question6, question7, fieldsSay}
+use Rattle.header.specs.Marks.{lentMarks, marksGood}
+use Rattle.header.specs.declared.Fields.{Fields}
+use Rattle.header.specs.declared.HeaderAnswer.the-variants.{Good, BadSpread, BadFrames, BadMarkers}
+
+-- 59 50 F0 1B E8 02 00 00
+abbrev example : List ℕ
+example = 89 ∷ 80 ∷ 240 ∷ 27 ∷ 232 ∷ 2 ∷ 0 ∷ 0 ∷ []
+
+abbrev exampleFields : Fields
+exampleFields = record { rate = 1; bits = 6; rows = 84; step = 120; size = 223; markers = 16; frames = 2 }
+
+pub example-read : fieldsOf example ≡ exampleFields
+unfolding fieldsOf field val bitAt
+example-read = refl
+
+pub example-made : headerOf exampleFields ≡ example
+unfolding headerOf packed bytesOf tab val
+example-made = refl
+
+pub example-symbols : symbolCount exampleFields ≡ 844488
+unfolding symbolCount sequenceRows sequenceLength blockCount markedBits symbolsPerWord spread infoBits
+example-symbols = refl
+
+-- with m = 8 and N = 10
+abbrev edge : ℕ → ℕ → ℕ → Fields
+edge step size markers = record { rate = 1; bits = 8; rows = 10; step = step; size = size; markers = markers; frames = 2 }
+
+-- B = 21 passes, 20 gets 5; F = 0 gets 6; W = 32 passes, 33 gets 7
+pub step-21 : fieldsSay (edge 21 223 32) ≡ Good
+unfolding fieldsSay question2 question3 question4 question5 question6 question7 spread symbolsPerWord
+step-21 = refl
+
+pub step-20 : fieldsSay (edge 20 223 32) ≡ BadSpread
+unfolding fieldsSay question2 question3 question4 question5 spread symbolsPerWord
+step-20 = refl
+
+pub size-0 : fieldsSay (edge 21 0 32) ≡ BadFrames
+unfolding fieldsSay question2 question3 question4 question5 question6 spread symbolsPerWord
+size-0 = refl
+
+pub markers-33 : fieldsSay (edge 21 223 33) ≡ BadMarkers
+unfolding fieldsSay question2 question3 question4 question5 question6 question7 spread symbolsPerWord
+markers-33 = refl
+
+-- the marker symbols of two: 3 is below M = 4, and 4 is not; a short slice is looked at, and what stands past the W-th is not
+abbrev two : Fields
+two = record { rate = 1; bits = 2; rows = 1; step = 1; size = 1; markers = 2; frames = 1 }
+
+pub symbols-below : marksGood two (3 ∷ 0 ∷ []) ≡ true
+unfolding marksGood lentMarks pulseOrder firstFrom
+symbols-below = refl
+
+pub symbol-equal : marksGood two (0 ∷ 4 ∷ []) ≡ false
+unfolding marksGood lentMarks pulseOrder firstFrom
+symbol-equal = refl
+
+pub symbol-short : marksGood two (4 ∷ []) ≡ false
+unfolding marksGood lentMarks pulseOrder firstFrom
+symbol-short = refl
+
+pub symbol-late : marksGood two (0 ∷ 0 ∷ 4 ∷ []) ≡ true
+unfolding marksGood lentMarks pulseOrder firstFrom
+symbol-late = refl

@@ -1,0 +1,11 @@
+pub mod Parts
+pub mod Header
+pub mod Layout
+pub mod Quantities
+pub mod Questions
+pub mod Valid
+pub mod Shape
+pub mod Bounds
+pub mod Marks
+pub mod Accepted
+pub mod Edges

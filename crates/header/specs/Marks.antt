@@ -1,0 +1,80 @@
+-- The marker symbols that are lent beside a header: question 7's second part, and the checked parameters that carry them along.
+use mathlib.Core.Bool.{Bool}
+use mathlib.Core.List.{List}
+use Prim.Native.Nat.{ℕ, min}
+use lib.Dec.{ltb, eqb}
+use lib.ListN.{length, getD}
+use Rattle.bits.specs.First.{upTo}
+use Rattle.bits.specs.Pack.{cut}
+use Rattle.bits.specs.Table.{tab}
+use Rattle.header.specs.Header.{fieldsOf}
+use Rattle.header.specs.Quantities.{pulseOrder}
+use Rattle.header.specs.Questions.{ask, headerSays}
+use Rattle.header.specs.declared.Fields.{Fields}
+use Rattle.header.specs.declared.Parameters.{Parameters}
+use Rattle.header.specs.declared.Checked.{Checked}
+use Rattle.header.specs.declared.HeaderAnswer.{HeaderAnswer}
+use Rattle.header.specs.declared.HeaderAnswer.the-variants.{Good, BadHeader, BadRate, BadOrder, BadRows, BadSpread, BadFrames, BadMarkers}
+
+-- how many of the lent symbols are looked at: up to the W-th, whatever the slice's length
+unfoldable pub lentMarks : Fields → List ℕ → ℕ
+lentMarks f marker = min (length marker) (f .markers)
+
+-- whether the first n symbols are below M: none of them is the first that is not
+abbrev pub below : ℕ → List ℕ → ℕ → Bool
+below order marker i = ltb (getD marker i 0) order
+
+abbrev pub allUnder : ℕ → ℕ → List ℕ → Bool
+allUnder order n marker = eqb (upTo (below order marker) 0 n) n
+
+-- 7, its second part: is each lent marker symbol, up to the W-th, below M?
+unfoldable pub marksGood : Fields → List ℕ → Bool
+marksGood f marker = allUnder (pulseOrder f) (lentMarks f marker) marker
+
+-- what the rest says, where nothing was answered no before
+abbrev pub andThen : HeaderAnswer → HeaderAnswer → HeaderAnswer
+andThen Good rest = rest
+andThen BadHeader rest = BadHeader
+andThen BadRate rest = BadRate
+andThen BadOrder rest = BadOrder
+andThen BadRows rest = BadRows
+andThen BadSpread rest = BadSpread
+andThen BadFrames rest = BadFrames
+andThen BadMarkers rest = BadMarkers
+
+-- questions 1 to 7, put to a header and its marker symbols
+unfoldable pub runSays : List ℕ → List ℕ → HeaderAnswer
+runSays header marker = andThen (headerSays header) (ask (marksGood (fieldsOf header) marker) BadMarkers Good)
+
+-- the fields and the marker symbols, with zeros behind them
+unfoldable pub parametersOf : Fields → List ℕ → Parameters
+parametersOf f marker = record {
+  fields = f;
+  marks = tab 32 (cut (lentMarks f marker) (λ i. getD marker i 0));
+  count = lentMarks f marker;
+}
+
+-- what stands in their place on a refusal
+unfoldable pub noParameters : Parameters
+noParameters = record {
+  fields = record { rate = 0; bits = 0; rows = 0; step = 0; size = 0; markers = 0; frames = 0 };
+  marks = tab 32 (λ i. 0);
+  count = 0;
+}
+
+abbrev pub whenGood : HeaderAnswer → Parameters → Parameters → Parameters
+whenGood Good p none = p
+whenGood BadHeader p none = none
+whenGood BadRate p none = none
+whenGood BadOrder p none = none
+whenGood BadRows p none = none
+whenGood BadSpread p none = none
+whenGood BadFrames p none = none
+whenGood BadMarkers p none = none
+
+-- the answer, with the parameters where it is Good
+unfoldable pub checkedOf : HeaderAnswer → Parameters → Checked
+checkedOf answer p = record { answer = answer; parameters = whenGood answer p noParameters }
+
+unfoldable pub checked : List ℕ → List ℕ → Checked
+checked header marker = checkedOf (runSays header marker) (parametersOf (fieldsOf header) marker)

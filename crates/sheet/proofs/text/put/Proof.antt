@@ -1,0 +1,80 @@
+-- Before each turn the bytes passed stand behind what stood before.
+use mathlib.Core.Path.{_≡_, refl, sym, ap, _∙_}
+use mathlib.Core.List.{List, _++_, append-nil}
+use Prim.Native.Nat.{ℕ, _+_, _-_, _≤_}
+use native.Mathlib.Omega.{arith}
+use lib.ListN.{length, take, length-set}
+use lib.Seq.{take-length}
+use borrow.Author.Needs.{needs}
+use Rattle.sheet.specs.Text.{put-more}
+use Rattle.sheet.proofs.text.put.Statement.{statement}
+use Rattle.sheet.proofs.text.put.Tie as tie
+
+abbrev Inv-loop : tie.InvT-loop
+Inv-loop piece at out₀ i₀ out i = (i ≤ length piece) × (length out ≡ length out₀) × (take (at + i) out ≡ take at out₀ ++ take i piece)
+
+abbrev μ-loop : tie.MeasureT-loop
+μ-loop piece at out₀ i₀ out i = length piece - i
+
+loop-holds : tie.Need-loop-holds Inv-loop μ-loop
+loop-holds c =
+    let e : c .args .at + 0 ≡ c .args .at = omega arith in
+    (omega arith, refl, rw e (sym (append-nil (take (c .args .at) (c .args .out .now)))))
+
+shared-slice-read-out : tie.Need-shared-slice-read-out Inv-loop μ-loop
+shared-slice-read-out c = search needs
+
+add-out : tie.Need-add-out Inv-loop μ-loop
+add-out c = search needs
+
+slice-write-out : tie.Need-slice-write-out Inv-loop μ-loop
+slice-write-out c = search needs
+
+add-i : tie.Need-add-i Inv-loop μ-loop
+add-i c = search needs
+
+loop-less : tie.Need-loop-less Inv-loop μ-loop
+loop-less c = search needs
+
+loop-again : tie.Need-loop-again Inv-loop μ-loop
+loop-again c =
+    let a = c .before .before .before .args in
+    let l = c .before .before .loop in (
+      search needs,
+      length-set (l .out) (a .at + l .i) _ ∙ l .inv .1,
+      put-more (a .out .now) (a .piece .now) (l .out) (a .at) (l .i) (omega arith) (omega arith) (l .inv .2),
+    )
+
+add-result : tie.Need-add-result Inv-loop μ-loop
+add-result c = search needs
+
+same-length : tie.Need-same-length Inv-loop μ-loop
+same-length c = search needs
+
+returns : tie.Need-returns Inv-loop μ-loop
+returns c =
+    let a = c .before .before .args in
+    let l = c .before .loop in
+    let e : l .i ≡ length (a .piece .now) = omega arith in
+    record {
+      next-is = refl;
+      text = ap (λ (n : ℕ). take (a .at + n) (l .out)) (sym e) ∙ l .inv .2
+          ∙ ap (λ (x : List ℕ). take (a .at) (a .out .now) ++ x) (ap (λ (n : ℕ). take n (a .piece .now)) e ∙ take-length (a .piece .now));
+    }
+
+pub put-spec : {M : Type 1} → statement M
+put-spec =
+    tie.close
+    (tie.spec
+    Inv-loop
+    μ-loop
+    loop-holds
+    shared-slice-read-out
+    add-out
+    slice-write-out
+    add-i
+    loop-less
+    loop-again
+    add-result
+    same-length
+    returns)
