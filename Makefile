@@ -15,83 +15,104 @@ PLAIN = -O3 -march=native
 SANITIZED = -O1 -g -fsanitize=address,undefined -fno-sanitize-recover=all
 RUSTFLAGS = --edition 2021 -O -D warnings
 
-# The static library. Another archive with the two calls can stand in for it, such as the plain C
-# version, which shows that the tests outside the proofs hold without the library:
-#   make host-test LIBWORD=target/host/standin/libword.a
-LIBWORD = target/staticlib/libword.a
+# The static libraries: the run calls and the word calls. Another archive can stand in for them, such as
+# the plain C version, which shows that the tests outside the proofs hold without the libraries:
+#   make host-test LIBS=target/host/standin/librun.a
+# Several archives are linked in the order given.
+LIBS = target/staticlib/librun.a target/staticlib/libword.a
 HOST = target/host
 HEADER = include/mahyrei.h
 
-# For the comparison with the second implementation; empty means its own defaults.
+# The tests run on a small stack, in KiB, as the library promises to.
+STACK = ulimit -s 1024
+
+# For the comparisons with the second implementation; empty means their own defaults.
 SEED ?=
 WORDS ?=
+RUNS ?=
 
 help:
 	@echo 'make test       prove every crate (rt ci), then host-test; last line: N passed, 0 failed'
-	@echo 'make host-test  the tests outside the proofs alone; SEED=n and WORDS=n choose the words'
-	@echo 'make demo       write a word, read it back, flip bits, see the refusals'
-	@echo 'make bench      times of the library beside plain C'
-	@echo 'make lib        the static library, $(LIBWORD)'
+	@echo 'make host-test  the tests outside the proofs alone; SEED=n, WORDS=n and RUNS=n choose what'
+	@echo '                is compared'
+	@echo 'make demo       write a run, read it back, damage it, see the refusals'
+	@echo 'make bench      times of the library beside plain C and plain Rust'
+	@echo 'make lib        the static libraries: $(LIBS)'
 	@echo 'make clean      remove what was built outside the proofs'
 
 test:
 	@tests/run
 
-host-test: $(HOST)/word_calls $(HOST)/second_test $(HOST)/compare
+HOST_TESTS = $(addprefix $(HOST)/,word_calls run_calls second_test compare_words compare_runs)
+host-test: $(HOST_TESTS)
 	@echo '#include "mahyrei.h"' | $(CXX) -x c++ $(WARNINGS) -Iinclude -fsyntax-only -
-	@ASAN_OPTIONS=detect_leaks=0 $(HOST)/word_calls
-	@$(HOST)/second_test --quiet
-	@SEED=$(SEED) WORDS=$(WORDS) $(HOST)/compare
+	@$(STACK) && ASAN_OPTIONS=detect_leaks=0 $(HOST)/word_calls
+	@$(STACK) && ASAN_OPTIONS=detect_leaks=0 $(HOST)/run_calls
+	@$(STACK) && $(HOST)/second_test --quiet
+	@$(STACK) && SEED=$(SEED) WORDS=$(WORDS) $(HOST)/compare_words
+	@$(STACK) && SEED=$(SEED) RUNS=$(RUNS) $(HOST)/compare_runs
 	@echo 'tests outside the proofs: passed'
 
-demo: $(HOST)/word_demo
-	@$(HOST)/word_demo
+demo: $(HOST)/run_demo
+	@$(HOST)/run_demo
 
-bench: $(HOST)/bench
-	@$(HOST)/bench
+bench: $(HOST)/bench_words $(HOST)/bench_runs
+	@$(HOST)/bench_words
+	@echo
+	@$(HOST)/bench_runs
 
-lib: $(LIBWORD)
+lib: $(LIBS)
 
 clean:
 	rm -rf $(HOST)
 
 # `rt staticlib` proves what the library stands on, where that is not done yet.
-target/staticlib/libword.a: crates.txt $(shell find crates -name '*.rt' -o -name '*.antt')
-	rt staticlib word
+target/staticlib/lib%.a: crates.txt $(shell find crates -name '*.rt' -o -name '*.antt')
+	rt staticlib $*
 
-# Names the archive in use: a program linked with another one is linked again.
-LINKED = $(LIBWORD) $(HOST)/archive
-$(HOST)/archive: FORCE
+# Names the archives in use: a program linked with others is linked again.
+LINKED = $(LIBS) $(HOST)/archives
+LINK_RUST = --extern second=$(HOST)/libsecond.rlib $(foreach lib,$(LIBS),-C link-arg=$(lib))
+$(HOST)/archives: FORCE
 	@mkdir -p $(@D)
-	@echo '$(LIBWORD)' | cmp -s - $@ || echo '$(LIBWORD)' >$@
+	@echo '$(LIBS)' | cmp -s - $@ || echo '$(LIBS)' >$@
 
-$(HOST)/standin/libword.a: bench/plain_word.c bench/plain_word.h $(HEADER)
+# The four calls in plain C.
+STANDIN = $(HOST)/standin
+PLAIN_SOURCES = bench/plain_word.c bench/plain_word.h tests/c/plain_run.c
+$(STANDIN)/librun.a: $(PLAIN_SOURCES) $(HEADER)
 	@mkdir -p $(@D)
+	@$(CC) $(CFLAGS) $(PLAIN) -c bench/plain_word.c -o $(STANDIN)/plain_word.o
 	@$(CC) $(CFLAGS) $(PLAIN) -Dplain_word_write=word_write -Dplain_word_read=word_read \
-	    -c $< -o $(@D)/word.o
+	    -c bench/plain_word.c -o $(STANDIN)/word.o
+	@$(CC) $(CFLAGS) $(PLAIN) -Ibench -c tests/c/plain_run.c -o $(STANDIN)/run.o
 	@rm -f $@
-	@ar rcs $@ $(@D)/word.o
+	@ar rcs $@ $(addprefix $(STANDIN)/,plain_word.o word.o run.o)
 
-$(HOST)/word_calls: tests/c/word_calls.c $(HEADER) $(LINKED)
-	@mkdir -p $(@D)
-	@$(CC) $(CFLAGS) $(SANITIZED) $< $(LIBWORD) -o $@
+$(HOST)/%_calls: tests/c/%_calls.c $(HEADER) $(LINKED)
+	@$(CC) $(CFLAGS) $(SANITIZED) $< $(LIBS) -o $@
 
-$(HOST)/second_test: tests/second/word.rs
+SECOND = $(addprefix tests/second/,lib.rs compare.rs library.rs run.rs word.rs)
+$(HOST)/second_test: $(SECOND)
 	@mkdir -p $(@D)
 	@$(RUSTC) $(RUSTFLAGS) --test $< -o $@
 
-$(HOST)/compare: tests/second/main.rs tests/second/word.rs $(LINKED)
+$(HOST)/libsecond.rlib: $(SECOND)
 	@mkdir -p $(@D)
-	@$(RUSTC) $(RUSTFLAGS) $< -C link-arg=$(LIBWORD) -o $@
+	@$(RUSTC) $(RUSTFLAGS) --crate-type lib --crate-name second $< -o $@
 
-$(HOST)/word_demo: demo/word_demo.c $(HEADER) $(LINKED)
-	@mkdir -p $(@D)
-	@$(CC) $(CFLAGS) $< $(LIBWORD) -o $@
+$(HOST)/compare_%: tests/second/compare_%.rs $(HOST)/libsecond.rlib $(LINKED)
+	@$(RUSTC) $(RUSTFLAGS) $< $(LINK_RUST) -o $@
+
+$(HOST)/run_demo: demo/run_demo.c $(HEADER) $(LINKED)
+	@$(CC) $(CFLAGS) $< $(LIBS) -o $@
 
 $(HOST)/plain_word.o: bench/plain_word.c bench/plain_word.h $(HEADER)
 	@mkdir -p $(@D)
 	@$(CC) $(CFLAGS) $(PLAIN) -c $< -o $@
 
-$(HOST)/bench: bench/bench.c $(HOST)/plain_word.o bench/plain_word.h $(HEADER) $(LINKED)
-	@mkdir -p $(@D)
-	@$(CC) $(CFLAGS) $< $(HOST)/plain_word.o $(LIBWORD) -o $@
+$(HOST)/bench_words: bench/bench_words.c $(HOST)/plain_word.o bench/plain_word.h $(HEADER) $(LINKED)
+	@$(CC) $(CFLAGS) $< $(HOST)/plain_word.o $(LIBS) -o $@
+
+$(HOST)/bench_runs: bench/bench_runs.rs $(HOST)/libsecond.rlib $(LINKED)
+	@$(RUSTC) $(RUSTFLAGS) $< $(LINK_RUST) -o $@

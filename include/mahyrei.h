@@ -1,22 +1,26 @@
 /*
- * Mahyrei: words of CCSDS high photon efficiency optical telemetry.
+ * Mahyrei: words and runs of CCSDS high photon efficiency optical telemetry.
  *
  * A word is the 15,120 bits made from one information block: check, termination, convolutional
  * code, code interleaver, accumulator, randomizer. word_write makes the word of a block;
- * word_read accepts a word only if some block makes it, and gives that block back. It corrects
- * nothing.
+ * word_read accepts a word only if some block makes it, and gives that block back.
  *
- * Link with libword.a. Both calls
- *   - are total: every rate, every length and every content of the slices gets an answer;
- *   - work on the lent slices and the stack (some tens of kilobytes) alone: no allocation, no
- *     state kept from call to call, so any number of threads may call at once;
+ * A run is a set of transfer frames turned into slots: frame markers, blocks, their words, PPM
+ * symbols, channel interleaver, codeblock markers, slots with guard slots. run_write makes the
+ * slots of the frames; run_read accepts slots only if some frames make them, and gives those
+ * frames back. No call corrects anything.
+ *
+ * Link with librun.a. All calls
+ *   - are total: every number, every length and every content of the slices gets an answer;
+ *   - work on the lent slices and less than 1 MiB of stack alone: no allocation, no state kept
+ *     from call to call, so any number of threads may call at once;
  *   - write nothing when they refuse.
  *
  * What the caller owes, and what no call can test:
  *   - a slice is a pointer and a length in bytes, and the pointer is valid for that many bytes;
  *     a slice of length 0 may be NULL; there is no rule of alignment;
- *   - the two slices of a call do not overlap;
- *   - no other thread writes to either slice, or reads the one that is written, during the call.
+ *   - the slice that a call writes does not overlap the others;
+ *   - no other thread writes to a slice, or reads the one that is written, during the call.
  *
  * Bits are packed most significant bit first.
  */
@@ -46,27 +50,92 @@ extern "C" {
 #define MAHYREI_BLOCK_BYTES_MAX 1256
 
 /*
+ * The run header, eight bytes:
+ *
+ *   bits  field
+ *      2  code rate: 0 for 1/3, 1 for 1/2, 2 for 2/3
+ *      4  m, the bits of a PPM symbol, 2 to 8; the pulse order M is 2 to the power m, and a word
+ *         makes S = 15120 / m symbols
+ *      8  N, the rows of the channel interleaver, 1 to 128
+ *      9  B, the step by which its rows grow, 1 to 256; N * (N - 1) * B is a multiple of S
+ *     12  F, the bytes of a frame, 1 to 2048
+ *      6  W, the symbols of the codeblock marker, 1 to 32
+ *      7  A, the frames of the run, 1 to 64
+ *     16  zero
+ *
+ * The marker is lent beside the header: W symbols, one byte each, each below M.
+ *
+ * What follows from a header, with k the information bits of a block and M/4 guard slots after
+ * each symbol:
+ *   blocks and words   C = A * (8 * F + 64) / k, rounded up
+ *   symbols, markers counted
+ *                      (C + N * (N - 1) * B / S) * (S + W)
+ *   slots              symbols * (M + M / 4), at most 1,457,644,800
+ *   slot bytes         slots / 8, rounded up; spare bits at the end are zero
+ *   frame bytes        A * F, at most 131,072
+ */
+#define MAHYREI_HEADER_BYTES 8
+#define MAHYREI_MARKER_MAX 32
+#define MAHYREI_FRAMES_BYTES_MAX 131072
+#define MAHYREI_SLOTS_BYTES_MAX 182205600
+
+/*
  * The number in an answer: 0, or the number of the first question whose answer is no. The
- * questions are put in the order of their numbers.
+ * questions are put in the order of their numbers; a call skips those it has no input for. Those
+ * from 9 on are about the contents of what is read.
  */
 enum mahyrei_number {
     /* Accepted: every byte of the written slice has been set. */
     MAHYREI_ACCEPTED = 0,
-    /* The rate is not 0, 1 or 2. */
+
+    /* Run calls: the header is not eight bytes, or its last 16 bits are not zero. */
+    MAHYREI_BAD_HEADER = 1,
+    /* The code rate is not 0, 1 or 2. */
     MAHYREI_BAD_RATE = 2,
-    /* A slice has another length than the rate implies. */
+    /* Run calls: m is not 2 to 8. */
+    MAHYREI_BAD_ORDER = 3,
+    /* Run calls: N is not 1 to 128, or B is not 1 to 256. */
+    MAHYREI_BAD_ROWS = 4,
+    /* Run calls: N * (N - 1) * B is not a multiple of S, so the places of the channel interleaver
+     * do not fill whole codeblocks. */
+    MAHYREI_BAD_FIT = 5,
+    /* Run calls: F is not 1 to 2048, or A is not 1 to 64. */
+    MAHYREI_BAD_FRAMES = 6,
+    /* Run calls: W is not 1 to 32, or one of the lent marker symbols, up to the W-th, is M or
+     * more. */
+    MAHYREI_BAD_MARKER = 7,
+    /* A slice has another length than the rate or the header implies. */
     MAHYREI_BAD_LENGTH = 8,
-    /* word_write only: the two spare bits at the end of the block are not both zero. */
+
+    /* word_write: the two spare bits at the end of the block are not both zero. run_read: a spare
+     * bit of the last slot byte is set; there are such bits only where m is 2, 3 or 4. */
     MAHYREI_BAD_SPARE = 9,
-    /* word_read only, as are those below: no input to the convolutional code makes this word. The
-     * place is the first wrong coded bit, counted from 0 in the order of the encoder's output (not
-     * in the order of the word): the first that differs when the input bits, read from the
-     * encoder's second output alone, are encoded again. */
+    /* run_read: the slots of a symbol do not hold exactly one pulse among the first M, and none in
+     * the guard slots. The place is the symbol, markers counted, as it is for 11 and 12. */
+    MAHYREI_BAD_PULSE = 10,
+    /* run_read: a marker symbol is not the one lent. */
+    MAHYREI_WRONG_MARKER = 11,
+    /* run_read: a symbol is not 0 where the channel interleaver puts no symbol of a word. */
+    MAHYREI_BAD_IDLE = 12,
+
+    /* Reading: no input to the convolutional code makes this word. In word_read the place is the
+     * first wrong coded bit, counted from 0 in the order of the encoder's output (not in the order
+     * of the word): the first that differs when the input bits, read from the encoder's second
+     * output alone, are encoded again. In run_read the place is the word, as it is for 14 and
+     * 15, which are asked of one word before 13 is asked of the next. */
     MAHYREI_BAD_CODE = 13,
-    /* The two termination bits are not both zero. */
+    /* Reading: the two termination bits are not both zero. */
     MAHYREI_BAD_TERMINATION = 14,
-    /* The check is not the check of the block. */
-    MAHYREI_BAD_CHECK = 15
+    /* Reading: the check is not the check of the block. */
+    MAHYREI_BAD_CHECK = 15,
+
+    /* run_read: the frame marker 034776C7272895B0 does not stand before a frame. The place is the
+     * frame. */
+    MAHYREI_BAD_FRAME_MARKER = 16,
+    /* A block's worth of fill or more. Never answered: C is the least number of blocks. */
+    MAHYREI_BAD_FILL_LENGTH = 17,
+    /* run_read: a fill bit after the last frame is set. */
+    MAHYREI_BAD_FILL = 18
 };
 
 /* The number in an answer, one of enum mahyrei_number. */
@@ -74,7 +143,7 @@ static inline unsigned answer_number(uint64_t answer) {
     return (unsigned)(answer & 255U);
 }
 
-/* The place in an answer: below 15,120 where the number is 13, otherwise 0. */
+/* The place in an answer, counted from 0; 0 where the number has no place. */
 static inline uint64_t answer_place(uint64_t answer) {
     return answer >> 8;
 }
@@ -109,6 +178,34 @@ uint64_t word_write(uint64_t rate, const uint8_t *block, size_t block_len, uint8
  */
 uint64_t word_read(uint64_t rate, const uint8_t *word, size_t word_len, uint8_t *block,
                    size_t block_len);
+
+/*
+ * run_write: makes the slots of a run.
+ *
+ * Reads   header, MAHYREI_HEADER_BYTES bytes; marker, W bytes; frames, A * F bytes, the frames
+ *         back to back without their markers.
+ * Writes  slots, the slot bytes that the header implies, all of them, whatever they held; none on
+ *         refusal.
+ * Returns 0 on acceptance; otherwise a number from 1 to 8, place 0 (so the answer is the number).
+ */
+uint64_t run_write(const uint8_t *header, size_t header_len, const uint8_t *marker,
+                   size_t marker_len, const uint8_t *frames, size_t frames_len, uint8_t *slots,
+                   size_t slots_len);
+
+/*
+ * run_read: gives back the frames that make a run.
+ *
+ * Reads   header, MAHYREI_HEADER_BYTES bytes; marker, W bytes; slots, the slot bytes that the
+ *         header implies.
+ * Writes  frames, A * F bytes, all of them, whatever they held, and only when the whole run has
+ *         been judged; none on refusal.
+ * Returns 0 on acceptance: run_write with the same header and marker makes these slots of these
+ *         frames and of no others. Otherwise place * 256 + number, with a number from 1 to 16, or
+ *         18; 10 to 16 have a place. Take it apart by answer_number and answer_place.
+ */
+uint64_t run_read(const uint8_t *header, size_t header_len, const uint8_t *marker,
+                  size_t marker_len, const uint8_t *slots, size_t slots_len, uint8_t *frames,
+                  size_t frames_len);
 
 #ifdef __cplusplus
 }

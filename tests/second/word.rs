@@ -63,7 +63,7 @@ pub struct Refusal {
     pub place: usize,
 }
 
-fn refuse<T>(number: u8, place: usize) -> Result<T, Refusal> {
+pub fn refuse<T>(number: u8, place: usize) -> Result<T, Refusal> {
     Err(Refusal { number, place })
 }
 

@@ -1,35 +1,14 @@
-//! Compares the library's two calls with the second implementation: `compare [WORDS [SEED]]`.
+//! Compares the two word calls with the second implementation: `compare_words [WORDS [SEED]]`.
 //!
 //! Every word is written by both from the same block, then read by both, as it is or damaged.
 //! Beside each word goes a call with arguments that are wrong in one way or several. Compared are
 //! the answer and every lent byte, with a margin around each slice; and each answer's number must
 //! be one that the kind of word or call allows, so the two cannot merely agree on nonsense.
 
-mod word;
-
+use second::compare::{argument, Case, Rng, Tally};
+use second::library;
+use second::word::{self, Rate, WORD_BITS, WORD_BYTES};
 use std::process::ExitCode;
-use std::time::Instant;
-use word::{Rate, Refusal, WORD_BITS, WORD_BYTES};
-
-/// The C calls of include/mahyrei.h.
-mod library {
-    extern "C" {
-        pub fn word_write(
-            rate: u64,
-            block: *const u8,
-            block_len: usize,
-            word: *mut u8,
-            word_len: usize,
-        ) -> u64;
-        pub fn word_read(
-            rate: u64,
-            word: *const u8,
-            word_len: usize,
-            block: *mut u8,
-            block_len: usize,
-        ) -> u64;
-    }
-}
 
 const WORDS: u64 = 24_000;
 const SEED: u64 = 1;
@@ -47,43 +26,6 @@ const NUMBERS: [(u8, &str); 7] = [
     (14, "termination"),
     (15, "check"),
 ];
-
-/// splitmix64.
-struct Rng(u64);
-
-impl Rng {
-    /// A stream of its own for each word, so that a word does not depend on those before it.
-    fn for_word(seed: u64, index: u64) -> Rng {
-        let mut rng = Rng(seed);
-        Rng(rng.next() ^ index.wrapping_mul(0xD134_2543_DE82_EF95))
-    }
-
-    fn next(&mut self) -> u64 {
-        self.0 = self.0.wrapping_add(0x9E37_79B9_7F4A_7C15);
-        let z = (self.0 ^ self.0 >> 30).wrapping_mul(0xBF58_476D_1CE4_E5B9);
-        let z = (z ^ z >> 27).wrapping_mul(0x94D0_49BB_1331_11EB);
-        z ^ z >> 31
-    }
-
-    fn below(&mut self, limit: usize) -> usize {
-        (self.next() % limit as u64) as usize
-    }
-
-    fn pick<T: Copy>(&mut self, from: &[T]) -> T {
-        from[self.below(from.len())]
-    }
-
-    fn bytes(&mut self, len: usize) -> Vec<u8> {
-        let eights = std::iter::repeat_with(|| self.next().to_le_bytes());
-        eights.flatten().take(len).collect()
-    }
-
-    fn bits(&mut self, len: usize) -> Vec<bool> {
-        let mut bits = word::unpack(&self.bytes(len.div_ceil(8)));
-        bits.truncate(len);
-        bits
-    }
-}
 
 /// Information bits of the next block: mostly random, else of a pattern that is easy to get wrong.
 fn some_block(rng: &mut Rng, rate: &Rate) -> Vec<bool> {
@@ -307,113 +249,33 @@ enum Call {
     Read,
 }
 
-/// A slice lent to the library, within a margin of random bytes.
-struct Lent {
-    area: Vec<u8>,
-    len: usize,
-}
-
-impl Lent {
-    const MARGIN: usize = 32;
-
-    fn new(rng: &mut Rng, slice: &[u8]) -> Lent {
-        let mut area = rng.bytes(Lent::MARGIN);
-        area.extend_from_slice(slice);
-        area.extend(rng.bytes(Lent::MARGIN));
-        let len = slice.len();
-        Lent { area, len }
-    }
-
-    fn slice(&mut self) -> &mut [u8] {
-        &mut self.area[Lent::MARGIN..Lent::MARGIN + self.len]
-    }
-}
-
-/// What has been compared, and what came of it.
-#[derive(Default)]
-struct Tally {
-    /// Answers by call and number.
-    answers: [[u64; 16]; 2],
-    bytes: u64,
-    differences: u64,
-}
-
-impl Tally {
-    /// Puts one call to both and compares the answer and every lent byte. The slice to be written
-    /// holds random bytes before. `what` says which call this is, where something differs.
-    fn compare(
-        &mut self,
-        rng: &mut Rng,
-        call: Call,
-        rate: u64,
-        input: &[u8],
-        output_len: usize,
-        numbers: &[u8],
-        what: &str,
-    ) {
-        let mut from = Lent::new(rng, input);
-        let output = rng.bytes(output_len);
-        let mut to = Lent::new(rng, &output);
-        let (from_before, mut to_expected) = (from.area.clone(), to.area.clone());
-
-        let result = match call {
-            Call::Write => word::write(rate, input, output_len),
-            Call::Read => word::read(rate, input, output_len),
-        };
-        let expected = match result {
-            Ok(bytes) => {
-                to_expected[Lent::MARGIN..Lent::MARGIN + output_len].copy_from_slice(&bytes);
-                0
-            }
-            Err(Refusal { number, place }) => place as u64 * 256 + u64::from(number),
-        };
-
-        let (input, output) = (from.slice(), to.slice());
-        // SAFETY: each pointer is valid for the length beside it, and the two do not overlap.
-        let answer = unsafe {
-            let function = match call {
-                Call::Write => library::word_write,
-                Call::Read => library::word_read,
-            };
-            function(
-                rate,
-                input.as_ptr(),
-                input.len(),
-                output.as_mut_ptr(),
-                output.len(),
-            )
-        };
-
-        let number = (answer % 256) as u8;
-        if let Some(count) = self.answers[call as usize].get_mut(usize::from(number)) {
-            *count += 1;
-        }
-        self.bytes += (from.area.len() + to.area.len()) as u64;
-        let mut differ = |problem: String| {
-            self.differences += 1;
-            println!("{what}, rate {rate}: {problem}");
-        };
-        if answer != expected {
-            let parts = |answer: u64| format!("number {} place {}", answer % 256, answer / 256);
-            differ(format!(
-                "library {}, second {}",
-                parts(answer),
-                parts(expected)
-            ));
-        }
-        if !numbers.contains(&number) {
-            differ(format!("number {number}, where only {numbers:?} can be"));
-        }
-        for (area, should, which) in [
-            (&from.area, &from_before, "read"),
-            (&to.area, &to_expected, "written"),
-        ] {
-            if let Some(at) = (0..area.len()).find(|&at| area[at] != should[at]) {
-                let at = at as isize - Lent::MARGIN as isize;
-                differ(format!("byte {at} of the slice to be {which} is wrong"));
-            }
-        }
-    }
+/// Puts one call to both.
+fn compare(
+    tally: &mut Tally,
+    rng: &mut Rng,
+    call: Call,
+    rate: u64,
+    input: &[u8],
+    output_len: usize,
+    numbers: &[u8],
+    what: &str,
+) {
+    let expected = match call {
+        Call::Write => word::write(rate, input, output_len),
+        Call::Read => word::read(rate, input, output_len),
+    };
+    let case = Case {
+        call: call as usize,
+        inputs: &[input],
+        output_len,
+        expected,
+        numbers,
+        what: &format!("{what}, rate {rate}"),
+    };
+    tally.compare(rng, case, |inputs, output| match call {
+        Call::Write => library::word_write(rate, inputs[0], output),
+        Call::Read => library::word_read(rate, inputs[0], output),
+    });
 }
 
 /// A call with wrong arguments, one way of being wrong for each bit of `wrong`.
@@ -459,19 +321,7 @@ fn refused_call(tally: &mut Tally, rng: &mut Rng, rate: u64, wrong: u64, what: &
         Call::Write => 0,
         Call::Read => 13,
     };
-    tally.compare(rng, call, rate, &input, output_len, &[number], what);
-}
-
-fn argument(index: usize, name: &str, default: u64) -> Result<u64, String> {
-    let text = std::env::args()
-        .nth(index)
-        .or_else(|| std::env::var(name).ok());
-    match text.as_deref() {
-        None | Some("") => Ok(default),
-        Some(text) => text
-            .parse()
-            .map_err(|_| format!("{name} is a number, not '{text}'")),
-    }
+    compare(tally, rng, call, rate, &input, output_len, &[number], what);
 }
 
 fn run() -> Result<(), String> {
@@ -479,12 +329,11 @@ fn run() -> Result<(), String> {
     if words < LEAST_WORDS {
         return Err(format!("WORDS is {LEAST_WORDS} or more"));
     }
-    println!("library against second implementation: {words} words, SEED={seed}");
-    let started = Instant::now();
+    println!("word calls against the second implementation: {words} words, SEED={seed}");
     let mut tally = Tally::default();
 
     for index in 0..words {
-        let rng = &mut Rng::for_word(seed, index);
+        let rng = &mut Rng::of_index(seed, index);
         let (rate, turn) = (index % 3, index / 3);
         // a quarter of the words stay sound
         let damage = match turn % 4 {
@@ -495,54 +344,37 @@ fn run() -> Result<(), String> {
 
         let block = some_block(rng, rate_of(rate));
         let packed = word::pack(&block);
-        tally.compare(rng, Call::Write, rate, &packed, WORD_BYTES, &[0], &what);
+        let (block_len, tally) = (packed.len(), &mut tally);
+        compare(
+            tally,
+            rng,
+            Call::Write,
+            rate,
+            &packed,
+            WORD_BYTES,
+            &[0],
+            &what,
+        );
         let word = (damage.word)(rng, rate, &block);
-        tally.compare(
+        let numbers = damage.numbers;
+        compare(
+            tally,
             rng,
             Call::Read,
             rate,
             &word,
-            packed.len(),
-            damage.numbers,
+            block_len,
+            numbers,
             &what,
         );
-        refused_call(
-            &mut tally,
-            rng,
-            rate,
-            turn % 32,
-            &format!("beside word {index}"),
-        );
+        let beside = format!("beside word {index}");
+        refused_call(tally, rng, rate, turn % 32, &beside);
         if tally.differences > 10 {
             return Err("too many differences, the rest is left out".to_string());
         }
     }
 
-    println!(
-        "  {:<16} {:>10} {:>10}",
-        "answer", "word_write", "word_read"
-    );
-    for (number, name) in NUMBERS {
-        let [write, read] = tally.answers.map(|answers| answers[usize::from(number)]);
-        println!("  {number:>2} {name:<13} {write:>10} {read:>10}");
-    }
-    println!(
-        "  {} bytes compared in {:.1} s, {} differences",
-        tally.bytes,
-        started.elapsed().as_secs_f64(),
-        tally.differences
-    );
-
-    if tally.differences > 0 {
-        return Err(format!(
-            "library and second implementation differ; SEED={seed} shows it again"
-        ));
-    }
-    let met = |&(number, _): &(u8, &str)| tally.answers.iter().any(|a| a[usize::from(number)] > 0);
-    if !NUMBERS.iter().all(met) {
-        return Err("an answer was never met".to_string());
-    }
-    Ok(())
+    tally.report(["word_write", "word_read"], &NUMBERS, seed)
 }
 
 fn main() -> ExitCode {

@@ -1,0 +1,59 @@
+-- The sizes of a plan's numbers, so that sums and products of them fit 64 bits and slots lie within the buffer.
+use mathlib.Core.Path.{_≡_}
+use mathlib.Core.List.{List}
+use Prim.Native.Nat.{ℕ, _+_, _*_, _^_, _≤_, _<_}
+use native.Mathlib.Omega.{arith}
+use native.Mathlib.Nat.{le-refl, mul-le-mul}
+use lib.ListN.{length}
+use lib.Pow.{pow-mono}
+use Rattle.slots.specs.declared.Plan.{Plan}
+use Rattle.slots.specs.Plan.{Fine, total, symbolCount, slotBytes}
+use Rattle.slots.specs.Laws.{order-least, group-least, symbols-most, spread-most}
+use Rattle.slots.specs.Channel.{symbols-least}
+
+pub record Bounds (p : Plan) : Type 0 where
+  pub symbols-least : 1 ≤ p .symbols
+  pub symbols-most : p .symbols ≤ 7560
+  pub order-least : 1 ≤ p .order
+  pub order-most : p .order ≤ 256
+  pub group-least : p .order ≤ p .group
+  pub group-most : p .group ≤ 320
+  pub count-most : p .count ≤ 32
+  pub back-most : p .step * p .rows ≤ 32768
+  pub places : p .lines * p .symbols ≤ symbolCount p
+  pub words : total p ≤ p .lines * p .symbols
+  pub symbols-bound : symbolCount p < 2 ^ 23
+  pub slots-bound : symbolCount p * p .group < 2 ^ 31
+
+pub bounds : (p : Plan) → Fine p → Bounds p
+bounds p fine =
+    let least : 1 ≤ p .symbols = symbols-least p fine in
+    let one : 1 ≤ p .order = order-least p fine in
+    let order : p .order ≤ 256 = let e = fine .order-is in let h : 2 ^ p .bits ≤ 2 ^ 8 = pow-mono (fine .bits-most) in omega arith in
+    let group = fine .group-is in
+    record {
+      symbols-least = least;
+      symbols-most = symbols-most p fine;
+      order-least = one;
+      order-most = order;
+      group-least = omega arith;
+      group-most = omega arith;
+      count-most = fine .count-most;
+      back-most = spread-most p fine;
+      places = omega arith;
+      words = let e = fine .lines-are in omega arith;
+      symbols-bound = fine .symbols-bound;
+      slots-bound = fine .slots-bound;
+    }
+
+-- group s lies within
+pub group-in : (p : Plan) (b : List ℕ) (s : ℕ) → length b ≡ slotBytes p → s < symbolCount p → s * p .group + p .group ≤ 8 * length b
+group-in p b s e h =
+    let k : s + 1 ≤ symbolCount p = omega arith in
+    omega (arith, mul-le-mul k (le-refl (p .group)))
+
+pub group-bound : (p : Plan) → Fine p → (s : ℕ) → s < symbolCount p → s * p .group + p .group < 2 ^ 31
+group-bound p fine s h =
+    let k : s + 1 ≤ symbolCount p = omega arith in
+    let m = fine .slots-bound in
+    omega (arith, mul-le-mul k (le-refl (p .group)))

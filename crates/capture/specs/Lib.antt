@@ -1,0 +1,10 @@
+pub mod Capture
+pub mod Range
+pub mod Groups
+pub mod Answer
+pub mod Return
+pub mod Asks
+pub mod Stride
+pub mod Bounds
+pub mod Scan
+pub mod Lines

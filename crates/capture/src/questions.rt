@@ -1,0 +1,148 @@
+// Questions 10, 11 and 12, each over all symbols: the first that fails, or their number.
+ghost use mathlib.Core.Path.{_≡_};
+ghost use Prim.Native.Nat.{_+_, _*_, _%_, _<_};
+ghost use Rattle.bits.specs.Choice.{bool};
+ghost use Rattle.bits.specs.First.{upTo};
+ghost use Rattle.slots.specs.Plan.{Fine, unit};
+ghost use Rattle.slots.specs.Slots.{hitBy};
+ghost use Rattle.capture.specs.Asks.{Captured, Grouped};
+ghost use Rattle.capture.specs.Capture.{firstBadGroup, markRight, firstBadMark, restZero, firstBadRest};
+ghost use Rattle.capture.specs.Lines.{turned};
+
+// Question 10.
+pub fn first_bad_group(p: slots::Plan, b: &[u8]) -> usize
+    requires { ⌜ Captured p (now b) ⌝ }
+    ensures { λ r. ⌜ r ≡ firstBadGroup p (now (b .entry)) ⌝ }
+{
+    let n = p.lines * (p.symbols + p.count);
+    let order = p.order;
+    let mut s = 0;
+    while s < n {
+        if crate::scan::symbol_in(p, b, s) >= order {
+            return s;
+        }
+        s += 1;
+    }
+    s
+}
+
+// Marker symbol w of a row. Each group has one pulse, so that the slot of the right symbol tells.
+fn mark_right(p: slots::Plan, b: &[u8], line: usize, w: usize) -> u8
+    requires { ⌜ Grouped p (now b) × (line < p .lines) × (w < p .count) ⌝ }
+    ensures { λ r. ⌜ r ≡ bool (markRight p (now (b .entry)) (line * unit p + w)) ⌝ }
+{
+    let s = line * (p.symbols + p.count) + w;
+    let q = p.marks[w] as usize;
+    bits::packing::bit_at(b, s * p.group + q)
+}
+
+// The first wrong marker symbol of a row, or the symbol behind them.
+fn bad_mark_in(p: slots::Plan, b: &[u8], line: usize) -> usize
+    requires { ⌜ Grouped p (now b) × (line < p .lines) ⌝ }
+    ensures { λ r. ⌜ r ≡ upTo (markRight p (now (b .entry))) (line * unit p) (line * unit p + p .count) ⌝ }
+{
+    let first = line * (p.symbols + p.count);
+    let count = p.count;
+    let mut w = 0;
+    while w < count {
+        if mark_right(p, b, line, w) == 0 {
+            return first + w;
+        }
+        w += 1;
+    }
+    first + w
+}
+
+// Question 11.
+pub fn first_bad_mark(p: slots::Plan, b: &[u8]) -> usize
+    requires { ⌜ Grouped p (now b) ⌝ }
+    ensures { λ r. ⌜ r ≡ firstBadMark p (now (b .entry)) ⌝ }
+{
+    let unit = p.symbols + p.count;
+    let count = p.count;
+    let lines = p.lines;
+    let mut line = 0;
+    while line < lines {
+        let s = bad_mark_in(p, b, line);
+        if s < line * unit + count {
+            return s;
+        }
+        line += 1;
+    }
+    line * unit
+}
+
+// The symbol that goes to place x, which is c modulo N; C·S where none does.
+fn hit_by(p: slots::Plan, x: usize, c: usize) -> usize
+    requires { ⌜ Fine p × (c ≡ x % p .rows) ⌝ }
+    ensures { λ r. ⌜ r ≡ hitBy p x ⌝ }
+{
+    let total = p.words * p.symbols;
+    let back = c * (p.step * p.rows);
+    if x < back {
+        return total;
+    }
+    if x - back < total {
+        return x - back;
+    }
+    total
+}
+
+// Place i of a row, which is c modulo N, of all places.
+fn rest_zero(p: slots::Plan, b: &[u8], line: usize, i: usize, c: usize) -> u8
+    requires { ⌜ Grouped p (now b) × (line < p .lines) × (i < p .symbols) × (c ≡ (line * p .symbols + i) % p .rows) ⌝ }
+    ensures { λ r. ⌜ r ≡ bool (restZero p (now (b .entry)) (line * unit p + (p .count + i))) ⌝ }
+{
+    let symbols = p.symbols;
+    if hit_by(p, line * symbols + i, c) < p.words * symbols {
+        return 1;
+    }
+    let s = line * (symbols + p.count) + (p.count + i);
+    bits::packing::bit_at(b, s * p.group)
+}
+
+// One more, modulo N.
+fn turn(rows: usize, c: usize) -> usize
+    requires { ⌜ c < rows ⌝ }
+    ensures { λ r. ⌜ r ≡ turned rows c ⌝ }
+{
+    if c + 1 == rows { 0 } else { c + 1 }
+}
+
+// The first place of a row that is not hit and not 0, as a symbol, or the symbol behind the row.
+fn bad_rest_in(p: slots::Plan, b: &[u8], line: usize) -> usize
+    requires { ⌜ Grouped p (now b) × (line < p .lines) ⌝ }
+    ensures { λ r. ⌜ r ≡ upTo (restZero p (now (b .entry))) (line * unit p) (line * unit p + unit p) ⌝ }
+{
+    let symbols = p.symbols;
+    let rows = p.rows;
+    let first = line * (symbols + p.count) + p.count;
+    let mut c = (line * symbols) % rows;
+    let mut i = 0;
+    while i < symbols {
+        if rest_zero(p, b, line, i, c) == 0 {
+            return first + i;
+        }
+        c = turn(rows, c);
+        i += 1;
+    }
+    first + i
+}
+
+// Question 12.
+pub fn first_bad_rest(p: slots::Plan, b: &[u8]) -> usize
+    requires { ⌜ Grouped p (now b) ⌝ }
+    ensures { λ r. ⌜ r ≡ firstBadRest p (now (b .entry)) ⌝ }
+{
+    let unit = p.symbols + p.count;
+    let lines = p.lines;
+    let mut line = 0;
+    while line < lines {
+        let s = bad_rest_in(p, b, line);
+        if s < line * unit + unit {
+            return s;
+        }
+        line += 1;
+    }
+    line * unit
+}

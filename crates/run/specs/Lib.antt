@@ -1,0 +1,11 @@
+pub mod Answer
+pub mod Run
+pub mod Accepted
+pub mod Theorems
+pub mod Parts
+pub mod Rooms
+pub mod Coding
+pub mod Words
+pub mod Reading
+pub mod Calls
+pub mod Small

@@ -1,0 +1,58 @@
+// Frames to slots: the words of their blocks, and the slots of the words.
+use crate::plan::plan;
+use header::Fields;
+use header::Parameters;
+use header::quantities;
+ghost use mathlib.Core.Path.{_≡_};
+ghost use Prim.Native.Nat.{ℕ, _<_};
+ghost use Rattle.header.specs.Quantities.{blockCount};
+ghost use Rattle.slots.specs.Slots.{slotsOf, wordIn};
+ghost use Rattle.run.specs.Run.{planOf, wordAt};
+ghost use Rattle.run.specs.Rooms.{Codes, CodesAll, Writes, Checked};
+
+// Word j of the frames: its block, coded. `space` is for a packed block of any rate.
+fn code_word(f: Fields, frames: &[u8], j: usize, space: &mut [u8], word: &mut [u8])
+    requires { ⌜ Codes f (now frames) j (now space) (now word) ⌝ }
+    ensures { λ _. ⌜ now (word .exit) ≡ wordAt f (now (frames .entry)) j ⌝ }
+{
+    let rate = f.rate;
+    let size = f.size;
+    let count = f.frames;
+    let h = rates::block_bytes(rate);
+    frames::fill_block(rate, frames, size, count, j, &mut space[..h]);
+    word::write(rate, &space[..h], word);
+}
+
+// All of them, back to back.
+fn code_words(f: Fields, frames: &[u8], space: &mut [u8], words: &mut [u8])
+    requires { ⌜ CodesAll f (now frames) (now space) (now words) ⌝ }
+    ensures { λ _. ⌜ ((j : ℕ) → j < blockCount f → wordIn (now (words .exit)) j ≡ wordAt f (now (frames .entry)) j) ⌝ }
+{
+    let n = quantities::block_count(f);
+    let mut j = 0;
+    while j < n {
+        let at = j * 1890;
+        let end = at + 1890;
+        code_word(f, frames, j, space, &mut words[at..end]);
+        j += 1;
+    }
+}
+
+fn write_in(q: Parameters, frames: &[u8], space: &mut [u8], words: &mut [u8], slots: &mut [u8])
+    requires { ⌜ Writes q (now frames) (now space) (now words) (now slots) ⌝ }
+    ensures { λ _. ⌜ now (slots .exit) ≡ slotsOf (planOf q) (wordAt (q .fields) (now (frames .entry))) ⌝ }
+{
+    let f = q.fields;
+    code_words(f, frames, space, words);
+    slots::write(plan(q), words, slots);
+}
+
+// The slots of the frames, with room for their words.
+pub fn write(q: Parameters, frames: &[u8], slots: &mut [u8])
+    requires { ⌜ Checked q (now frames) (now slots) ⌝ }
+    ensures { λ _. ⌜ now (slots .exit) ≡ slotsOf (planOf q) (wordAt (q .fields) (now (frames .entry))) ⌝ }
+{
+    let mut space = [0u8; 1256];
+    let mut words = [0u8; 398790];
+    write_in(q, frames, &mut space, &mut words, slots)
+}

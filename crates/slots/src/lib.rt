@@ -1,0 +1,205 @@
+// Steps 8 to 10: the words' symbols, spread by the channel interleaver, with markers before every row, as slots with one pulse to a symbol.
+ghost use mathlib.Core.Path.{_≡_};
+ghost use Prim.Native.Nat.{ℕ, _+_, _*_, _%_, _^_, _≤_, _<_};
+ghost use mathlib.Core.List.{List};
+ghost use lib.ListN.{length};
+ghost use Rattle.bits.specs.Pack.{val, bitAt};
+ghost use Rattle.slots.specs.Plan.{Fine, unit, total, symbolCount, slotBytes};
+ghost use Rattle.slots.specs.Slots.{dataAt, hitBy, placed, symbolAt, slotsOf, wordIn};
+ghost use Rattle.slots.specs.Pulse.{putBit, Cleared};
+ghost use Rattle.slots.specs.Laws.{Given, Lent};
+ghost use Rattle.slots.specs.Writing.{Done, rowEnd};
+
+// What steps 8 to 10 ask of a run: the header's numbers and those that follow from them.
+pub struct Plan {
+    // m, the bits of a symbol
+    pub bits: usize,
+    // M, the pulse order
+    pub order: usize,
+    // the slots of a symbol: M, and M/4 guard slots
+    pub group: usize,
+    // S, the symbols of a word
+    pub symbols: usize,
+    // C, the words
+    pub words: usize,
+    // N
+    pub rows: usize,
+    // B
+    pub step: usize,
+    // R, the rows of S symbols that the places of step 9 make
+    pub lines: usize,
+    // W, the marker symbols before each
+    pub count: usize,
+    pub marks: [u8; 32],
+}
+
+// No pulse in the bytes from `from` up to `to`.
+fn clear(slots: &mut [u8], from: usize, to: usize)
+    requires { ⌜ (from ≤ to) × (to ≤ length (now slots)) ⌝ }
+    ensures { λ _. ⌜ Cleared (now (slots .entry)) from to (now (slots .exit)) ⌝ }
+{
+    let mut i = from;
+    while i < to {
+        slots[i] = 0;
+        i += 1;
+    }
+}
+
+// A pulse in slot x.
+fn put_pulse(slots: &mut [u8], x: usize)
+    requires { ⌜ x < 8 * length (now slots) ⌝ }
+    ensures { λ _. ⌜ now (slots .exit) ≡ putBit (now (slots .entry)) x ⌝ }
+{
+    slots[x / 8] = slots[x / 8] | (128u8 >> (x % 8));
+}
+
+// The symbol that goes to place x, which is r modulo N; C·S where none does.
+fn hit_from(p: Plan, x: usize, r: usize) -> usize
+    requires { ⌜ Fine p × (r ≡ x % p .rows) ⌝ }
+    ensures { λ t. ⌜ t ≡ hitBy p x ⌝ }
+{
+    let rows = p.rows;
+    let step = p.step;
+    let all = p.words * p.symbols;
+    let delay = r * (step * rows);
+    if x < delay {
+        return all;
+    }
+    if x - delay < all {
+        return x - delay;
+    }
+    all
+}
+
+// The symbol that goes to place x; C·S where none does.
+pub fn hit_by(p: Plan, x: usize) -> usize
+    requires { ⌜ Fine p ⌝ }
+    ensures { λ r. ⌜ r ≡ hitBy p x ⌝ }
+{
+    let rows = p.rows;
+    hit_from(p, x, x % rows)
+}
+
+// The number that n bits make, from bit `at` on: they lie in one byte or in two.
+fn field(packed: &[u8], at: usize, n: usize) -> usize
+    requires { ⌜ (at + n ≤ 8 * length (now packed)) × (at < 2 ^ 32) × (1 ≤ n) × (n ≤ 8) ⌝ }
+    ensures { λ r. ⌜ r ≡ val (λ i. bitAt (now (packed .entry)) (at + i)) n ⌝ }
+{
+    let first = packed[at / 8] as usize;
+    let last = packed[(at + n - 1) / 8] as usize;
+    (((first << 8) | last) >> (16 - n - at % 8)) & ((1usize << n) - 1)
+}
+
+// Step 8: symbol t of all words.
+pub fn data_at(p: Plan, words: &[u8], t: usize) -> usize
+    requires { ⌜ Given p (now words) × (t < total p) ⌝ }
+    ensures { λ r. ⌜ r ≡ dataAt p (wordIn (now (words .entry))) t ⌝ }
+{
+    let n = p.bits;
+    field(words, n * t, n)
+}
+
+// Step 9: what stands at place x, which is r modulo N.
+fn placed_at(p: Plan, words: &[u8], x: usize, r: usize) -> usize
+    requires { ⌜ Given p (now words) × (r ≡ x % p .rows) ⌝ }
+    ensures { λ q. ⌜ q ≡ placed p (wordIn (now (words .entry))) x ⌝ }
+{
+    let t = hit_from(p, x, r);
+    let all = p.words * p.symbols;
+    if t < all {
+        return data_at(p, words, t);
+    }
+    0
+}
+
+// Step 10: symbol s, markers counted.
+pub fn symbol_at(p: Plan, words: &[u8], s: usize) -> usize
+    requires { ⌜ Given p (now words) × (s < symbolCount p) ⌝ }
+    ensures { λ r. ⌜ r ≡ symbolAt p (wordIn (now (words .entry))) s ⌝ }
+{
+    let symbols = p.symbols;
+    let count = p.count;
+    let rows = p.rows;
+    let row = s / (symbols + count);
+    let i = s % (symbols + count);
+    if i < count {
+        return p.marks[i] as usize;
+    }
+    let x = row * symbols + (i - count);
+    placed_at(p, words, x, x % rows)
+}
+
+// The remainder modulo N one place further on.
+fn next(r: usize, rows: usize) -> usize
+    requires { ⌜ (r < rows) × (rows ≤ 128) ⌝ }
+    ensures { λ n. ⌜ n ≡ (r + 1) % rows ⌝ }
+{
+    let n = r + 1;
+    if n < rows {
+        return n;
+    }
+    0
+}
+
+// The pulses of the marker symbols before a row.
+fn put_marks(p: Plan, row: usize, slots: &mut [u8])
+    requires { ⌜ Fine p × (row < p .lines) × (length (now slots) ≡ slotBytes p) ⌝ }
+    ensures { λ _. ⌜ ((word : ℕ → List ℕ) (end : ℕ) → Done p word (row * unit p) end (now (slots .entry)) → Done p word (row * unit p + p .count) end (now (slots .exit))) ⌝ }
+{
+    let group = p.group;
+    let count = p.count;
+    let first = row * (p.symbols + count);
+    let mut k = 0;
+    while k < count {
+        let mark = p.marks[k] as usize;
+        put_pulse(slots, (first + k) * group + mark);
+        k += 1;
+    }
+}
+
+// The pulses of a row's symbols.
+fn put_places(p: Plan, words: &[u8], row: usize, slots: &mut [u8])
+    requires { ⌜ Lent p (now words) (now slots) × (row < p .lines) ⌝ }
+    ensures { λ _. ⌜ ((end : ℕ) → Done p (wordIn (now (words .entry))) (row * unit p + p .count) end (now (slots .entry)) → Done p (wordIn (now (words .entry))) (row * unit p + p .count + p .symbols) end (now (slots .exit))) ⌝ }
+{
+    let group = p.group;
+    let symbols = p.symbols;
+    let rows = p.rows;
+    let first = row * (symbols + p.count) + p.count;
+    let start = row * symbols;
+    let mut r = start % rows;
+    let mut k = 0;
+    while k < symbols {
+        let q = placed_at(p, words, start + k, r);
+        put_pulse(slots, (first + k) * group + q);
+        r = next(r, rows);
+        k += 1;
+    }
+}
+
+// A row with its markers. Its slots are cleared here, so that they are still near when the pulses are set.
+fn put_row(p: Plan, words: &[u8], row: usize, slots: &mut [u8])
+    requires { ⌜ Given p (now words) × (row < p .lines) × Done p (wordIn (now words)) (row * unit p) (rowEnd p row) (now slots) ⌝ }
+    ensures { λ _. ⌜ Done p (wordIn (now (words .entry))) ((row + 1) * unit p) (rowEnd p (row + 1)) (now (slots .exit)) ⌝ }
+{
+    let unit = p.symbols + p.count;
+    let group = p.group;
+    let from = (row * unit * group + 7) / 8;
+    let to = ((row + 1) * unit * group + 7) / 8;
+    clear(slots, from, to);
+    put_marks(p, row, slots);
+    put_places(p, words, row, slots);
+}
+
+// Steps 8 to 10: the slots of words that lie back to back.
+pub fn write(p: Plan, words: &[u8], slots: &mut [u8])
+    requires { ⌜ Lent p (now words) (now slots) ⌝ }
+    ensures { λ _. ⌜ now (slots .exit) ≡ slotsOf p (wordIn (now (words .entry))) ⌝ }
+{
+    let lines = p.lines;
+    let mut row = 0;
+    while row < lines {
+        put_row(p, words, row, slots);
+        row += 1;
+    }
+}

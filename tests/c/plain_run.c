@@ -1,0 +1,243 @@
+/*
+ * Plain C version of the run calls, on the plain C words of bench/plain_word.c: a stand-in for the
+ * library, with which the tests can be tried. It allocates, and aborts where it cannot. Steps and
+ * questions are numbered as in document 01.
+ */
+#include <stdlib.h>
+#include <string.h>
+
+#include "mahyrei.h"
+#include "plain_word.h"
+
+static const uint8_t FRAME_MARKER[8] = {0x03, 0x47, 0x76, 0xC7, 0x27, 0x28, 0x95, 0xB0};
+
+struct run {
+    size_t rate, m, N, B, F, W, A;
+    size_t M, S, k, C, places, symbols, group, slots, slot_bytes;
+};
+
+static size_t get_bit(const uint8_t *bytes, size_t x) {
+    return bytes[x / 8] >> (7 - x % 8) & 1;
+}
+
+static void put_bit(uint8_t *bytes, size_t x) {
+    bytes[x / 8] = (uint8_t)(bytes[x / 8] | 128 >> x % 8);
+}
+
+static size_t get_bits(const uint8_t *bytes, size_t from, size_t count) {
+    size_t value = 0;
+    for (size_t i = 0; i < count; i++) {
+        value = value * 2 + get_bit(bytes, from + i);
+    }
+    return value;
+}
+
+static uint8_t *zeros(size_t count) {
+    uint8_t *bytes = calloc(count == 0 ? 1 : count, 1);
+    if (bytes == NULL) {
+        abort();
+    }
+    return bytes;
+}
+
+/* Questions 1 to 8. */
+static unsigned ask(struct run *r, const uint8_t *header, size_t header_len, const uint8_t *marker,
+                    size_t marker_len, size_t frames_len, size_t slots_len) {
+    if (header_len != 8 || header[6] != 0 || header[7] != 0) {
+        return 1;
+    }
+    r->rate = get_bits(header, 0, 2);
+    r->m = get_bits(header, 2, 4);
+    r->N = get_bits(header, 6, 8);
+    r->B = get_bits(header, 14, 9);
+    r->F = get_bits(header, 23, 12);
+    r->W = get_bits(header, 35, 6);
+    r->A = get_bits(header, 41, 7);
+    if (r->rate > 2) {
+        return 2;
+    }
+    if (r->m < 2 || r->m > 8) {
+        return 3;
+    }
+    if (r->N < 1 || r->N > 128 || r->B < 1 || r->B > 256) {
+        return 4;
+    }
+    const size_t unhit = r->N * (r->N - 1) * r->B;
+    r->S = MAHYREI_WORD_BITS / r->m;
+    if (unhit % r->S != 0) {
+        return 5;
+    }
+    if (r->F < 1 || r->F > 2048 || r->A < 1 || r->A > 64) {
+        return 6;
+    }
+    r->M = (size_t)1 << r->m;
+    if (r->W < 1 || r->W > 32) {
+        return 7;
+    }
+    for (size_t i = 0; i < r->W && i < marker_len; i++) {
+        if (marker[i] >= r->M) {
+            return 7;
+        }
+    }
+    r->k = word_block_bytes(r->rate) * 8 - 2;
+    r->C = (r->A * (8 * r->F + 64) + r->k - 1) / r->k;
+    r->places = r->C * r->S + unhit;
+    r->symbols = r->places / r->S * (r->S + r->W);
+    r->group = r->M + r->M / 4;
+    r->slots = r->symbols * r->group;
+    r->slot_bytes = (r->slots + 7) / 8;
+    return marker_len == r->W && frames_len == r->A * r->F && slots_len == r->slot_bytes ? 0 : 8;
+}
+
+/* Step 1: bit x of the stream. */
+static size_t stream_bit(const struct run *r, const uint8_t *frames, size_t x) {
+    const size_t marked = 64 + 8 * r->F, frame = x / marked, in_frame = x % marked;
+    if (frame >= r->A) {
+        return 0;
+    }
+    return in_frame < 64 ? get_bit(FRAME_MARKER, in_frame)
+                         : get_bit(frames + frame * r->F, in_frame - 64);
+}
+
+/* Steps 9 and 10: the symbol, markers counted, at which symbol t of the words stands. */
+static size_t stand(const struct run *r, size_t t) {
+    const size_t p = t + t % r->N * r->B * r->N;
+    return p / r->S * (r->S + r->W) + r->W + p % r->S;
+}
+
+uint64_t run_write(const uint8_t *header, size_t header_len, const uint8_t *marker,
+                   size_t marker_len, const uint8_t *frames, size_t frames_len, uint8_t *slots,
+                   size_t slots_len) {
+    struct run r;
+    const unsigned number = ask(&r, header, header_len, marker, marker_len, frames_len, slots_len);
+    if (number != 0) {
+        return number;
+    }
+    uint8_t *symbols = zeros(r.symbols);
+    for (size_t i = 0; i < r.symbols; i += r.S + r.W) {
+        memcpy(symbols + i, marker, r.W);
+    }
+    for (size_t c = 0; c < r.C; c++) {
+        uint8_t block[MAHYREI_BLOCK_BYTES_MAX] = {0}, word[MAHYREI_WORD_BYTES];
+        for (size_t i = 0; i < r.k; i++) {
+            if (stream_bit(&r, frames, c * r.k + i)) {
+                put_bit(block, i);
+            }
+        }
+        if (plain_word_write(r.rate, block, word_block_bytes(r.rate), word, sizeof word) != 0) {
+            abort();
+        }
+        for (size_t i = 0; i < r.S; i++) { /* step 8 */
+            symbols[stand(&r, c * r.S + i)] = (uint8_t)get_bits(word, i * r.m, r.m);
+        }
+    }
+    memset(slots, 0, slots_len);
+    for (size_t i = 0; i < r.symbols; i++) {
+        put_bit(slots, i * r.group + symbols[i]);
+    }
+    free(symbols);
+    return 0;
+}
+
+/* Questions 9 and 10, and the symbols. */
+static uint64_t read_slots(const struct run *r, const uint8_t *slots, uint8_t *symbols) {
+    for (size_t x = r->slots; x < 8 * r->slot_bytes; x++) {
+        if (get_bit(slots, x)) {
+            return 9;
+        }
+    }
+    for (size_t i = 0; i < r->symbols; i++) {
+        size_t pulses = 0, pulse = 0;
+        for (size_t x = 0; x < r->group; x++) {
+            if (get_bit(slots, i * r->group + x)) {
+                pulses++;
+                pulse = x;
+            }
+        }
+        if (pulses != 1 || pulse >= r->M) {
+            return i * 256 + 10;
+        }
+        symbols[i] = (uint8_t)pulse;
+    }
+    return 0;
+}
+
+/* Questions 11 and 12. */
+static uint64_t judge_places(const struct run *r, const uint8_t *symbols, const uint8_t *marker) {
+    for (size_t i = 0; i < r->symbols; i++) {
+        const size_t at = i % (r->S + r->W);
+        if (at < r->W && symbols[i] != marker[at]) {
+            return i * 256 + 11;
+        }
+    }
+    for (size_t p = 0; p < r->places; p++) {
+        const size_t delay = p % r->N * r->B * r->N;
+        const size_t i = p / r->S * (r->S + r->W) + r->W + p % r->S;
+        const int hit = delay <= p && p < delay + r->C * r->S;
+        if (!hit && symbols[i] != 0) {
+            return i * 256 + 12;
+        }
+    }
+    return 0;
+}
+
+/* Questions 13 to 15, and the stream. */
+static uint64_t read_words(const struct run *r, const uint8_t *symbols, uint8_t *stream) {
+    for (size_t c = 0; c < r->C; c++) {
+        uint8_t word[MAHYREI_WORD_BYTES] = {0}, block[MAHYREI_BLOCK_BYTES_MAX];
+        for (size_t x = 0; x < MAHYREI_WORD_BITS; x++) { /* step 8 undone */
+            const uint8_t symbol = symbols[stand(r, c * r->S + x / r->m)];
+            if (symbol >> (r->m - 1 - x % r->m) & 1) {
+                put_bit(word, x);
+            }
+        }
+        const uint64_t answer =
+            plain_word_read(r->rate, word, sizeof word, block, word_block_bytes(r->rate));
+        if (answer != 0) {
+            return c * 256 + answer_number(answer);
+        }
+        for (size_t i = 0; i < r->k; i++) {
+            if (get_bit(block, i)) {
+                put_bit(stream, c * r->k + i);
+            }
+        }
+    }
+    return 0;
+}
+
+/* Questions 16 and 18, and the frames. */
+static uint64_t read_stream(const struct run *r, const uint8_t *stream, uint8_t *frames) {
+    const size_t marked = 64 + 8 * r->F; /* whole bytes */
+    for (size_t i = 0; i < r->A; i++) {
+        if (memcmp(stream + i * marked / 8, FRAME_MARKER, 8) != 0) {
+            return i * 256 + 16;
+        }
+    }
+    for (size_t x = r->A * marked; x < r->C * r->k; x++) {
+        if (get_bit(stream, x)) {
+            return 18;
+        }
+    }
+    for (size_t i = 0; i < r->A; i++) {
+        memcpy(frames + i * r->F, stream + i * marked / 8 + 8, r->F);
+    }
+    return 0;
+}
+
+uint64_t run_read(const uint8_t *header, size_t header_len, const uint8_t *marker,
+                  size_t marker_len, const uint8_t *slots, size_t slots_len, uint8_t *frames,
+                  size_t frames_len) {
+    struct run r;
+    const unsigned number = ask(&r, header, header_len, marker, marker_len, frames_len, slots_len);
+    if (number != 0) {
+        return number;
+    }
+    uint8_t *symbols = zeros(r.symbols), *stream = zeros((r.C * r.k + 7) / 8);
+    uint64_t answer = read_slots(&r, slots, symbols);
+    answer = answer != 0 ? answer : judge_places(&r, symbols, marker);
+    answer = answer != 0 ? answer : read_words(&r, symbols, stream);
+    answer = answer != 0 ? answer : read_stream(&r, stream, frames);
+    free(stream);
+    free(symbols);
+    return answer;
+}

@@ -1,0 +1,689 @@
+/*
+ * Test of the two run calls from C: known answers, runs beside the words that word_write makes,
+ * damaged runs, and refusals of every number with the lent bytes unchanged.
+ *
+ * The sanitizers watch this program but not the library, which is not built with them. So each
+ * slice is lent from pages of its own: it ends where a page begins that may not be touched, the
+ * bytes before it are compared after the call, and the slices that a call reads are
+ * write-protected. Large buffers are static, since the test also runs on a small stack.
+ */
+#define _DEFAULT_SOURCE /* MAP_ANONYMOUS */
+#include <inttypes.h>
+#include <stdbool.h>
+#include <stdio.h>
+#include <stdlib.h>
+#include <string.h>
+#include <sys/mman.h>
+
+#include "mahyrei.h"
+
+/* ---- checks, each of them counted */
+
+static unsigned long checks, failures;
+static unsigned long met[2][256]; /* answers by call and number */
+
+static void check(bool ok, int line, const char *what) {
+    checks++;
+    if (!ok && ++failures <= 20) { /* the first say enough */
+        fprintf(stderr, "run_calls.c:%d: %s\n", line, what);
+    }
+}
+
+#define CHECK(condition) check((condition), __LINE__, #condition)
+
+/* ---- random numbers: xorshift64* */
+
+static uint64_t random_state = UINT64_C(0x9E3779B97F4A7C15);
+
+static uint64_t random_number(void) {
+    random_state ^= random_state >> 12;
+    random_state ^= random_state << 25;
+    random_state ^= random_state >> 27;
+    return random_state * UINT64_C(0x2545F4914F6CDD1D);
+}
+
+static size_t random_below(size_t limit) {
+    return (size_t)((random_number() >> 16) % limit);
+}
+
+static void fill_random(uint8_t *bytes, size_t len) {
+    for (size_t i = 0; i < len; i++) {
+        bytes[i] = (uint8_t)(random_number() >> 56);
+    }
+}
+
+/* ---- lent slices */
+
+enum { PAGE = 4096, AREA = 128 * PAGE, MARGIN = 64 };
+
+struct lent {
+    uint8_t *area; /* the slice is at its end; the next page may not be touched */
+    uint8_t *slice;
+    size_t len;
+    uint8_t before[AREA]; /* what margin and slice held when they were lent */
+};
+
+static struct lent lent_header, lent_marker, lent_frames, lent_slots;
+
+static void map_area(struct lent *lent) {
+    lent->area =
+        mmap(NULL, AREA + PAGE, PROT_READ | PROT_WRITE, MAP_PRIVATE | MAP_ANONYMOUS, -1, 0);
+    if (lent->area == MAP_FAILED || mprotect(lent->area + AREA, PAGE, PROT_NONE) != 0) {
+        perror("mmap");
+        exit(1);
+    }
+}
+
+static void protect(const struct lent *lent, int protection) {
+    if (mprotect(lent->area, AREA, protection) != 0) {
+        perror("mprotect");
+        exit(1);
+    }
+}
+
+/* A slice of random bytes, with random bytes before it. */
+static void lend(struct lent *lent, size_t len) {
+    if (len + MARGIN > AREA) {
+        fprintf(stderr, "run_calls.c: %zu bytes are too many to lend\n", len);
+        exit(1);
+    }
+    lent->slice = lent->area + AREA - len;
+    lent->len = len;
+    fill_random(lent->slice - MARGIN, len + MARGIN);
+}
+
+static void lend_copy(struct lent *lent, const uint8_t *bytes, size_t len) {
+    lend(lent, len);
+    if (len > 0) {
+        memcpy(lent->slice, bytes, len);
+    }
+}
+
+static void lend_null(struct lent *lent) {
+    lend(lent, 0);
+    lent->slice = NULL;
+}
+
+static uint8_t *margin_of(const struct lent *lent) {
+    return lent->area + AREA - lent->len - MARGIN;
+}
+
+static void remember(struct lent *lent) {
+    memcpy(lent->before, margin_of(lent), lent->len + MARGIN);
+}
+
+/* The first so many bytes of margin and slice are as they were lent. */
+static bool unchanged(const struct lent *lent, size_t count) {
+    return memcmp(margin_of(lent), lent->before, count) == 0;
+}
+
+/* One call on the lent slices, and what holds of their bytes after every call. */
+static uint64_t call(bool write) {
+    struct lent *const read[3] = {&lent_header, &lent_marker, write ? &lent_frames : &lent_slots};
+    struct lent *const to = write ? &lent_slots : &lent_frames;
+    for (size_t i = 0; i < 3; i++) {
+        remember(read[i]);
+        protect(read[i], PROT_READ);
+    }
+    remember(to);
+    const uint64_t answer =
+        write ? run_write(lent_header.slice, lent_header.len, lent_marker.slice, lent_marker.len,
+                          lent_frames.slice, lent_frames.len, lent_slots.slice, lent_slots.len)
+              : run_read(lent_header.slice, lent_header.len, lent_marker.slice, lent_marker.len,
+                         lent_slots.slice, lent_slots.len, lent_frames.slice, lent_frames.len);
+    for (size_t i = 0; i < 3; i++) {
+        protect(read[i], PROT_READ | PROT_WRITE);
+        CHECK(unchanged(read[i], read[i]->len + MARGIN));
+    }
+    CHECK(unchanged(to, answer == MAHYREI_ACCEPTED ? MARGIN : to->len + MARGIN));
+    met[write][answer_number(answer)]++;
+    return answer;
+}
+
+/* ---- runs */
+
+struct run {
+    uint64_t rate, m, N, B, F, W, A; /* as in the header */
+};
+
+static void pack_header(const struct run *run, uint8_t header[MAHYREI_HEADER_BYTES]) {
+    uint64_t packed = run->rate;
+    packed = packed << 4 | run->m;
+    packed = packed << 8 | run->N;
+    packed = packed << 9 | run->B;
+    packed = packed << 12 | run->F;
+    packed = packed << 6 | run->W;
+    packed = packed << 7 | run->A;
+    packed <<= 16;
+    for (size_t i = 0; i < MAHYREI_HEADER_BYTES; i++) {
+        header[i] = (uint8_t)(packed >> (56 - 8 * i));
+    }
+}
+
+/* The sizes of mahyrei.h. */
+static size_t pulse_order(const struct run *run) {
+    return (size_t)1 << run->m;
+}
+
+static size_t word_symbols(const struct run *run) {
+    return MAHYREI_WORD_BITS / run->m;
+}
+
+static size_t block_bits(const struct run *run) {
+    return word_block_bytes(run->rate) * 8 - 2;
+}
+
+static size_t block_count(const struct run *run) {
+    return (run->A * (8 * run->F + 64) + block_bits(run) - 1) / block_bits(run);
+}
+
+static size_t place_count(const struct run *run) {
+    return block_count(run) * word_symbols(run) + run->N * (run->N - 1) * run->B;
+}
+
+static size_t period(const struct run *run) {
+    return word_symbols(run) + run->W;
+}
+
+static size_t symbol_count(const struct run *run) {
+    return place_count(run) / word_symbols(run) * period(run);
+}
+
+static size_t group_slots(const struct run *run) {
+    return pulse_order(run) + pulse_order(run) / 4;
+}
+
+static size_t slot_count(const struct run *run) {
+    return symbol_count(run) * group_slots(run);
+}
+
+static size_t slot_bytes(const struct run *run) {
+    return (slot_count(run) + 7) / 8;
+}
+
+static size_t frame_bytes(const struct run *run) {
+    return run->A * run->F;
+}
+
+/* The smallest runs with rows, one for each m, then runs with N = 1; the last has no fill bits. The
+ * hash is that of the slots for the frames and the marker below, made alike by two programs with no
+ * common code, tests/second/run.rs and tests/c/plain_run.c. */
+static const struct {
+    struct run run;
+    uint64_t fnv1a;
+} RUNS[] = {
+    {{0, 2, 6, 252, 300, 4, 2}, 0x4367A316AFB5E1C7},
+    {{1, 3, 5, 252, 500, 1, 3}, 0xBA64751F74B42CCD},
+    {{2, 4, 5, 189, 2048, 32, 1}, 0xA67E581E5FCECCDD},
+    {{0, 5, 4, 252, 1, 7, 64}, 0xF22281816D5E1519},
+    {{1, 6, 4, 210, 223, 16, 2}, 0xC0E0DD4D0D43D258},
+    {{2, 7, 4, 180, 1000, 3, 3}, 0xEAF54078106BC126},
+    {{0, 8, 6, 63, 1024, 2, 1}, 0x51EE3ABD4303E887},
+    {{1, 8, 1, 256, 800, 5, 1}, 0x89D5C8A090DE4D44},
+    {{2, 3, 1, 9, 700, 2, 2}, 0xA1F9B5EEA208D951},
+    {{1, 4, 1, 1, 63, 6, 53}, 0x122F4613ECA32F31},
+};
+enum { RUN_COUNT = sizeof RUNS / sizeof RUNS[0] };
+
+static void sample_frames(const struct run *run, uint8_t *frames) {
+    for (size_t i = 0; i < frame_bytes(run); i++) {
+        frames[i] = (uint8_t)(i + i / 256);
+    }
+}
+
+static void sample_marker(const struct run *run, uint8_t *marker) {
+    for (size_t i = 0; i < run->W; i++) {
+        marker[i] = (uint8_t)((5 * i + 1) % pulse_order(run));
+    }
+}
+
+static uint64_t fnv1a(const uint8_t *bytes, size_t len) {
+    uint64_t hash = UINT64_C(0xCBF29CE484222325);
+    for (size_t i = 0; i < len; i++) {
+        hash = (hash ^ bytes[i]) * UINT64_C(0x100000001B3);
+    }
+    return hash;
+}
+
+static void lend_header(const struct run *run) {
+    uint8_t header[MAHYREI_HEADER_BYTES], marker[64]; /* W has six bits */
+    pack_header(run, header);
+    sample_marker(run, marker);
+    lend_copy(&lent_header, header, sizeof header);
+    lend_copy(&lent_marker, marker, run->W);
+}
+
+static void write_run(const struct run *run, const uint8_t *frames, uint8_t *slots) {
+    lend_header(run);
+    lend_copy(&lent_frames, frames, frame_bytes(run));
+    lend(&lent_slots, slot_bytes(run));
+    CHECK(call(true) == MAHYREI_ACCEPTED);
+    memcpy(slots, lent_slots.slice, slot_bytes(run));
+}
+
+static uint64_t read_run(const struct run *run, const uint8_t *slots) {
+    lend_header(run);
+    lend_copy(&lent_slots, slots, slot_bytes(run));
+    lend(&lent_frames, frame_bytes(run));
+    return call(false);
+}
+
+static bool read_back(const struct run *run, const uint8_t *slots, const uint8_t *frames) {
+    return read_run(run, slots) == MAHYREI_ACCEPTED &&
+           memcmp(lent_frames.slice, frames, frame_bytes(run)) == 0;
+}
+
+/* ---- bits, words and symbols */
+
+static size_t get_bit(const uint8_t *bytes, size_t x) {
+    return bytes[x / 8] >> (7 - x % 8) & 1;
+}
+
+static void flip(uint8_t *bytes, size_t x) {
+    bytes[x / 8] = (uint8_t)(bytes[x / 8] ^ 0x80 >> x % 8);
+}
+
+enum { WORDS_MAX = 8, SYMBOLS_MAX = 65536 };
+
+static uint8_t words[WORDS_MAX][MAHYREI_WORD_BYTES];
+static uint8_t symbols[SYMBOLS_MAX];
+static uint8_t frames[MAHYREI_FRAMES_BYTES_MAX], slots[AREA], damaged[AREA];
+
+/* The words of a run by word_write. Bit `wrong` of the stream, if there is one, is changed. */
+static void make_words(const struct run *run, size_t wrong) {
+    static const uint8_t MARKER[8] = {0x03, 0x47, 0x76, 0xC7, 0x27, 0x28, 0x95, 0xB0};
+    const size_t marked = 64 + 8 * run->F, k = block_bits(run);
+    for (size_t c = 0; c < block_count(run); c++) {
+        uint8_t block[MAHYREI_BLOCK_BYTES_MAX] = {0};
+        for (size_t i = 0; i < k; i++) {
+            const size_t x = c * k + i, frame = x / marked, at = x % marked;
+            const size_t bit = frame >= run->A ? 0
+                               : at < 64       ? get_bit(MARKER, at)
+                                               : get_bit(frames + frame * run->F, at - 64);
+            if (bit != (x == wrong)) {
+                flip(block, i);
+            }
+        }
+        CHECK(word_write(run->rate, block, word_block_bytes(run->rate), words[c],
+                         MAHYREI_WORD_BYTES) == MAHYREI_ACCEPTED);
+    }
+}
+
+/* The symbols of the words, interleaved by the draft book's recursion, with markers. */
+static void make_symbols(const struct run *run) {
+    const size_t S = word_symbols(run);
+    uint8_t marker[MAHYREI_MARKER_MAX];
+    sample_marker(run, marker);
+    int64_t source = 0; /* of the symbol at place j; outside the words there are zeros */
+    for (size_t j = 0; j < place_count(run); j++) {
+        source = j % run->N == 0 ? (int64_t)j : source - (int64_t)(run->N * run->B) + 1;
+        uint8_t symbol = 0;
+        if (source >= 0 && (size_t)source < block_count(run) * S) {
+            const size_t t = (size_t)source;
+            for (size_t i = 0; i < run->m; i++) { /* first bit highest */
+                symbol = (uint8_t)(symbol * 2 + get_bit(words[t / S], t % S * run->m + i));
+            }
+        }
+        symbols[j / S * period(run) + run->W + j % S] = symbol;
+        if (j % S == 0) {
+            memcpy(symbols + j / S * period(run), marker, run->W);
+        }
+    }
+}
+
+static void make_slots(const struct run *run, uint8_t *to) {
+    memset(to, 0, slot_bytes(run));
+    for (size_t i = 0; i < symbol_count(run); i++) {
+        flip(to, i * group_slots(run) + symbols[i]);
+    }
+}
+
+/* The symbol, markers counted, at which symbol t of the words stands. */
+static size_t stand(const struct run *run, size_t t) {
+    const size_t place = t + t % run->N * run->B * run->N;
+    return place / word_symbols(run) * period(run) + run->W + place % word_symbols(run);
+}
+
+/* ---- the tests */
+
+static void test_known_runs(void) {
+    for (size_t i = 0; i < RUN_COUNT; i++) {
+        const struct run *run = &RUNS[i].run;
+        sample_frames(run, frames);
+        write_run(run, frames, slots);
+        CHECK(fnv1a(slots, slot_bytes(run)) == RUNS[i].fnv1a);
+        CHECK(read_back(run, slots, frames));
+    }
+}
+
+/* Sizes that document 01 states for its example. */
+static void test_example_sizes(void) {
+    static const uint8_t EXAMPLE[] = {0x59, 0x50, 0xF0, 0x1B, 0xE8, 0x02, 0x00, 0x00};
+    const struct run run = {1, 6, 84, 120, 223, 16, 2};
+    uint8_t header[MAHYREI_HEADER_BYTES];
+    pack_header(&run, header);
+    CHECK(memcmp(header, EXAMPLE, sizeof header) == 0);
+    CHECK(block_count(&run) == 1);
+    CHECK(symbol_count(&run) == 844488);
+    CHECK(slot_count(&run) == 67559040);
+}
+
+static void test_random_runs(const struct run *run) {
+    for (int i = 0; i < 4; i++) {
+        fill_random(frames, frame_bytes(run));
+        write_run(run, frames, slots);
+        make_words(run, SIZE_MAX);
+        make_symbols(run);
+        make_slots(run, damaged);
+        CHECK(memcmp(slots, damaged, slot_bytes(run)) == 0);
+        CHECK(read_back(run, slots, frames));
+    }
+}
+
+/* The draft book's symbol example: bits 1101 0101 are the symbols 13 and 5 at m = 4. The randomizer
+ * digits are those that the word of zeros starts with, which word_calls.c tests. */
+static void test_symbol_example(void) {
+    const struct run run = {1, 4, 1, 1, 900, 2, 1};
+    size_t found = 0;
+    sample_frames(&run, frames);
+    write_run(&run, frames, slots);
+    make_words(&run, SIZE_MAX);
+    for (size_t i = 0; i < MAHYREI_WORD_BYTES; i++) {
+        if (words[0][i] == 0xD5) {
+            const size_t first = (run.W + 2 * i) * group_slots(&run);
+            CHECK(get_bit(slots, first + 13) == 1);
+            CHECK(get_bit(slots, first + group_slots(&run) + 5) == 1);
+            found++;
+        }
+    }
+    CHECK(found > 0);
+}
+
+static uint64_t read_flipped(const struct run *run, size_t one, size_t other) {
+    memcpy(damaged, slots, slot_bytes(run));
+    flip(damaged, one);
+    if (other != one) {
+        flip(damaged, other);
+    }
+    return read_run(run, damaged);
+}
+
+/* Questions 9 and 10 on a sound run: slots and symbols are those of the run. */
+static void test_slots(const struct run *run) {
+    const size_t group = group_slots(run), M = pulse_order(run), last = symbol_count(run) - 1;
+    for (size_t x = slot_count(run); x < 8 * slot_bytes(run); x++) {
+        CHECK(read_flipped(run, x, x) == MAHYREI_BAD_SPARE);
+        CHECK(read_flipped(run, x, symbols[0]) == MAHYREI_BAD_SPARE);
+    }
+    for (int i = 0; i < 30; i++) {
+        const size_t s = i == 0 ? 0 : i == 1 ? last : random_below(last + 1);
+        const size_t pulse = s * group + symbols[s], guard = s * group + M + random_below(M / 4);
+        const size_t second = s * group + (symbols[s] + 1 + random_below(M - 1)) % M;
+        const uint64_t refused = s * 256 + MAHYREI_BAD_PULSE;
+        CHECK(read_flipped(run, pulse, pulse) == refused);
+        CHECK(read_flipped(run, second, second) == refused);
+        CHECK(read_flipped(run, guard, guard) == refused);
+        CHECK(read_flipped(run, pulse, guard) == refused);
+        if (s < last) { /* the first of two that fail */
+            CHECK(read_flipped(run, pulse, last * group + symbols[last]) == refused);
+        }
+    }
+    memset(damaged, 0, slot_bytes(run));
+    CHECK(read_run(run, damaged) == MAHYREI_BAD_PULSE);
+}
+
+/* What reading answers when symbol s is another one. */
+static uint64_t read_changed(const struct run *run, size_t s) {
+    const size_t M = pulse_order(run), group = group_slots(run);
+    const size_t other = (symbols[s] + 1 + random_below(M - 1)) % M;
+    return read_flipped(run, s * group + symbols[s], s * group + other);
+}
+
+/* Questions 11 to 13. */
+static void test_symbols(const struct run *run) {
+    const size_t S = word_symbols(run), C = block_count(run);
+    static bool hit[SYMBOLS_MAX];
+    memset(hit, 0, sizeof hit);
+    for (size_t t = 0; t < C * S; t++) {
+        hit[stand(run, t)] = true;
+    }
+    for (int i = 0; i < 100; i++) {
+        const size_t s = i == 0 ? symbol_count(run) - 1 : random_below(symbol_count(run));
+        if (s % period(run) >= run->W && !hit[s]) {
+            CHECK(read_changed(run, s) == s * 256 + MAHYREI_BAD_IDLE);
+        }
+    }
+    for (int i = 0; i < 20; i++) {
+        const size_t s = random_below(place_count(run) / S) * period(run) + random_below(run->W);
+        CHECK(read_changed(run, s) == s * 256 + MAHYREI_WRONG_MARKER);
+        const size_t t = random_below(C * S);
+        const uint64_t answer = read_changed(run, stand(run, t));
+        CHECK(answer_number(answer) == MAHYREI_BAD_CODE ||
+              answer_number(answer) == MAHYREI_BAD_TERMINATION);
+        CHECK(answer_place(answer) == t / S);
+    }
+}
+
+static void test_damage(const struct run *run) {
+    fill_random(frames, frame_bytes(run));
+    write_run(run, frames, slots);
+    make_words(run, SIZE_MAX);
+    make_symbols(run);
+    test_slots(run);
+    test_symbols(run);
+    CHECK(read_back(run, slots, frames));
+}
+
+/* Changes one coded bit of a word: the accumulator carries the change from the output place that
+ * takes the coded bit on to the end of the word. */
+static void flip_coded(uint8_t *word, uint64_t coded) {
+    uint64_t j = 0;
+    while ((11 * j + 210 * j * j) % MAHYREI_WORD_BITS != coded) {
+        j++;
+    }
+    for (; j < MAHYREI_WORD_BITS; j++) {
+        flip(word, (size_t)j);
+    }
+}
+
+static uint64_t read_words(const struct run *run) {
+    make_symbols(run);
+    make_slots(run, damaged);
+    return read_run(run, damaged);
+}
+
+/* Questions 14 and 15 are put to a word before 13 is put to the next. At rate 2/3 the last coded
+ * bit stands for the last termination bit alone, and block bit 0 goes into coded bits 0 to 4. */
+static void test_words(void) {
+    const struct run run = {2, 7, 4, 180, 1000, 3, 3};
+    sample_frames(&run, frames);
+    CHECK(block_count(&run) == 3);
+    make_words(&run, SIZE_MAX);
+    CHECK(read_words(&run) == MAHYREI_ACCEPTED);
+    flip(words[2], 9000);
+    CHECK(read_words(&run) == 2 * 256 + MAHYREI_BAD_CODE);
+    flip_coded(words[1], MAHYREI_WORD_BITS - 1);
+    CHECK(read_words(&run) == 1 * 256 + MAHYREI_BAD_TERMINATION);
+    for (uint64_t coded = 0; coded < 5; coded++) {
+        flip_coded(words[0], coded);
+    }
+    CHECK(read_words(&run) == 0 * 256 + MAHYREI_BAD_CHECK);
+    flip_coded(words[0], MAHYREI_WORD_BITS - 1);
+    CHECK(read_words(&run) == 0 * 256 + MAHYREI_BAD_TERMINATION);
+    flip(words[0], 4);
+    CHECK(read_words(&run) == 0 * 256 + MAHYREI_BAD_CODE);
+}
+
+/* Questions 16 and 18. */
+static void test_stream(const struct run *run) {
+    const size_t marked = 64 + 8 * run->F, fill = run->A * marked;
+    const size_t end = block_count(run) * block_bits(run);
+    sample_frames(run, frames);
+    for (size_t frame = 0; frame < run->A; frame += 1 + random_below(run->A)) {
+        make_words(run, frame * marked + random_below(64));
+        CHECK(read_words(run) == frame * 256 + MAHYREI_BAD_FRAME_MARKER);
+    }
+    if (fill < end) {
+        const size_t wrong[] = {fill, end - 1, fill + random_below(end - fill)};
+        for (size_t i = 0; i < sizeof wrong / sizeof wrong[0]; i++) {
+            make_words(run, wrong[i]);
+            CHECK(read_words(run) == MAHYREI_BAD_FILL);
+        }
+    }
+    make_words(run, fill - 1); /* the last frame bit: another frame, and a sound run */
+    flip(frames, frame_bytes(run) * 8 - 1);
+    CHECK(read_words(run) == MAHYREI_ACCEPTED);
+    CHECK(memcmp(lent_frames.slice, frames, frame_bytes(run)) == 0);
+}
+
+/* Both calls with a header that fails a question, whatever the slices. */
+static void test_refused_header(const struct run *wrong, unsigned number) {
+    for (int write = 0; write < 2; write++) {
+        lend_header(wrong);
+        lend(&lent_frames, 100);
+        lend(&lent_slots, 1000);
+        CHECK(call(write) == number);
+        lend_null(&lent_frames);
+        lend_null(&lent_slots);
+        CHECK(call(write) == number);
+    }
+}
+
+static void test_refused_headers(void) {
+    static const struct {
+        struct run run;
+        unsigned number;
+    } WRONG[] = {
+        {{3, 15, 0, 0, 0, 0, 0}, 2},         {{0, 1, 0, 0, 0, 0, 0}, 3},
+        {{0, 9, 0, 0, 0, 0, 0}, 3},          {{0, 2, 0, 1, 0, 0, 0}, 4},
+        {{0, 2, 129, 1, 0, 0, 0}, 4},        {{0, 2, 1, 0, 0, 0, 0}, 4},
+        {{0, 2, 1, 257, 0, 0, 0}, 4},        {{0, 8, 10, 20, 0, 0, 0}, 5},
+        {{0, 8, 2, 256, 0, 0, 0}, 5},        {{0, 8, 10, 21, 0, 0, 1}, 6},
+        {{0, 8, 10, 21, 2049, 0, 1}, 6},     {{0, 8, 10, 21, 1, 0, 0}, 6},
+        {{0, 8, 10, 21, 2048, 0, 65}, 6},    {{0, 8, 10, 21, 2048, 0, 64}, 7},
+        {{0, 8, 10, 21, 2048, 33, 64}, 7},   {{0, 8, 10, 21, 2048, 63, 64}, 7},
+        {{0, 8, 127, 255, 2048, 32, 64}, 8},
+    };
+    for (size_t i = 0; i < sizeof WRONG / sizeof WRONG[0]; i++) {
+        test_refused_header(&WRONG[i].run, WRONG[i].number);
+    }
+}
+
+/* Question 1. */
+static void test_refused_header_bytes(const struct run *run) {
+    for (int write = 0; write < 2; write++) {
+        for (size_t bit = 48; bit < 64; bit++) {
+            lend_header(run);
+            flip(lent_header.slice, bit);
+            lend(&lent_frames, frame_bytes(run));
+            lend(&lent_slots, slot_bytes(run));
+            CHECK(call(write) == MAHYREI_BAD_HEADER);
+        }
+        for (size_t len = 0; len < 20; len++) {
+            if (len != MAHYREI_HEADER_BYTES) {
+                lend_header(run);
+                lend(&lent_header, len);
+                CHECK(call(write) == MAHYREI_BAD_HEADER);
+            }
+        }
+        lend_null(&lent_header);
+        lend_null(&lent_marker);
+        lend_null(&lent_frames);
+        lend_null(&lent_slots);
+        CHECK(call(write) == MAHYREI_BAD_HEADER);
+    }
+}
+
+/* Question 7: the first W marker symbols that are lent, before any length. */
+static void test_refused_markers(void) {
+    const struct run run = {0, 3, 1, 1, 10, 4, 1};
+    static const struct {
+        uint8_t marker[6];
+        size_t len;
+        unsigned number;
+    } MARKERS[] = {
+        {{7, 7, 7, 7}, 4, 0},
+        {{7, 7, 7, 8}, 4, 7},
+        {{255, 0, 0, 0}, 4, 7},
+        {{8}, 1, 7},
+        {{7}, 1, 8},
+        {{0}, 0, 8},
+        {{0, 0, 0, 0, 8}, 5, 8},
+        {{0, 0, 8, 0, 8}, 5, 7},
+    };
+    sample_frames(&run, frames);
+    for (size_t i = 0; i < sizeof MARKERS / sizeof MARKERS[0]; i++) {
+        lend_header(&run);
+        lend_copy(&lent_marker, MARKERS[i].marker, MARKERS[i].len);
+        lend_copy(&lent_frames, frames, frame_bytes(&run));
+        lend(&lent_slots, slot_bytes(&run));
+        CHECK(call(true) == MARKERS[i].number);
+        if (MARKERS[i].number != 0) {
+            CHECK(call(false) == MARKERS[i].number);
+        }
+        lend_null(&lent_frames);
+        CHECK(call(true) == (MARKERS[i].number != 0 ? MARKERS[i].number : 8));
+    }
+}
+
+/* Question 8: each slice too short, too long, empty, or of a size that fits another one. */
+static void test_refused_lengths(const struct run *run) {
+    const size_t right[3] = {run->W, frame_bytes(run), slot_bytes(run)};
+    struct lent *const lent[3] = {&lent_marker, &lent_frames, &lent_slots};
+    for (int write = 0; write < 2; write++) {
+        for (size_t i = 0; i < 3; i++) {
+            const size_t wrong[] = {0, right[i] - 1, right[i] + 1, right[i] + 8, right[i] + 300};
+            for (size_t j = 0; j < sizeof wrong / sizeof wrong[0]; j++) {
+                lend_header(run);
+                lend(&lent_frames, right[1]);
+                lend(&lent_slots, right[2]);
+                lend(lent[i], wrong[j]);
+                for (size_t x = 0; i == 0 && x < lent[i]->len && x < run->W; x++) {
+                    lent[i]->slice[x] = 0; /* a marker that passes question 7 */
+                }
+                CHECK(call(write) == MAHYREI_BAD_LENGTH);
+            }
+            lend_header(run);
+            lend(&lent_frames, right[1]);
+            lend(&lent_slots, right[2]);
+            lend_null(lent[i]);
+            CHECK(call(write) == MAHYREI_BAD_LENGTH);
+        }
+    }
+}
+
+static void test_every_number_met(void) {
+    unsigned long total = 0, expected = 0;
+    for (size_t number = 0; number < 256; number++) {
+        const bool written = number <= 8, read = number <= 16 || number == 18;
+        total += met[0][number] + met[1][number];
+        expected += (written ? met[1][number] : 0) + (read ? met[0][number] : 0);
+        CHECK(!written || met[1][number] > 0);
+        CHECK(!read || met[0][number] > 0);
+    }
+    CHECK(total == expected);
+    printf("run_calls: %lu calls, %lu checks, %lu failed\n", total, checks, failures);
+}
+
+int main(void) {
+    map_area(&lent_header);
+    map_area(&lent_marker);
+    map_area(&lent_frames);
+    map_area(&lent_slots);
+    test_known_runs();
+    test_example_sizes();
+    test_symbol_example();
+    test_words();
+    test_refused_headers();
+    test_refused_markers();
+    for (size_t i = 0; i < RUN_COUNT; i++) {
+        const struct run *run = &RUNS[i].run;
+        test_random_runs(run);
+        test_damage(run);
+        test_stream(run);
+        test_refused_header_bytes(run);
+        test_refused_lengths(run);
+    }
+    test_every_number_met();
+    return failures == 0 ? EXIT_SUCCESS : EXIT_FAILURE;
+}

@@ -1,0 +1,83 @@
+//! The library's calls, as include/mahyrei.h has them, on slices.
+
+mod c {
+    extern "C" {
+        pub fn word_write(
+            rate: u64,
+            block: *const u8,
+            block_len: usize,
+            word: *mut u8,
+            word_len: usize,
+        ) -> u64;
+        pub fn word_read(
+            rate: u64,
+            word: *const u8,
+            word_len: usize,
+            block: *mut u8,
+            block_len: usize,
+        ) -> u64;
+        pub fn run_write(
+            header: *const u8,
+            header_len: usize,
+            marker: *const u8,
+            marker_len: usize,
+            frames: *const u8,
+            frames_len: usize,
+            slots: *mut u8,
+            slots_len: usize,
+        ) -> u64;
+        pub fn run_read(
+            header: *const u8,
+            header_len: usize,
+            marker: *const u8,
+            marker_len: usize,
+            slots: *const u8,
+            slots_len: usize,
+            frames: *mut u8,
+            frames_len: usize,
+        ) -> u64;
+    }
+}
+
+// SAFETY, of all four: each pointer is valid for the length beside it, and the slice that is
+// written overlaps no other, since it is borrowed alone.
+
+pub fn word_write(rate: u64, block: &[u8], word: &mut [u8]) -> u64 {
+    let (word, word_len) = (word.as_mut_ptr(), word.len());
+    unsafe { c::word_write(rate, block.as_ptr(), block.len(), word, word_len) }
+}
+
+pub fn word_read(rate: u64, word: &[u8], block: &mut [u8]) -> u64 {
+    let (block, block_len) = (block.as_mut_ptr(), block.len());
+    unsafe { c::word_read(rate, word.as_ptr(), word.len(), block, block_len) }
+}
+
+pub fn run_write(header: &[u8], marker: &[u8], frames: &[u8], slots: &mut [u8]) -> u64 {
+    unsafe {
+        c::run_write(
+            header.as_ptr(),
+            header.len(),
+            marker.as_ptr(),
+            marker.len(),
+            frames.as_ptr(),
+            frames.len(),
+            slots.as_mut_ptr(),
+            slots.len(),
+        )
+    }
+}
+
+pub fn run_read(header: &[u8], marker: &[u8], slots: &[u8], frames: &mut [u8]) -> u64 {
+    unsafe {
+        c::run_read(
+            header.as_ptr(),
+            header.len(),
+            marker.as_ptr(),
+            marker.len(),
+            slots.as_ptr(),
+            slots.len(),
+            frames.as_mut_ptr(),
+            frames.len(),
+        )
+    }
+}
