@@ -1,16 +1,18 @@
--- The bench table: for each row what the definitions compute, and what the table lists. One theorem says that they are the same.
+-- The bench table: for each of its fourteen rows what the definitions compute, and what the table lists. One theorem says that they are the same.
 -- Bits are written as binary numbers, the first highest; bits and places count from 0.
 use mathlib.Core.Path.{_≡_, refl}
 use mathlib.Core.List.{List, [], _∷_, map}
-use Prim.Native.Nat.{ℕ}
+use Prim.Native.Nat.{ℕ, _+_, _/_, _^_}
 use lib.ListN.{getD, replicate}
-use Rattle.bits.specs.Pack.{val}
+use Rattle.bits.specs.Pack.{val, bitAt}
 use Rattle.rates.specs.Rate.{inputsPer, codedPer}
 use Rattle.crc.specs.Check.{register, advance}
 use Rattle.convolution.specs.Code.{encode, stepOf, first, second, delay}
 use Rattle.interleaver.specs.Interleaver.{place}
 use Rattle.accumulator.specs.Accumulator.{accumulate}
 use Rattle.randomizer.specs.Randomizer.{sequence, window, next}
+use Rattle.slots.specs.declared.Plan.{Plan}
+use Rattle.slots.specs.Slots.{dataAt, symbolAt, slotBit, wordIn}
 
 pub record Row : Type 0 where
   pub computed : ℕ
@@ -22,6 +24,25 @@ row a b = record { computed = a; listed = b }
 -- the bits of a list, and zeros behind them
 abbrev these : List ℕ → ℕ → ℕ
 these xs i = getD xs i 0
+
+-- a run of one word at m bits to a symbol, not spread (N = 1), with one marker symbol
+abbrev pub plan : ℕ → ℕ → Plan
+plan m mark = record {
+  bits = m;
+  order = 2 ^ m;
+  group = 2 ^ m + 2 ^ m / 4;
+  symbols = 15120 / m;
+  words = 1;
+  rows = 1;
+  step = 1;
+  lines = 1;
+  count = 1;
+  marks = mark ∷ replicate 31 0;
+}
+
+-- its word: this byte, and zeros behind it
+abbrev pub packed : ℕ → List ℕ
+packed b = b ∷ replicate 1889 0
 
 abbrev pub table : List Row
 table =
@@ -42,8 +63,12 @@ table =
     ∷ row (val (encode 2 (these (1 ∷ 0 ∷ 0 ∷ []))) 5) 0b11_1_11
     -- step 6: the accumulator of 1101
     ∷ row (val (accumulate (these (1 ∷ 1 ∷ 0 ∷ 1 ∷ []))) 4) 0b1001
+    -- step 8: the symbol that bits 1101 are at m = 4
+    ∷ row (dataAt (plan 4 0) (wordIn (packed 0b1101_0000)) 0) 13
+    -- step 10: the slots of symbol 2 at M = 4, its guard slot last; it is the marker symbol, so that they are the run's first
+    ∷ row (val (slotBit (plan 2 2) (wordIn (packed 0))) (plan 2 2 .group)) 0b0010_0
     ∷ []
 
 pub bench : map (λ r. r .computed) table ≡ map (λ r. r .listed) table
-unfolding val sequence window next place register advance encode stepOf first second delay inputsPer codedPer accumulate
+unfolding val sequence window next place register advance encode stepOf first second delay inputsPer codedPer accumulate bitAt dataAt symbolAt slotBit
 bench = refl
