@@ -21,6 +21,7 @@ use Rattle.word.specs.declared.WriteAnswer.the-variants as W
 use Rattle.word.specs.declared.ReadAnswer.{ReadAnswer}
 use Rattle.word.specs.declared.ReadAnswer.the-variants as R
 pub mod Laws
+pub mod Lists
 pub mod Answers
 pub mod Judging
 

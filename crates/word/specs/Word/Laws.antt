@@ -1,33 +1,26 @@
--- What holds of words: the only text that opens the definitions of `Word`.
-use mathlib.Core.Path.{_≡_, refl, sym, ap, ap₂, _∙_}
-use mathlib.Core.Bool.{Bool, true, false}
+-- What holds of words. Only this file and those beside it open the definitions of `Word`.
+use mathlib.Core.Path.{_≡_, refl, sym, ap, _∙_}
+use mathlib.Core.Bool.{true}
 use mathlib.Core.List.{List}
 use mathlib.Core.Logic.{⊎-elim}
-use Prim.Native.Nat.{ℕ, zero, suc, _+_, _-_, _*_, _/_, _%_, _^_, _≤_, _<_}
+use Prim.Native.Nat.{ℕ, _+_, _-_, _*_, _/_, _%_, _^_, _≤_, _<_}
 use native.Mathlib.Omega.{arith}
 use lib.Bits.{bitXor}
-use lib.Dec.{ltb, eqb}
-use lib.ListN.{length, getD, take, set, length-set, length-take, List·getD-eq-default}
-use lib.Seq.{getD-take, getD-set-same, getD-set-other}
-use borrow.Author.Tests.{lt-ltb, le-ltb, eq-eqb, ne-eqb, ltb-true, eqb-true}
-use Rattle.bits.specs.Choice.{pick, lt-or-le, eq-or-ne}
+use lib.Dec.{eqb}
+use lib.ListN.{length, getD}
+use borrow.Author.Tests.{eq-eqb, eqb-true}
+use Rattle.bits.specs.Choice.{lt-or-le}
 use Rattle.bits.specs.Sum.{sum3}
-use Rattle.bits.specs.Table.{both, both-true, tab, getD-tab, tab-same}
-use Rattle.bits.specs.First.{upTo, none-fails, all-pass, first-same}
-use Rattle.bits.specs.Loops.{Spread}
+use Rattle.bits.specs.Table.{both-true, tab, getD-tab, tab-same}
+use Rattle.bits.specs.First.{none-fails, all-pass}
 use Rattle.bits.specs.Pack.{val, bitAt, bytesOf, cut, Bytes, Bits, bit-lt, bit-bytes, bit-val, val-bits, val-same, bytes-made, bytes-same, bytes-are, length-bytes, cut-in, cut-past, cut-bits, cut-same, cut-sum3}
 use Rattle.rates.specs.Rate.{infoBits, inputBits, blockBytes, block-size}
 use Rattle.crc.specs.Check.{register, register-same, register-lt, checkBit, checked, checked-block, checked-check, checked-bits, checked-same, checked-sum3}
-use Rattle.convolution.specs.Code.{terminated, encode, decode, encode-bits, encode-same, encode-plus, decode-bits, decode-same, decode-encode}
+use Rattle.convolution.specs.Code.{encode, encode-bits, encode-same, encode-plus, decode-bits, decode-same, decode-encode}
 use Rattle.interleaver.specs.Interleaver.{wordBits, interleave, deinterleave, interleave-bits, deinterleave-bits, interleave-same, deinterleave-same, deinterleave-interleave, interleave-deinterleave, interleave-plus, deinterleave-plus}
 use Rattle.accumulator.specs.Accumulator.{accumulate, differentiate, accumulate-bits, differentiate-bits, accumulate-same, differentiate-same, accumulate-plus, differentiate-plus, differentiate-accumulate, accumulate-differentiate}
 use Rattle.randomizer.specs.Randomizer.{randomize, randomize-bits, randomize-same, randomize-twice, randomize-plus, randomize-sum3}
-use Rattle.word.specs.Word.{wordBytes, inputOf, codedOf, shuffled, wordOf, codedIn, inputIn, packedBlock, blockIn, spareZero, agrees, firstWrong, endsInZeros, checkRight, writeSays, judged, readSays}
-use Rattle.word.specs.Answer.{writeNumber, readNumber}
-use Rattle.word.specs.declared.WriteAnswer.{WriteAnswer}
-use Rattle.word.specs.declared.WriteAnswer.the-variants as W
-use Rattle.word.specs.declared.ReadAnswer.{ReadAnswer}
-use Rattle.word.specs.declared.ReadAnswer.the-variants as R
+use Rattle.word.specs.Word.{wordBytes, inputOf, codedOf, shuffled, wordOf, codedIn, inputIn, packedBlock, blockIn, agrees, firstWrong, endsInZeros, checkRight}
 
 -- ---- bits all the way
 
@@ -339,116 +332,3 @@ coded-written rate block x l = coded-back (codedOf rate block) (coded-bits rate 
 pub word-is : (rate : ℕ) (block xs : List ℕ) → length xs ≡ wordBytes → Bytes xs → ((j : ℕ) → j < wordBits → bitAt xs j ≡ shuffled (codedOf rate block) j) → xs ≡ wordOf rate block
 unfolding wordOf
 word-is rate block xs e b h = bytes-made wordBytes (shuffled (codedOf rate block)) xs e b (λ j l. h j (omega arith))
-
--- ---- the code's lists in place of the functions
-
--- the input bits, put one after another: the block's, the check's, and two zeros
-pub input-made : (rate : ℕ) (block xs ys : List ℕ) (check k : ℕ) → k ≡ infoBits rate → check ≡ register (bitAt block) k → k + 34 ≤ length xs
-    → ((i : ℕ) → i < k → getD xs i 0 ≡ bitAt block i) → Spread xs k 32 check 32 ys
-    → (i : ℕ) → i < inputBits rate → getD (set (set ys (k + 32) 0) (k + 33) 0) i 0 ≡ inputOf rate block i
-unfolding inputBits checkBit
-input-made rate block xs ys check k ek e long h s i l =
-    let zs : List ℕ = set ys (k + 32) 0 in
-    let ly : length ys ≡ length xs = s .long in
-    let lz : length zs ≡ length ys = length-set ys (k + 32) 0 in
-    ⊎-elim
-    (λ (u : i < k + 32).
-    getD-set-other zs (k + 33) i 0 0 (λ q. omega arith) ∙ getD-set-other ys (k + 32) i 0 0 (λ q. omega arith)
-    ∙ ⊎-elim
-    (λ (v : i < k). s .earlier i v ∙ h i v ∙ sym (input-block rate block i (omega arith)))
-    (λ (v : k ≤ i).
-    let d : i ≡ k + (i - k) = omega arith in
-    let d' : i ≡ infoBits rate + (i - k) = omega arith in
-    ap (λ (j : ℕ). getD ys j 0) d ∙ s .here (i - k) (omega arith)
-    ∙ ap (λ (r : ℕ). r / 2 ^ (31 - (i - k)) % 2) (e ∙ ap (register (bitAt block)) ek)
-    ∙ sym (ap (inputOf rate block) d' ∙ input-check rate block (i - k) (omega arith)))
-    (lt-or-le i k))
-    (λ (u : k + 32 ≤ i).
-    ⊎-elim
-    (λ (v : i ≡ k + 33). ap (λ (j : ℕ). getD (set zs (k + 33) 0) j 0) v ∙ getD-set-same zs (k + 33) 0 0 (omega arith))
-    (λ (v : i ≡ k + 33 → ⊥).
-    let d : i ≡ k + 32 = omega arith in
-    getD-set-other zs (k + 33) i 0 0 v ∙ ap (λ (j : ℕ). getD zs j 0) d ∙ getD-set-same ys (k + 32) 0 0 (omega arith))
-    (eq-or-ne i (k + 33))
-    ∙ sym (input-end rate block i (omega arith)))
-    (lt-or-le i (k + 32))
-
--- the coded bits of a list of input bits
-pub coded-list : (rate : ℕ) (block input : List ℕ) → rate < 3 → input ≡ tab (inputBits rate) (inputOf rate block)
-    → tab wordBits (encode rate (λ i. getD input i 0)) ≡ tab wordBits (codedOf rate block)
-unfolding codedOf
-coded-list rate block input h e =
-    tab-same wordBits (encode rate (λ i. getD input i 0)) (codedOf rate block) (λ j l.
-    encode-same rate (λ i. getD input i 0) (inputOf rate block) h (λ i k.
-    ap (λ (xs : List ℕ). getD xs i 0) e ∙ getD-tab (inputBits rate) (inputOf rate block) i k) j l)
-
--- questions 13 to 15 look at the coded bits and at the input bits, and at nothing behind them
-pub judged-same : (rate : ℕ) (c d x y : ℕ → ℕ) → rate < 3 → ((j : ℕ) → j < wordBits → c j ≡ d j) → ((i : ℕ) → i < inputBits rate → x i ≡ y i) → judged rate c x ≡ judged rate d y
-unfolding judged firstWrong agrees endsInZeros checkRight inputBits
-judged-same rate c d x y h ec ex =
-    let k : ℕ = infoBits rate in
-    let wrong : firstWrong rate c x ≡ firstWrong rate d y =
-    first-same (agrees rate c x) (agrees rate d y) wordBits (λ j l. ap₂ eqb (ec j l) (encode-same rate x y h ex j l)) in
-    let end0 : x (k + 32) ≡ y (k + 32) = ex (k + 32) (omega arith) in
-    let end1 : x (k + 33) ≡ y (k + 33) = ex (k + 33) (omega arith) in
-    let field : val (λ i. x (k + i)) 32 ≡ val (λ i. y (k + i)) 32 = val-same (λ i. x (k + i)) (λ i. y (k + i)) 32 (λ i l. ex (k + i) (omega arith)) in
-    let check : register x k ≡ register y k = register-same x y k (λ i l. ex i (omega arith)) in
-    rw (wrong, end0, end1, field, check) refl
-
--- the block is made of the first k input bits alone
-pub packed-same : (rate : ℕ) (x y : ℕ → ℕ) → ((i : ℕ) → i < infoBits rate → x i ≡ y i) → packedBlock rate x ≡ packedBlock rate y
-unfolding packedBlock
-packed-same rate x y e = bytes-same (blockBytes rate) (cut (infoBits rate) x) (cut (infoBits rate) y) (λ j l. cut-same (infoBits rate) x y e j)
-
-pub packed-length : (rate : ℕ) (x : ℕ → ℕ) → length (packedBlock rate x) ≡ blockBytes rate
-unfolding packedBlock
-packed-length rate x = length-bytes (blockBytes rate) (cut (infoBits rate) x)
-
--- the first k of a list of input bits, packed
-pub packed-made : (rate : ℕ) (input : List ℕ) (n k : ℕ) → n ≡ blockBytes rate → k ≡ infoBits rate → bytesOf n (λ i. getD (take k input) i 0) ≡ packedBlock rate (λ i. getD input i 0)
-unfolding packedBlock
-packed-made rate input n k en ek =
-    ap (λ (m : ℕ). bytesOf m (λ i. getD (take k input) i 0)) en
-    ∙ bytes-same (blockBytes rate) (λ i. getD (take k input) i 0) (cut (infoBits rate) (λ i. getD input i 0)) (λ j l.
-    ⊎-elim
-    (λ (u : j < k). getD-take k input j 0 u ∙ sym (cut-in (infoBits rate) (λ i. getD input i 0) j (omega arith)))
-    (λ (u : k ≤ j).
-    let short : length (take k input) ≤ j = omega (arith, length-take k input) in
-    List·getD-eq-default (take k input) 0 short ∙ sym (cut-past (infoBits rate) (λ i. getD input i 0) j (omega arith)))
-    (lt-or-le j k))
-
--- bits at the front of a list of bits
-pub front-bits : (input : List ℕ) (k : ℕ) → ((i : ℕ) → getD input i 0 < 2) → (i : ℕ) → getD (take k input) i 0 < 2
-front-bits input k h i =
-    ⊎-elim
-    (λ (u : i < k). rw (getD-take k input i 0 u) (h i))
-    (λ (u : k ≤ i).
-    let short : length (take k input) ≤ i = omega (arith, length-take k input) in
-    rw (List·getD-eq-default (take k input) 0 short) (omega arith))
-    (lt-or-le i k)
-
--- the input bits that were read, as a list
-pub judged-list : (rate : ℕ) (c x : ℕ → ℕ) (input : List ℕ) → rate < 3 → input ≡ tab (inputBits rate) x → judged rate c (λ i. getD input i 0) ≡ judged rate c x
-judged-list rate c x input h e =
-    judged-same rate c c (λ i. getD input i 0) x h (λ j l. refl) (λ i l. ap (λ (xs : List ℕ). getD xs i 0) e ∙ getD-tab (inputBits rate) x i l)
-
-pub packed-list : (rate : ℕ) (x : ℕ → ℕ) (input : List ℕ) → input ≡ tab (inputBits rate) x → packedBlock rate (λ i. getD input i 0) ≡ packedBlock rate x
-unfolding inputBits
-packed-list rate x input e =
-    packed-same rate (λ i. getD input i 0) x (λ i l. ap (λ (xs : List ℕ). getD xs i 0) e ∙ getD-tab (inputBits rate) x i (omega arith))
-
--- and from the coded bits as a list
-pub judged-coded : (rate : ℕ) (word coded : List ℕ) → rate < 3 → coded ≡ tab wordBits (codedIn word)
-    → judged rate (λ j. getD coded j 0) (decode rate (λ j. getD coded j 0)) ≡ judged rate (codedIn word) (inputIn rate word)
-unfolding inputIn
-judged-coded rate word coded h e =
-    let c : (j : ℕ) → j < wordBits → getD coded j 0 ≡ codedIn word j = λ j l. ap (λ (xs : List ℕ). getD xs j 0) e ∙ getD-tab wordBits (codedIn word) j l in
-    judged-same rate (λ j. getD coded j 0) (codedIn word) (decode rate (λ j. getD coded j 0)) (inputIn rate word) h c
-    (λ i l. decode-same rate (λ j. getD coded j 0) (codedIn word) h c i l)
-
-pub block-coded : (rate : ℕ) (word coded : List ℕ) → rate < 3 → coded ≡ tab wordBits (codedIn word)
-    → packedBlock rate (decode rate (λ j. getD coded j 0)) ≡ blockIn rate word
-unfolding blockIn inputIn inputBits
-block-coded rate word coded h e =
-    packed-same rate (decode rate (λ j. getD coded j 0)) (inputIn rate word) (λ i l.
-    decode-same rate (λ j. getD coded j 0) (codedIn word) h (λ j k. ap (λ (xs : List ℕ). getD xs j 0) e ∙ getD-tab wordBits (codedIn word) j k) i (omega arith))

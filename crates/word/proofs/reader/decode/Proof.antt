@@ -6,7 +6,8 @@ use lib.ListN.{length, getD}
 use Rattle.bits.specs.Table.{tab, length-tab, tab-bits}
 use Rattle.word.specs.Answer.{afterRead}
 use Rattle.word.specs.Word.{codedIn}
-use Rattle.word.specs.Word.Laws.{coded-in-bits, judged-coded, block-coded}
+use Rattle.word.specs.Word.Laws.{coded-in-bits}
+use Rattle.word.specs.Word.Lists.{judged-coded, block-coded}
 use borrow.Author.Needs.{needs}
 use Rattle.word.proofs.reader.decode.Statement.{statement}
 use Rattle.word.proofs.reader.decode.Tie as tie

@@ -5,7 +5,7 @@ use native.Mathlib.Omega.{arith}
 use lib.ListN.{length, getD}
 use Rattle.bits.specs.Pack.{length-bytes}
 use Rattle.rates.specs.Rate.{infoBits, inputBits, blockBytes, block-size, input-room}
-use Rattle.word.specs.Word.Laws.{packed-length}
+use Rattle.word.specs.Word.Lists.{packed-length}
 use Rattle.word.specs.Word.Judging.{says-13, says-14, says-14-last, says-15, says-0}
 use borrow.Author.Needs.{needs}
 use Rattle.word.proofs.reader.judge.Statement.{statement}

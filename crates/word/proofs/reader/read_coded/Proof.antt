@@ -11,7 +11,7 @@ use Rattle.convolution.specs.Code.{decode, decode-bits}
 use Rattle.convolution.specs.Ready.{Decodes}
 use Rattle.word.specs.Answer.{afterRead}
 use Rattle.word.specs.Word.{packedBlock}
-use Rattle.word.specs.Word.Laws.{judged-list, packed-list}
+use Rattle.word.specs.Word.Lists.{judged-list, packed-list}
 use borrow.Author.Needs.{needs}
 use Rattle.word.proofs.reader.read_coded.Statement.{statement}
 use Rattle.word.proofs.reader.read_coded.Tie as tie

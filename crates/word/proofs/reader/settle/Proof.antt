@@ -9,7 +9,7 @@ use Rattle.bits.specs.Table.{copied}
 use Rattle.rates.specs.Rate.{infoBits, inputBits, block-room}
 use Rattle.word.specs.Answer.{afterRead}
 use Rattle.word.specs.Word.{packedBlock}
-use Rattle.word.specs.Word.Laws.{packed-made, front-bits}
+use Rattle.word.specs.Word.Lists.{packed-made, front-bits}
 use Rattle.word.proofs.Kept.{read-kept}
 use Rattle.word.specs.declared.ReadAnswer.the-variants as R
 use borrow.Author.Needs.{needs}

@@ -9,7 +9,8 @@ use Rattle.bits.specs.Table.{tab, length-tab, tab-bits, front-made}
 use Rattle.rates.specs.Rate.{inputBits, input-room}
 use Rattle.convolution.specs.Ready.{Encodes}
 use Rattle.word.specs.Word.{inputOf}
-use Rattle.word.specs.Word.Laws.{input-bits, coded-list}
+use Rattle.word.specs.Word.Laws.{input-bits}
+use Rattle.word.specs.Word.Lists.{coded-list}
 use borrow.Author.Needs.{needs}
 use Rattle.word.proofs.writer.encode.Statement.{statement}
 use Rattle.word.proofs.writer.encode.Tie as tie

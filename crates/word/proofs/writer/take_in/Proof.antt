@@ -4,7 +4,7 @@ use Prim.Native.Nat.{ℕ, _+_, _*_, _<_, _≤_}
 use native.Mathlib.Omega.{arith}
 use lib.ListN.{length, length-set}
 use Rattle.rates.specs.Rate.{block-size, input-room}
-use Rattle.word.specs.Word.Laws.{input-made}
+use Rattle.word.specs.Word.Lists.{input-made}
 use borrow.Author.Needs.{needs}
 use Rattle.word.proofs.writer.take_in.Statement.{statement}
 use Rattle.word.proofs.writer.take_in.Tie as tie
