@@ -107,7 +107,7 @@ pub passes-before : (p : ℕ → Bool) (n k : ℕ) → k < upTo p 0 n → p k �
 passes-before p n k b = first-below p (n - 0) 0 k (omega arith) b
 
 -- tests that agree find the same place
-same-from : (p q : ℕ → Bool) (m i : ℕ) → ((k : ℕ) → i ≤ k → k < i + m → p k ≡ q k) → firstFrom p m i ≡ firstFrom q m i
+pub same-from : (p q : ℕ → Bool) (m i : ℕ) → ((k : ℕ) → i ≤ k → k < i + m → p k ≡ q k) → firstFrom p m i ≡ firstFrom q m i
 unfolding firstFrom
 same-from p q zero i h = refl
 same-from p q (suc m) i h =

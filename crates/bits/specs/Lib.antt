@@ -2,6 +2,8 @@ pub mod Choice
 pub mod Sum
 pub mod Table
 pub mod Pack
+pub mod Parts
 pub mod First
+pub mod Range
 pub mod Loops
 pub mod Weight

@@ -4,7 +4,7 @@ use Prim.Native.Nat.{ℕ, zero, suc, _+_, _-_, _*_, _/_, _%_, _^_, _≤_, _<_}
 use native.Mathlib.Omega.{arith}
 use mathlib.Core.Logic.{⊎-elim}
 use lib.Arith.{bin-ind}
-use lib.Bits.{bitXor, differ, xor-step, xor-zero-l, xor-zero-r, xor-comm, xor-self, xor-lt, xor-shr, xor-mod}
+use lib.Bits.{bitXor, bitOr, differ, xor-step, xor-zero-l, xor-zero-r, xor-comm, xor-self, xor-lt, xor-shr, xor-mod, or-add-and, and-le-l, and-le-r}
 use Rattle.bits.specs.Choice.{bit-cases}
 
 -- the sum of two digits, three ways
@@ -79,3 +79,7 @@ sum3-self a = xor-cancel-r a a
 -- a bit of a sum is the sum of the bits
 pub xor-digit : (a b k : ℕ) → bitXor a b / 2 ^ k % 2 ≡ bitXor (a / 2 ^ k % 2) (b / 2 ^ k % 2)
 xor-digit a b k = ap (λ (x : ℕ). x % 2) (xor-shr a b k) ∙ xor-mod (a / 2 ^ k) (b / 2 ^ k) 1
+
+-- `bitOr` is 0 only of zeros
+pub or-zero : (a b : ℕ) → bitOr a b ≡ 0 → (a ≡ 0) × (b ≡ 0)
+or-zero a b e = omega (arith, or-add-and a b, and-le-l a b, and-le-r a b)

@@ -13,6 +13,20 @@ pub fn bit_at(packed: &[u8], j: usize) -> u8
     (packed[j / 8] >> (7 - j % 8)) & 1
 }
 
+// Eight bytes from byte `at` on as one number, the first highest.
+pub fn eight(packed: &[u8], at: usize) -> u64
+    requires { ⌜ at + 8 ≤ length (now packed) ⌝ }
+    ensures { λ r. ⌜ r ≡ val (λ t. bitAt (now (packed .entry)) (8 * at + t)) 64 ⌝ }
+{
+    let mut v = 0u64;
+    let mut i = 0usize;
+    while i < 8 {
+        v = (v << 8) | (packed[at + i] as u64);
+        i += 1;
+    }
+    v
+}
+
 // The lowest `width` bits of v, the highest first, one to a place from `at` on.
 pub fn put_number(out: &mut [u8], at: usize, width: usize, v: u64)
     requires { ⌜ (at + width ≤ length (now out)) × (width ≤ 64) ⌝ }

@@ -1,9 +1,8 @@
--- What the calls ask of the slots that they are lent, and how far a scan goes on.
+-- What the calls ask of the slots that they are lent.
 use mathlib.Core.Path.{_≡_}
 use mathlib.Core.List.{List}
-use Prim.Native.Nat.{ℕ, _+_, _*_, _≤_, _<_}
+use Prim.Native.Nat.{ℕ, _*_, _≤_, _<_}
 use lib.ListN.{length}
-use Rattle.bits.specs.Pack.{bitAt}
 use Rattle.slots.specs.declared.Plan.{Plan}
 use Rattle.slots.specs.Plan.{Fine, slotBytes}
 use Rattle.capture.specs.declared.SlotsAnswer.the-variants.{Good}
@@ -32,9 +31,3 @@ pub record Taken (p : Plan) (b : List ℕ) (j : ℕ) (word : List ℕ) : Type 0 
 pub record Slots (b : List ℕ) (x end : ℕ) : Type 0 where
   pub order : x ≤ end
   pub room : end ≤ 8 * length b
-
--- how far a scan may go on from slot x: not at all at a pulse
-pub record Stride (b : List ℕ) (x end r : ℕ) : Type 0 where
-  pub stop : r ≡ 0 → bitAt b x ≡ 1
-  pub pass : (k : ℕ) → x ≤ k → k < x + r → bitAt b k ≡ 0
-  pub room : x + r ≤ end

@@ -14,7 +14,7 @@ use Rattle.slots.specs.declared.Plan.{Plan}
 use Rattle.slots.specs.Plan.{Fine, symbolCount}
 use Rattle.slots.specs.Laws.{group-least}
 use Rattle.capture.specs.Capture.{empty, pulse, symbolIn, firstBadGroup}
-use Rattle.capture.specs.Range.{found, found-at, found-none, none-found}
+use Rattle.bits.specs.Range.{found, found-at, found-none, none-found}
 
 -- the g slots from x on hold one pulse, at q, among the first m
 pub record Group (b : List ℕ) (m g x q : ℕ) : Type 0 where

@@ -1,10 +1,11 @@
 pub mod Capture
-pub mod Range
 pub mod Groups
 pub mod Answer
 pub mod Return
 pub mod Asks
-pub mod Stride
+pub mod Leading
+pub mod Window
 pub mod Bounds
 pub mod Scan
+pub mod Zeros
 pub mod Lines

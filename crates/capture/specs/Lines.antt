@@ -16,7 +16,7 @@ use Rattle.slots.specs.declared.Plan.{Plan}
 use Rattle.slots.specs.Plan.{Fine, unit, total, symbolCount}
 use Rattle.slots.specs.Slots.{hitBy, placeOf}
 use Rattle.capture.specs.Capture.{symbolIn, markRight, restZero}
-use Rattle.capture.specs.Range.{found, found-at}
+use Rattle.bits.specs.Range.{found, found-at}
 
 -- the first that fails in a part is the first of the whole
 pub part-fails : (t : ℕ → Bool) (x mid end : ℕ) → x ≤ mid → mid ≤ end → upTo t x mid < mid → upTo t x end ≡ upTo t x mid

@@ -21,7 +21,7 @@ use Rattle.slots.specs.Channel.{symbolOf, hit-place, place-hit, place-lt, symbo
 use Rattle.capture.specs.declared.SlotsAnswer.{SlotsAnswer}
 use Rattle.capture.specs.declared.SlotsAnswer.the-variants.{Good, SpareSlots, BadGroup, BadMark, BadRest}
 use Rattle.capture.specs.Capture.{empty, pulse, spareZero, symbolIn, firstBadGroup, markRight, firstBadMark, restZero, firstBadRest, wordBit, wordOut}
-use Rattle.capture.specs.Range.{found-none, none-found}
+use Rattle.bits.specs.Range.{found-none, none-found}
 use Rattle.capture.specs.Groups.{passed, group-made, tells}
 use Rattle.capture.specs.Answer.{slotsSay}
 

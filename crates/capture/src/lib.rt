@@ -1,4 +1,5 @@
 // Steps 10 to 8 undone, with questions 9 to 12: captured slots back to words.
+mod groups;
 mod questions;
 mod scan;
 mod words;
@@ -31,7 +32,7 @@ pub fn judge(p: slots::Plan, b: &[u8]) -> SlotsAnswer
     if scan::pulse_from(b, n * p.group, end) != end {
         return SlotsAnswer::SpareSlots;
     }
-    let group = questions::first_bad_group(p, b);
+    let group = groups::first_bad_group(p, b);
     if group != n {
         return SlotsAnswer::BadGroup(group);
     }

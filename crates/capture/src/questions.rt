@@ -1,30 +1,13 @@
-// Questions 10, 11 and 12, each over all symbols: the first that fails, or their number.
+// Questions 11 and 12, each over all symbols: the first that fails, or their number.
 ghost use mathlib.Core.Path.{_≡_};
 ghost use Prim.Native.Nat.{_+_, _*_, _%_, _<_};
 ghost use Rattle.bits.specs.Choice.{bool};
 ghost use Rattle.bits.specs.First.{upTo};
 ghost use Rattle.slots.specs.Plan.{Fine, unit};
 ghost use Rattle.slots.specs.Slots.{hitBy};
-ghost use Rattle.capture.specs.Asks.{Captured, Grouped};
-ghost use Rattle.capture.specs.Capture.{firstBadGroup, markRight, firstBadMark, restZero, firstBadRest};
+ghost use Rattle.capture.specs.Asks.{Grouped};
+ghost use Rattle.capture.specs.Capture.{markRight, firstBadMark, restZero, firstBadRest};
 ghost use Rattle.capture.specs.Lines.{turned};
-
-// Question 10.
-pub fn first_bad_group(p: slots::Plan, b: &[u8]) -> usize
-    requires { ⌜ Captured p (now b) ⌝ }
-    ensures { λ r. ⌜ r ≡ firstBadGroup p (now (b .entry)) ⌝ }
-{
-    let n = p.lines * (p.symbols + p.count);
-    let order = p.order;
-    let mut s = 0;
-    while s < n {
-        if crate::scan::symbol_in(p, b, s) >= order {
-            return s;
-        }
-        s += 1;
-    }
-    s
-}
 
 // Marker symbol w of a row. Each group has one pulse, so that the slot of the right symbol tells.
 fn mark_right(p: slots::Plan, b: &[u8], line: usize, w: usize) -> u8

@@ -1,42 +1,13 @@
 // Pulses among packed slots, and the symbols that they stand for.
 ghost use mathlib.Core.Path.{_≡_};
-ghost use Prim.Native.Nat.{_+_, _*_, _≤_, _<_};
+ghost use Prim.Native.Nat.{_+_, _*_, _/_, _≤_, _<_};
 ghost use lib.ListN.{length};
+ghost use Rattle.bits.specs.Pack.{val, cut};
 ghost use Rattle.slots.specs.Plan.{symbolCount};
-ghost use Rattle.capture.specs.Asks.{Captured, Grouped, Slots, Stride};
+ghost use Rattle.capture.specs.Asks.{Captured, Grouped, Slots};
 ghost use Rattle.capture.specs.Capture.{pulse, symbolIn};
-ghost use Rattle.capture.specs.Stride.{leads, lesser, joined};
-
-// The zeros in front of a byte's first one.
-fn leading(v: u8) -> usize
-    ensures { λ r. ⌜ r ≡ leads v ⌝ }
-{
-    if v >= 16 {
-        if v >= 64 {
-            if v >= 128 {
-                return 0;
-            }
-            return 1;
-        }
-        if v >= 32 {
-            return 2;
-        }
-        return 3;
-    }
-    if v >= 4 {
-        if v >= 8 {
-            return 4;
-        }
-        return 5;
-    }
-    if v >= 2 {
-        return 6;
-    }
-    if v >= 1 {
-        return 7;
-    }
-    8
-}
+ghost use Rattle.capture.specs.Leading.{Leads, halfOf, leftOut};
+ghost use Rattle.capture.specs.Window.{lesser, shown, reach, slotsFrom};
 
 // The smaller of two numbers.
 fn least(x: usize, y: usize) -> usize
@@ -45,37 +16,68 @@ fn least(x: usize, y: usize) -> usize
     if x < y { x } else { y }
 }
 
-// From slot x on: over the empty slots in front of the next pulse in its byte, or of the byte's end.
-fn stride_in_byte(b: &[u8], x: usize, end: usize) -> usize
-    requires { ⌜ Slots (now b) (x + 1) end ⌝ }
-    ensures { λ r. ⌜ Stride (now (b .entry)) x end r ⌝ }
+// The upper half of a number's bits, or the lower where the upper are zeros.
+fn half_of(half: usize, v: u64) -> u64
+    requires { ⌜ half < 64 ⌝ }
+    ensures { λ r. ⌜ r ≡ halfOf half v ⌝ }
 {
-    let r = x % 8;
-    let zeros = leading(b[x / 8] << r);
-    least(zeros, least(8 - r, end - x))
+    if v >> half == 0 { v } else { v >> half }
 }
 
-// Eight bytes at once, 0 where all are.
-fn eight(b: &[u8], i: usize) -> u8
-    requires { ⌜ i + 8 ≤ length (now b) ⌝ }
-    ensures { λ r. ⌜ r ≡ joined (now (b .entry)) i ⌝ }
+// The zeros that the other half leaves out.
+fn left_out(half: usize, v: u64) -> usize
+    requires { ⌜ half < 64 ⌝ }
+    ensures { λ r. ⌜ r ≡ leftOut half v ⌝ }
 {
-    b[i] | b[i + 1] | b[i + 2] | b[i + 3] | b[i + 4] | b[i + 5] | b[i + 6] | b[i + 7]
+    if v >> half == 0 { half } else { 0 }
 }
 
-// How far a scan may go on from slot x: over eight empty bytes, or within a byte; not at all at a pulse.
-fn stride(b: &[u8], x: usize, end: usize) -> usize
-    requires { ⌜ Slots (now b) (x + 1) end ⌝ }
-    ensures { λ r. ⌜ Stride (now (b .entry)) x end r ⌝ }
+// The zeros in front of the first one of 64 bits, by halves: no branch depends on where it stands.
+fn leading(v: u64) -> usize
+    requires { ⌜ 1 ≤ v ⌝ }
+    ensures { λ r. ⌜ Leads 64 v r ⌝ }
 {
-    if end - x >= 64 {
-        if x % 8 == 0 {
-            if eight(b, x / 8) == 0 {
-                return 64;
-            }
-        }
+    let mut rest = v;
+    let mut zeros = 0usize;
+    let mut k = 6usize;
+    while k > 0 {
+        k -= 1;
+        let half = 1usize << k;
+        zeros += left_out(half, rest);
+        rest = half_of(half, rest);
     }
-    stride_in_byte(b, x, end)
+    zeros
+}
+
+// The slots from byte i on as the first bits of a number: those of eight bytes, or of one near the end.
+fn window(b: &[u8], i: usize) -> u64
+    requires { ⌜ i < length (now b) ⌝ }
+    ensures { λ r. ⌜ r ≡ val (cut (shown (length (now (b .entry))) i) (slotsFrom (now (b .entry)) (8 * i))) 64 ⌝ }
+{
+    if b.len() - i >= 8 {
+        return bits::packing::eight(b, i);
+    }
+    (b[i] as u64) << 56
+}
+
+// The same from slot x on.
+fn ahead(b: &[u8], x: usize) -> u64
+    requires { ⌜ x < 8 * length (now b) ⌝ }
+    ensures { λ r. ⌜ r ≡ val (cut (reach (length (now (b .entry))) x) (slotsFrom (now (b .entry)) x)) 64 ⌝ }
+{
+    window(b, x / 8) << (x % 8)
+}
+
+// How many slots it shows.
+fn reach_of(b: &[u8], x: usize) -> usize
+    requires { ⌜ x < 8 * length (now b) ⌝ }
+    ensures { λ r. ⌜ r ≡ reach (length (now (b .entry))) x ⌝ }
+{
+    if b.len() - x / 8 >= 8 {
+        64 - x % 8
+    } else {
+        8 - x % 8
+    }
 }
 
 // The first pulse from slot x on, or the end.
@@ -85,11 +87,11 @@ pub fn pulse_from(b: &[u8], x: usize, end: usize) -> usize
 {
     let mut at = x;
     while at < end {
-        let d = stride(b, at, end);
-        if d == 0 {
-            return at;
+        let v = ahead(b, at);
+        if v != 0 {
+            return at + least(leading(v), end - at);
         }
-        at += d;
+        at += least(reach_of(b, at), end - at);
     }
     at
 }

@@ -5,13 +5,13 @@ use mathlib.Core.List.{List}
 use mathlib.Core.Logic.{⊎-elim}
 use Prim.Native.Nat.{ℕ, _+_, _≤_, _<_}
 use native.Mathlib.Omega.{arith}
-use lib.Bits.{bitOr, bitXor, or-add-and, and-le-l, and-le-r}
+use lib.Bits.{bitOr, bitXor}
 use lib.Dec.{eqb}
 use lib.ListN.{length, getD}
 use borrow.Author.Tests.{eq-eqb}
 use Rattle.bits.specs.Choice.{lt-or-le}
 use Rattle.bits.specs.First.{upTo, first-same}
-use Rattle.bits.specs.Sum.{same-xor}
+use Rattle.bits.specs.Sum.{same-xor, or-zero}
 use Rattle.bits.specs.Table.{tab, getD-tab}
 
 -- place j holds the same in both
@@ -26,9 +26,6 @@ Same made coded i n = (k : ℕ) → i ≤ k → k < i + n → sameAt made coded 
 pub record Both (made coded : List ℕ) : Type 0 where
   pub made-size : length made ≡ 15120
   pub coded-size : length coded ≡ 15120
-
-or-zero : (a b : ℕ) → bitOr a b ≡ 0 → (a ≡ 0) × (b ≡ 0)
-or-zero a b e = omega (arith, or-add-and a b, and-le-l a b, and-le-r a b)
 
 pub same-none : (made coded : List ℕ) (i : ℕ) → Same made coded i 0
 same-none made coded i k l h = absurd (omega arith)

@@ -11,7 +11,8 @@ use lib.Dec.{eqb, ltb}
 use lib.ListN.{length}
 use borrow.Author.Tests.{lt-ltb, le-ltb, eq-eqb, eqb-true}
 use Rattle.bits.specs.Choice.{pick, lt-or-le}
-use Rattle.bits.specs.First.{upTo, first-on, first-here, first-end, first-skip, all-pass, none-fails}
+use Rattle.bits.specs.First.{upTo, all-pass, none-fails}
+use Rattle.bits.specs.Range.{found-none, none-found}
 use Rattle.bits.specs.Pack.{Bits, Bytes, val, bitAt, bit-lt, val-same, val-bits, bit-val, bit-bytes, bytes-are, bytes-made, length-bytes}
 use Rattle.frames.specs.Stream.{frameMarker, markerBit, span, streamBit, marked, firstUnmarked, fillZero, framesIn}
 use Rattle.frames.specs.Answer.{framesSay, zeroAt}
@@ -57,28 +58,6 @@ stream-fill size count frames x h = rw (le-ltb x (count * span size) h) refl
 marker-val : val markerBit 64 ≡ frameMarker
 unfolding markerBit
 marker-val = val-bits frameMarker 64 (omega arith)
-
--- a search that starts anywhere
-all-from : (p : ℕ → Bool) (i n : ℕ) → i ≤ n → ((k : ℕ) → i ≤ k → k < n → p k ≡ true) → upTo p i n ≡ n
-all-from p i n l h =
-    sym (first-skip p (n - i) n i (omega arith) (λ k a b. h k a (omega arith))) ∙ first-end p n (i + (n - i)) (omega arith) (omega arith)
-
-passes-here : (p : ℕ → Bool) (i n : ℕ) → i < n → upTo p i n ≡ n → p i ≡ true
-passes-here p i n l e = cases (p i) refl
-  where
-    cases : (b : Bool) → p i ≡ b → p i ≡ true
-    cases true q = q
-    cases false q = absurd (let f = first-here p n i l q in omega arith)
-
-none-from : (p : ℕ → Bool) (d i n : ℕ) → i + d < n → upTo p i n ≡ n → p (i + d) ≡ true
-none-from p zero i n l e =
-    let z : i + 0 ≡ i = omega arith in
-    let h : i < n = omega arith in
-    ap p z ∙ passes-here p i n h e
-none-from p (suc d) i n l e =
-    let z : i + suc d ≡ i + 1 + d = omega arith in
-    let h : i < n = omega arith in
-    ap p z ∙ none-from p d (i + 1) n (omega arith) (first-on p n i h (passes-here p i n h e) ∙ e)
 
 -- the other answers are not `Good`
 abbrev isGood : FramesAnswer → ℕ
@@ -133,7 +112,7 @@ module _ (size count end : ℕ) (size1 : 1 ≤ size) (fit : count * span size �
     unfolding fillZero
     passes-18 =
         eq-eqb (upTo (zeroAt st) (count * span size) end) end
-        (all-from (zeroAt st) (count * span size) end fit (λ x l h.
+        (found-none (zeroAt st) (count * span size) end fit (λ x l h.
         eq-eqb (st x) 0 (agree x h ∙ stream-fill size count frames x l)))
 
     pub frames-back : length frames ≡ count * size → Bytes frames → (framesSay size count end st ≡ F.Good) × (framesIn size count st ≡ frames)
@@ -171,8 +150,7 @@ module _ (size count end : ℕ) (size1 : 1 ≤ size) (fit : count * span size �
     unfolding fillZero
     zero-bit h x l k =
         let e : upTo (zeroAt st) (count * span size) end ≡ end = eqb-true (upTo (zeroAt st) (count * span size) end) end h in
-        let z : count * span size + (x - count * span size) ≡ x = omega arith in
-        eqb-true (st x) 0 (ap (zeroAt st) (sym z) ∙ none-from (zeroAt st) (x - count * span size) (count * span size) end (omega arith) e)
+        eqb-true (st x) 0 (none-found (zeroAt st) (count * span size) end fit e x l k)
 
     pub stream-made : framesSay size count end st ≡ F.Good → (x : ℕ) → x < end → streamBit size count (framesIn size count st) x ≡ st x
     unfolding firstUnmarked

@@ -7,31 +7,12 @@ use native.Mathlib.Nat.{pow-suc, div-add-mod', mul-assoc, mul-left-comm}
 use lib.Arith.{digits-div, digits-mod}
 use lib.Bits.{bitAnd, bitOr, and-mask, or-shifted}
 use lib.ListN.{length, getD}
-use Rattle.bits.specs.Pack.{Bits, Bytes, val, bitAt, bit-lt, val-same, val-lt, val-bits}
+use Rattle.bits.specs.Pack.{Bits, Bytes, val, bitAt, bit-lt, val-same, val-lt}
+use Rattle.bits.specs.Parts.{val-split, byte-val}
 use Rattle.rates.specs.Rate.{infoBits, blockBytes, block-size}
 use Rattle.frames.specs.Stream.{joined}
 use Rattle.frames.specs.Blocks.{blockIn, joined-in}
 use Rattle.frames.specs.Ranges.{Stretch, Held, held}
-
--- a number in two parts
-pub val-append : (f : ℕ → ℕ) (m n : ℕ) → val f (m + n) ≡ val f m * 2 ^ n + val (λ t. f (m + t)) n
-unfolding val
-val-append f m zero = let z : m + 0 ≡ m = omega arith in ap (val f) z ∙ omega arith
-val-append f m (suc n) =
-    let z : m + suc n ≡ suc (m + n) = omega arith in
-    let p : val f m * (2 ^ n * 2) ≡ val f m * 2 ^ n * 2 = sym (mul-assoc (val f m) (2 ^ n) 2) in
-    let r = val-append f m n in
-    rw (z, pow-suc 2 n) (omega arith)
-
--- the bits of byte i make it
-pub byte-bits : (bs : List ℕ) (i : ℕ) → Bytes bs → val (λ t. bitAt bs (8 * i + t)) 8 ≡ getD bs i 0
-unfolding bitAt
-byte-bits bs i b =
-    val-same (λ t. bitAt bs (8 * i + t)) (λ t. getD bs i 0 / 2 ^ (8 - 1 - t) % 2) 8 (λ t l.
-    let d : (8 * i + t) / 8 ≡ i = omega arith in
-    let m : 7 - (8 * i + t) % 8 ≡ 8 - 1 - t = omega arith in
-    ap₂ (λ (x y : ℕ). getD bs x 0 / 2 ^ y % 2) d m)
-    ∙ val-bits (getD bs i 0) 8 (b i)
 
 -- the eight bits from bit y on, out of the two bytes that hold them
 pub eight-bits : (bs : List ℕ) (y : ℕ) → Bytes bs → (getD bs (y / 8) 0 * 256 + getD bs (y / 8 + 1) 0) / 2 ^ (8 - y % 8) % 256 ≡ val (λ t. bitAt bs (y + t)) 8
@@ -41,16 +22,16 @@ eight-bits bs y b =
     let f : ℕ → ℕ = λ t. bitAt bs (8 * q + t) in
     let bits : Bits f = λ t. bit-lt bs (8 * q + t) in
     let second : val (λ t. f (8 + t)) 8 ≡ getD bs (q + 1) 0 =
-    val-same (λ t. f (8 + t)) (λ t. bitAt bs (8 * (q + 1) + t)) 8 (λ t l. let e : 8 * q + (8 + t) ≡ 8 * (q + 1) + t = omega arith in ap (bitAt bs) e) ∙ byte-bits bs (q + 1) b in
+    val-same (λ t. f (8 + t)) (λ t. bitAt bs (8 * (q + 1) + t)) 8 (λ t l. let e : 8 * q + (8 + t) ≡ 8 * (q + 1) + t = omega arith in ap (bitAt bs) e) ∙ byte-val bs b (q + 1) in
     let both : getD bs q 0 * 256 + getD bs (q + 1) 0 ≡ val f 16 =
-    sym (val-append f 8 8 ∙ ap₂ (λ (x y : ℕ). x * 256 + y) (byte-bits bs q b) second) in
+    sym (val-split f 8 8 ∙ ap₂ (λ (x y : ℕ). x * 256 + y) (byte-val bs b q) second) in
     let whole : 16 ≡ r + 8 + (8 - r) = omega arith in
     let low : val (λ t. f (r + 8 + t)) (8 - r) < 2 ^ (8 - r) = val-lt (λ t. f (r + 8 + t)) (λ t. bits (r + 8 + t)) (8 - r) in
     let upper : val f 16 / 2 ^ (8 - r) ≡ val f (r + 8) =
-    ap (λ (n : ℕ). n / 2 ^ (8 - r)) (ap (val f) whole ∙ val-append f (r + 8) (8 - r)) ∙ digits-div (val f (r + 8)) low in
+    ap (λ (n : ℕ). n / 2 ^ (8 - r)) (ap (val f) whole ∙ val-split f (r + 8) (8 - r)) ∙ digits-div (val f (r + 8)) low in
     let small : val (λ t. f (r + t)) 8 < 256 = val-lt (λ t. f (r + t)) (λ t. bits (r + t)) 8 in
     ap (λ (n : ℕ). n / 2 ^ (8 - r) % 256) both
-    ∙ ap (λ (n : ℕ). n % 256) (upper ∙ val-append f r 8)
+    ∙ ap (λ (n : ℕ). n % 256) (upper ∙ val-split f r 8)
     ∙ digits-mod (val f r) small
     ∙ val-same (λ t. f (r + t)) (λ t. bitAt bs (y + t)) 8 (λ t l. let e : 8 * q + (r + t) ≡ y + t = omega arith in ap (bitAt bs) e)
 

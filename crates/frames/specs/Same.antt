@@ -7,20 +7,12 @@ use native.Mathlib.Nat.{mod-lt, div-lt-iff-lt-mul, mul-left-comm}
 use lib.Arith.{digits-lt}
 use lib.Dec.{eqb}
 use Rattle.bits.specs.Choice.{pick}
-use Rattle.bits.specs.First.{firstFrom, upTo, first-same}
+use Rattle.bits.specs.First.{same-from, first-same}
 use Rattle.bits.specs.Pack.{val, val-same, bytes-same}
 use Rattle.frames.specs.Stream.{span, frameMarker, marked, firstUnmarked, fillZero, framesIn}
 use Rattle.frames.specs.Answer.{framesSay}
 use Rattle.frames.specs.declared.FramesAnswer.{FramesAnswer}
 use Rattle.frames.specs.declared.FramesAnswer.the-variants as F
-
--- tests that agree from i on find the same
-same-from : (p q : ℕ → Bool) (m i : ℕ) → ((k : ℕ) → i ≤ k → k < i + m → p k ≡ q k) → firstFrom p m i ≡ firstFrom q m i
-unfolding firstFrom
-same-from p q zero i h = refl
-same-from p q (suc m) i h =
-    let rest : firstFrom p m (suc i) ≡ firstFrom q m (suc i) = same-from p q m (suc i) (λ k a b. h k (omega arith) (omega arith)) in
-    rw (h i (omega arith) (omega arith), rest) refl
 
 module _ (size count end : ℕ) (size1 : 1 ≤ size) (fit : count * span size ≤ end) (s t : ℕ → ℕ) (agree : (x : ℕ) → x < end → s x ≡ t x) where
   unmarked-same : firstUnmarked size count s ≡ firstUnmarked size count t

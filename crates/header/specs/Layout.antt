@@ -7,7 +7,7 @@ use lib.Bits.{bitAnd, bitOr}
 use lib.ListN.{length, getD}
 use native.Mathlib.Nat.{mod-eq-of-lt, div-one}
 use Rattle.bits.specs.Pack.{val, bitAt, Bits, Bytes, val-lt, val-same, val-bits, bit-lt, bit-val, bit-bytes, bytes-made, bytes-by-byte, length-bytes, bytes-are}
-use Rattle.header.specs.Parts.{val-split, val-part, cut-part, join}
+use Rattle.bits.specs.Parts.{val-split, val-part, cut-part, join}
 use Rattle.header.specs.Header.{field, fieldsOf, spareOf, packed, headerOf, Widths}
 use Rattle.header.specs.declared.Fields.{Fields}
 
@@ -23,6 +23,10 @@ fields-same f g e1 e2 e3 e4 e5 e6 e7 = joined
     joined : whole (f .rate) (f .bits) (f .rows) (f .step) (f .size) (f .markers) (f .frames)
         ≡ whole (g .rate) (g .bits) (g .rows) (g .step) (g .size) (g .markers) (g .frames)
     joined = cc
+
+-- the bits from byte 0 on are all of them
+pub whole : (header : List ℕ) → val (λ t. bitAt header (8 * 0 + t)) 64 ≡ val (bitAt header) 64
+whole header = val-same (λ t. bitAt header (8 * 0 + t)) (bitAt header) 64 (λ t l. ap (bitAt header) (omega arith))
 
 -- what is cut out of the header as a number
 abbrev pub cutOut : ℕ → Fields

@@ -1,4 +1,3 @@
-pub mod Parts
 pub mod Header
 pub mod Layout
 pub mod Quantities

@@ -2,29 +2,14 @@
 use crate::Fields;
 ghost use mathlib.Core.Path.{_≡_};
 ghost use lib.ListN.{length};
-ghost use Rattle.bits.specs.Pack.{val, bitAt};
 ghost use Rattle.header.specs.Header.{fieldsOf, spareOf, packed, headerOf, Widths};
-
-// The eight bytes as one number, the first highest.
-fn joined(header: &[u8]) -> u64
-    requires { ⌜ length (now header) ≡ 8 ⌝ }
-    ensures { λ r. ⌜ r ≡ val (bitAt (now (header .entry))) 64 ⌝ }
-{
-    let mut h = 0u64;
-    let mut i = 0usize;
-    while i < 8 {
-        h = (h << 8) | (header[i] as u64);
-        i += 1;
-    }
-    h
-}
 
 // The fields of eight bytes.
 pub fn read(header: &[u8]) -> Fields
     requires { ⌜ length (now header) ≡ 8 ⌝ }
     ensures { λ r. ⌜ r ≡ fieldsOf (now (header .entry)) ⌝ }
 {
-    let h = joined(header);
+    let h = bits::packing::eight(header, 0);
     Fields {
         rate: (h >> 62) & 3,
         bits: ((h >> 58) & 15) as usize,
@@ -41,7 +26,7 @@ pub fn spare(header: &[u8]) -> u64
     requires { ⌜ length (now header) ≡ 8 ⌝ }
     ensures { λ r. ⌜ r ≡ spareOf (now (header .entry)) ⌝ }
 {
-    joined(header) & 65535
+    bits::packing::eight(header, 0) & 65535
 }
 
 // The fields one after the other, and 16 zero bits, as one number.

@@ -46,7 +46,7 @@ fn clear(slots: &mut [u8], from: usize, to: usize)
 }
 
 // A pulse in slot x.
-fn put_pulse(slots: &mut [u8], x: usize)
+pub fn put_pulse(slots: &mut [u8], x: usize)
     requires { ⌜ x < 8 * length (now slots) ⌝ }
     ensures { λ _. ⌜ now (slots .exit) ≡ putBit (now (slots .entry)) x ⌝ }
 {

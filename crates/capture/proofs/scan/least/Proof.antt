@@ -1,7 +1,7 @@
 -- The code is the definition.
 use mathlib.Core.Path.{refl}
 use borrow.Author.Tests.{lt-ltb, le-ltb}
-use Rattle.capture.specs.Stride.{lesser}
+use Rattle.capture.specs.Window.{lesser}
 use Rattle.capture.proofs.scan.least.Statement.{statement}
 use Rattle.capture.proofs.scan.least.Tie as tie
 

@@ -2,16 +2,18 @@
 use mathlib.Core.Path.{ap, _∙_}
 use Prim.Native.Nat.{ℕ}
 use lib.Bits.{bitAnd}
-use Rattle.header.specs.Layout.{spare-cut}
+use Rattle.header.specs.Layout.{whole, spare-cut}
 use borrow.Author.Needs.{needs}
 use Rattle.header.proofs.layout.spare.Statement.{statement}
 use Rattle.header.proofs.layout.spare.Tie as tie
 
-joined-requires : tie.Need-joined-requires
-joined-requires c κs = search needs
+eight-requires : tie.Need-eight-requires
+eight-requires c κs = search needs
 
 returns : tie.Need-returns
-returns c = ap (λ (v : ℕ). bitAnd v 65535) (c .joined .ensures) ∙ spare-cut (c .before .before .args .header .now)
+returns c =
+    let header = c .before .before .args .header .now in
+    ap (λ (v : ℕ). bitAnd v 65535) (c .eight .ensures ∙ whole header) ∙ spare-cut header
 
 pub spare-spec : {M : Type 1} → statement M
-spare-spec = tie.close (tie.spec joined-requires returns)
+spare-spec = tie.close (tie.spec eight-requires returns)

@@ -1,0 +1,167 @@
+-- The slots of zeros: forty bytes hold whole groups, each with its pulse in front.
+use mathlib.Core.Path.{_≡_, refl, sym, ap, ap₂, _∙_}
+use mathlib.Core.Bool.{Bool, true}
+use mathlib.Core.List.{List}
+use mathlib.Core.Logic.{⊎-elim}
+use Prim.Native.Nat.{ℕ, _+_, _-_, _*_, _/_, _%_, _^_, _≤_, _<_}
+use native.Mathlib.Omega.{arith}
+use native.Mathlib.Nat.{le-refl, mul-le-mul, mul-assoc, div-add-mod', zero-div, le-div-iff-mul-le}
+use lib.Arith.{digits-lt, digits-mod}
+use lib.Bits.{bitOr, bitXor}
+use lib.Dec.{ltb, eqb, eqb→eq}
+use lib.ListN.{length, getD, length-set}
+use borrow.Author.Tests.{lt-ltb, le-ltb, eq-eqb, ne-eqb}
+use Rattle.bits.specs.Choice.{pick, bool, lt-or-le, eq-or-ne}
+use Rattle.bits.specs.Pack.{bitAt}
+use Rattle.bits.specs.Sum.{same-xor, or-zero}
+use Rattle.bits.specs.Table.{allBelow, below-all}
+use Rattle.slots.specs.declared.Plan.{Plan}
+use Rattle.slots.specs.Plan.{Fine, symbolCount, slotBytes}
+use Rattle.slots.specs.Laws.{order-least}
+use Rattle.slots.specs.Pulse.{putBit, withBit, put-same, put-other}
+use Rattle.capture.specs.Asks.{Captured}
+use Rattle.capture.specs.Bounds.{bounds}
+use Rattle.capture.specs.Capture.{symbolIn}
+use Rattle.capture.specs.Groups.{Group, group-made, grouped}
+
+-- forty bytes with a pulse at each multiple of the group
+pub record Zeros (group : ℕ) (z : List ℕ) : Type 0 where
+  pub long : length z ≡ 40
+  pub slot : (i : ℕ) → i < 320 → bitAt z i ≡ bool (eqb (i % group) 0)
+
+-- what is lent for the groups in the c-th forty bytes
+pub record Forty (p : Plan) (b : List ℕ) (c : ℕ) (given : List ℕ) : Type 0 where
+  pub captured : Captured p b
+  pub zeros : Zeros (p .group) given
+  pub room : c * (320 / p .group) + 320 / p .group ≤ symbolCount p
+
+-- ---- the pulses one after another
+
+-- those before slot x are there
+pub record Upto (group x : ℕ) (z : List ℕ) : Type 0 where
+  pub long : length z ≡ 40
+  pub even : x % group ≡ 0
+  pub slot : (i : ℕ) → i < 320 → bitAt z i ≡ pick (ltb i x) (bool (eqb (i % group) 0)) 0
+
+pub upto-none : (group : ℕ) → 1 ≤ group → (z : List ℕ) → length z ≡ 40 → ((k : ℕ) → k < 40 → getD z k 0 ≡ 0) → Upto group 0 z
+unfolding bitAt
+upto-none group h z e none =
+    let d : 0 < group = h in
+    record {
+      long = e;
+      even = ap (λ (n : ℕ). n % group) (let q : 0 ≡ 0 * group + 0 = omega arith in q) ∙ digits-mod 0 d;
+      slot = λ i l. rw (none (i / 8) (omega arith), zero-div (2 ^ (7 - i % 8)), le-ltb i 0 (omega arith)) refl;
+    }
+
+pub upto-more : (group x : ℕ) → 1 ≤ group → x < 320 → (z : List ℕ) → Upto group x z → Upto group (x + group) (putBit z x)
+upto-more group x h l z u =
+    let long : length z ≡ 40 = u .long in
+    let at : x / group * group + 0 ≡ x = let d = div-add-mod' x group in let e = u .even in omega arith in
+    let room : x < 8 * length z = omega arith in
+    record {
+      long = length-set z (x / 8) (withBit (getD z (x / 8) 0) (x % 8)) ∙ long;
+      even =
+          let z : 0 < group = h in
+          let q : x + group ≡ (x / group + 1) * group + 0 = omega arith in
+          ap (λ (n : ℕ). n % group) q ∙ digits-mod (x / group + 1) z;
+      slot = λ i k. ⊎-elim
+          (λ (e : i ≡ x).
+          rw (e, put-same z x room, lt-ltb x (x + group) (omega arith), eq-eqb (x % group) 0 (u .even)) refl)
+          (λ (n : i ≡ x → ⊥).
+          put-other z x i room n
+          ∙ u .slot i k
+          ∙ ⊎-elim
+          (λ (s : i < x). rw (lt-ltb i x s, lt-ltb i (x + group) (omega arith)) refl)
+          (λ (s : x ≤ i). ⊎-elim
+          (λ (t : i < x + group).
+          let small : i - x < group = omega arith in
+          let q : i ≡ x / group * group + (i - x) = omega arith in
+          let m : i % group ≡ i - x = ap (λ (v : ℕ). v % group) q ∙ digits-mod (x / group) small in
+          rw (le-ltb i x s, lt-ltb i (x + group) t, ne-eqb (i % group) 0 (λ z. n (omega arith))) refl)
+          (λ (t : x + group ≤ i). rw (le-ltb i x s, le-ltb i (x + group) t) refl)
+          (lt-or-le i (x + group)))
+          (lt-or-le i x))
+          (eq-or-ne i x);
+    }
+
+pub upto-all : (group x : ℕ) (z : List ℕ) → 320 ≤ x → Upto group x z → Zeros group z
+upto-all group x z h u = record { long = u .long; slot = λ i l. u .slot i l ∙ ap (λ (t : Bool). pick t (bool (eqb (i % group) 0)) 0) (lt-ltb i x (omega arith)) }
+
+-- ---- no difference so far, and none at the next byte
+
+abbrev pub Same : List ℕ → ℕ → List ℕ → ℕ → Type 0
+Same b at given n = (k : ℕ) → k < n → getD b (at + k) 0 ≡ getD given k 0
+
+pub same-more : (b : List ℕ) (at : ℕ) (given : List ℕ) (n d : ℕ) → (d ≡ 0 → Same b at given n) → bitOr d (bitXor (getD b (at + n) 0) (getD given n 0)) ≡ 0 → Same b at given (n + 1)
+same-more b at given n d before e k l =
+    let z = or-zero d (bitXor (getD b (at + n) 0) (getD given n 0)) e in
+    ⊎-elim
+    (λ (h : k < n). before (z .0) k h)
+    (λ (h : n ≤ k).
+    let q : k ≡ n = omega arith in
+    rw q (same-xor (getD b (at + n) 0) (getD given n 0) (z .1)))
+    (lt-or-le k n)
+
+-- ---- forty bytes hold whole groups, at every pulse order: a test, which antt computes
+
+whole : (m : ℕ) → 2 ≤ m → m ≤ 8 → 320 / (2 ^ m + 2 ^ m / 4) * (2 ^ m + 2 ^ m / 4) ≡ 320
+whole m l h =
+    eqb→eq (320 / (2 ^ m + 2 ^ m / 4) * (2 ^ m + 2 ^ m / 4)) 320
+    (rw (le-ltb m 2 l) at (below-all 9 (λ m. pick (ltb m 2) true (eqb (320 / (2 ^ m + 2 ^ m / 4) * (2 ^ m + 2 ^ m / 4)) 320)) tt m (omega arith)))
+
+pub whole-groups : (p : Plan) → Fine p → 320 / p .group * p .group ≡ 320
+whole-groups p fine =
+    let e : p .group ≡ 2 ^ p .bits + 2 ^ p .bits / 4 = fine .group-is ∙ ap (λ (v : ℕ). v + v / 4) (fine .order-is) in
+    rw e (whole (p .bits) (fine .bits-least) (fine .bits-most))
+
+pub some-groups : (p : Plan) → Fine p → 1 ≤ 320 / p .group
+some-groups p fine = let k = bounds p fine in le-div-iff-mul-le (let g : 0 < p .group = omega arith in g) .1 (omega arith)
+
+-- of n groups, those in the c-th forty bytes
+pub forty-room : (n count c : ℕ) → 1 ≤ count → c < n / count → c * count + count ≤ n
+forty-room n count c some h =
+    let z : 0 < count = some in
+    let l : (c + 1) * count ≤ n = le-div-iff-mul-le z .0 (let q : c + 1 ≤ n / count = omega arith in q) in
+    omega arith
+
+module _ (p : Plan) (fine : Fine p) (c : ℕ) where
+  -- where they begin
+  forty-at : (j : ℕ) → (c * (320 / p .group) + j) * p .group ≡ 320 * c + j * p .group
+  forty-at j =
+      let w : 320 / p .group * p .group ≡ 320 = whole-groups p fine in
+      let e : c * (320 / p .group) * p .group ≡ c * (320 / p .group * p .group) = mul-assoc c (320 / p .group) (p .group) in
+      let f : c * (320 / p .group * p .group) ≡ c * 320 = ap (λ (v : ℕ). c * v) w in
+      omega arith
+
+  -- they lie within the slots
+  pub forty-in : (b : List ℕ) → length b ≡ slotBytes p → c * (320 / p .group) + 320 / p .group ≤ symbolCount p → 40 * c + 40 ≤ length b
+  forty-in b e h =
+      let w : 320 / p .group * p .group ≡ 320 = whole-groups p fine in
+      let a = forty-at (320 / p .group) in
+      omega (arith, mul-le-mul h (le-refl (p .group)))
+
+  -- and all have the symbol 0 where they are zeros' slots
+  pub forty-zeros : (b given : List ℕ) → Zeros (p .group) given → Same b (40 * c) given 40 → (s : ℕ) → c * (320 / p .group) ≤ s → s < c * (320 / p .group) + 320 / p .group → grouped p b s ≡ true
+  unfolding bitAt
+  forty-zeros b given zeros same s from to =
+      let n : ℕ = 320 / p .group in
+      let w : n * p .group ≡ 320 = whole-groups p fine in
+      let j : ℕ = s - c * n in
+      let hj : j < n = omega arith in
+      let e : s ≡ c * n + j = omega arith in
+      let x : s * p .group ≡ 320 * c + j * p .group = ap (λ (v : ℕ). v * p .group) e ∙ forty-at j in
+      let least : 1 ≤ p .order = order-least p fine in
+      let zero : symbolIn p b s ≡ 0 =
+      group-made p fine b s 0 (record {
+        small = least;
+        slot = λ r l.
+            let i : ℕ = j * p .group + r in
+            let hi : i < 320 = let d : j * p .group + r < n * p .group = digits-lt hj l in omega arith in
+            let q : (s * p .group + r) / 8 ≡ 40 * c + i / 8 = omega arith in
+            let m : (s * p .group + r) % 8 ≡ i % 8 = omega arith in
+            ap₂ (λ (u v : ℕ). getD b u 0 / 2 ^ (7 - v) % 2) q m
+            ∙ ap (λ (v : ℕ). v / 2 ^ (7 - i % 8) % 2) (same (i / 8) (omega arith))
+            ∙ zeros .slot i hi
+            ∙ ap (λ (v : ℕ). bool (eqb v 0)) (digits-mod j l);
+      }) in
+      ap (λ (v : ℕ). ltb v (p .order)) zero ∙ lt-ltb 0 (p .order) least
