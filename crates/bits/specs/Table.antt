@@ -3,12 +3,12 @@ use mathlib.Core.Path.{_≡_, refl, sym, ap, ap₂, _∙_}
 use mathlib.Core.Bool.{Bool, true, false}
 use mathlib.Core.List.{List, [], _∷_, _++_, append-nil}
 use mathlib.Core.Logic.{⊎-elim}
-use Prim.Native.Nat.{ℕ, zero, suc, _+_, _-_, _*_, _≤_, _<_}
+use Prim.Native.Nat.{ℕ, zero, suc, _+_, _-_, _≤_, _<_}
 use native.Mathlib.Omega.{arith}
 use lib.Dec.{T}
 use lib.ListN.{length, getD, set, take, drop}
 use lib.Seq.{ext-getD, length-take-le, getD-take, take-length, drop-length, getD-set-same, getD-set-other}
-use Rattle.bits.specs.Choice.{pick, lt-or-le, eq-or-ne}
+use Rattle.bits.specs.Choice.{lt-or-le, eq-or-ne}
 
 -- the list f 0, f 1, .. f (n - 1)
 unfoldable pub tab : ℕ → (ℕ → ℕ) → List ℕ

@@ -1,5 +1,5 @@
 -- The slots of zeros: forty bytes hold whole groups, each with its pulse in front.
-use mathlib.Core.Path.{_≡_, refl, sym, ap, ap₂, _∙_}
+use mathlib.Core.Path.{_≡_, refl, ap, ap₂, _∙_}
 use mathlib.Core.Bool.{Bool, true}
 use mathlib.Core.List.{List}
 use mathlib.Core.Logic.{⊎-elim}
@@ -14,7 +14,7 @@ use borrow.Author.Tests.{lt-ltb, le-ltb, eq-eqb, ne-eqb}
 use Rattle.bits.specs.Choice.{pick, bool, lt-or-le, eq-or-ne}
 use Rattle.bits.specs.Pack.{bitAt}
 use Rattle.bits.specs.Sum.{same-xor, or-zero}
-use Rattle.bits.specs.Table.{allBelow, below-all}
+use Rattle.bits.specs.Table.{below-all}
 use Rattle.slots.specs.declared.Plan.{Plan}
 use Rattle.slots.specs.Plan.{Fine, symbolCount, slotBytes}
 use Rattle.slots.specs.Laws.{order-least}
@@ -22,7 +22,7 @@ use Rattle.slots.specs.Pulse.{putBit, withBit, put-same, put-other}
 use Rattle.capture.specs.Asks.{Captured}
 use Rattle.capture.specs.Bounds.{bounds}
 use Rattle.capture.specs.Capture.{symbolIn}
-use Rattle.capture.specs.Groups.{Group, group-made, grouped}
+use Rattle.capture.specs.Groups.{group-made, grouped}
 
 -- forty bytes with a pulse at each multiple of the group
 pub record Zeros (group : ℕ) (z : List ℕ) : Type 0 where

@@ -4,10 +4,10 @@
 -- path from the zero state, having left it, has made when it stands in a state; back in the zero state it is the distance. That no
 -- step makes fewer ones than the bound grows by is a test over all states and input bits, which antt computes.
 use mathlib.Core.Path.{_≡_, refl, sym, ap, ap₂, _∙_}
-use mathlib.Core.Bool.{Bool, true, false}
+use mathlib.Core.Bool.{Bool, true}
 use mathlib.Core.List.{List, [], _∷_}
 use mathlib.Core.Logic.{_⊎_, inl, inr, ⊎-elim}
-use Prim.Native.Nat.{ℕ, zero, suc, _+_, _-_, _*_, _/_, _%_, _≤_, _<_}
+use Prim.Native.Nat.{ℕ, zero, suc, _+_, _-_, _*_, _≤_, _<_}
 use native.Mathlib.Omega.{arith}
 use native.Mathlib.Numerals.{add-one}
 use native.Mathlib.Nat.{eq-zero-or-pos, eq-or-lt-of-le}
@@ -19,7 +19,7 @@ use Rattle.bits.specs.Choice.{pick, lt-or-le}
 use Rattle.bits.specs.Table.{allBelow, below-all}
 use Rattle.bits.specs.Pack.{Bits}
 use Rattle.bits.specs.Weight.{weight, weight-two, weight-three}
-use Rattle.rates.specs.Rate.{infoBits, inputBits, by-rate}
+use Rattle.rates.specs.Rate.{infoBits, by-rate}
 use Rattle.convolution.specs.Code.{delay, first, second, encode, delay-bits, third-first, third-second, third-third, half-first, half-second, two-first, two-second, two-odd}
 
 -- the least number of places in which coded bits of two blocks differ

@@ -1,18 +1,17 @@
 -- A nonzero input difference makes two ones that stand next to each other, or with one place between them. So coded bits that
 -- differ only in places further apart are not both the code's, which is what finds bursts.
 use mathlib.Core.Path.{_≡_, refl, sym, ap, ap₂, _∙_}
-use mathlib.Core.Bool.{Bool, true, false}
-use mathlib.Core.Logic.{_⊎_, inl, inr, ⊎-elim}
+use mathlib.Core.Bool.{Bool}
+use mathlib.Core.Logic.{_⊎_, ⊎-elim}
 use Prim.Native.Nat.{ℕ, zero, suc, _+_, _-_, _*_, _/_, _%_, _≤_, _<_}
 use native.Mathlib.Omega.{arith}
-use native.Mathlib.Numerals.{add-one}
 use lib.Bits.{bitXor, xor-zero-r}
 use lib.Dec.{eqb}
-use borrow.Author.Tests.{eqb-true, eqb-false, eq-eqb}
+use borrow.Author.Tests.{eqb-true, eqb-false}
 use Rattle.bits.specs.Choice.{bit-cases, lt-or-le}
 use Rattle.bits.specs.First.{upTo, up-to-le, one-fails, passes-before, none-fails}
 use Rattle.bits.specs.Pack.{Bits}
-use Rattle.rates.specs.Rate.{infoBits, inputBits, by-rate}
+use Rattle.rates.specs.Rate.{infoBits, by-rate}
 use Rattle.convolution.specs.Code.{delay, first, second, encode, third-first, third-second, half-first, half-second, two-first, two-second, two-odd}
 
 -- two ones of c, below 15,120, one or two places apart

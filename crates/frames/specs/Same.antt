@@ -1,17 +1,16 @@
 -- What is found in a stream depends on its bits up to the end alone.
-use mathlib.Core.Path.{_≡_, refl, sym, ap, ap₂, _∙_}
+use mathlib.Core.Path.{_≡_, ap, ap₂}
 use mathlib.Core.Bool.{Bool}
-use Prim.Native.Nat.{ℕ, zero, suc, _+_, _-_, _*_, _/_, _%_, _≤_, _<_}
+use Prim.Native.Nat.{ℕ, _+_, _-_, _*_, _/_, _%_, _≤_, _<_}
 use native.Mathlib.Omega.{arith}
 use native.Mathlib.Nat.{mod-lt, div-lt-iff-lt-mul, mul-left-comm}
 use lib.Arith.{digits-lt}
 use lib.Dec.{eqb}
 use Rattle.bits.specs.Choice.{pick}
 use Rattle.bits.specs.First.{same-from, first-same}
-use Rattle.bits.specs.Pack.{val, val-same, bytes-same}
+use Rattle.bits.specs.Pack.{val-same, bytes-same}
 use Rattle.frames.specs.Stream.{span, frameMarker, marked, firstUnmarked, fillZero, framesIn}
 use Rattle.frames.specs.Answer.{framesSay}
-use Rattle.frames.specs.declared.FramesAnswer.{FramesAnswer}
 use Rattle.frames.specs.declared.FramesAnswer.the-variants as F
 
 module _ (size count end : ℕ) (size1 : 1 ≤ size) (fit : count * span size ≤ end) (s t : ℕ → ℕ) (agree : (x : ℕ) → x < end → s x ≡ t x) where

@@ -1,12 +1,11 @@
 -- Step 5, the code interleaver: output place j takes coded bit (11 j + 210 j²) mod 15,120.
-use mathlib.Core.Path.{_≡_, refl, sym, ap, ap₂, _∙_}
-use mathlib.Core.Bool.{Bool}
-use Prim.Native.Nat.{ℕ, zero, suc, _+_, _-_, _*_, _/_, _%_, _≤_, _<_}
+use mathlib.Core.Path.{_≡_, refl, ap}
+use Prim.Native.Nat.{ℕ, _+_, _-_, _*_, _%_, _<_}
 use native.Mathlib.Omega.{arith}
 use native.Mathlib.Nat.{mod-lt}
 use lib.Bits.{bitXor}
 use lib.Dec.{eqb, eqb→eq}
-use Rattle.bits.specs.Table.{allBelow, below-all}
+use Rattle.bits.specs.Table.{below-all}
 use Rattle.bits.specs.Pack.{Bits}
 
 -- the bits of a word

@@ -6,7 +6,6 @@ mod writer;
 use header::HeaderAnswer;
 ghost use mathlib.Core.Path.{_≡_};
 ghost use lib.ListN.{length};
-ghost use Rattle.header.specs.Questions.{headerNumber};
 ghost use Rattle.run.specs.declared.RunAnswer.the-variants as RunT;
 ghost use Rattle.run.specs.Answer.{codeOf, after, Small};
 ghost use Rattle.run.specs.Run.{runOf, framesRead, writeSays, readSays};

@@ -1,5 +1,4 @@
 // Text put into a lent slice, piece by piece.
-ghost use mathlib.Core.Path.{_≡_};
 ghost use Prim.Native.Nat.{_+_, _*_, _≤_};
 ghost use lib.ListN.{length};
 ghost use Rattle.sheet.specs.Text.{decimal, item, items, Put};

@@ -2,9 +2,9 @@
 --
 -- Undoing the accumulator spreads the flips over at most 19 neighbouring places; undoing the interleaver moves neighbours at least 11 places
 -- apart modulo 210. But two different sets of coded bits that both are the code's differ somewhere in two places at a distance of 1 or 2.
-use mathlib.Core.Path.{_≡_, refl, sym, ap, ap₂, _∙_}
-use mathlib.Core.Bool.{Bool, true, false}
-use mathlib.Core.Logic.{_⊎_, inl, inr, ⊎-elim}
+use mathlib.Core.Path.{_≡_, sym, ap, _∙_}
+use mathlib.Core.Bool.{Bool}
+use mathlib.Core.Logic.{_⊎_, ⊎-elim}
 use Prim.Native.Nat.{ℕ, zero, suc, _+_, _-_, _*_, _/_, _%_, _≤_, _<_}
 use native.Mathlib.Omega.{arith}
 use lib.Bits.{bitXor, xor-self}

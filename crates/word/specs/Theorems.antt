@@ -4,23 +4,19 @@ use mathlib.Core.Path.{_≡_, refl, sym, ap, ap₂, _∙_}
 use mathlib.Core.Bool.{Bool, true, false}
 use mathlib.Core.List.{List}
 use mathlib.Core.Logic.{_⊎_, inl, inr, ⊎-elim}
-use Prim.Native.Nat.{ℕ, zero, suc, _+_, _-_, _*_, _/_, _%_, _^_, _≤_, _<_}
+use Prim.Native.Nat.{ℕ, _+_, _-_, _≤_, _<_}
 use native.Mathlib.Omega.{arith}
-use lib.Bits.{bitXor, xor-self, xor-lt}
-use lib.Dec.{eqb}
+use lib.Bits.{bitXor}
 use lib.ListN.{length}
-use borrow.Author.Tests.{eqb-true, eqb-false}
-use Rattle.bits.specs.Choice.{bool, bool-lt, bool-true, bit-cases, eq-or-ne, lt-or-le}
+use Rattle.bits.specs.Choice.{bool, bool-lt, bool-true, bit-cases, eq-or-ne}
 use Rattle.bits.specs.Sum.{sum3, xor-cancel, xor-bit, same-xor}
-use Rattle.bits.specs.First.{upTo, up-to-le, one-fails, none-fails}
-use Rattle.bits.specs.Pack.{bitAt, bytesOf, Bytes, Bits, bit-lt, bit-bytes, bytes-made, bytes-same, bytes-are, length-bytes, plus, length-plus, bit-plus, bytes-plus}
+use Rattle.bits.specs.Pack.{bitAt, bytesOf, Bytes, Bits, bit-lt, bit-bytes, length-bytes, plus, length-plus, bit-plus, bytes-plus}
 use Rattle.bits.specs.Weight.{differences, differences-weight, differences-same, weight, weight-same}
-use Rattle.rates.specs.Rate.{infoBits, inputBits, blockBytes, block-size}
-use Rattle.convolution.specs.Code.{encode, encode-bits, encode-same, encode-plus}
+use Rattle.rates.specs.Rate.{infoBits, blockBytes}
+use Rattle.convolution.specs.Code.{encode, encode-bits, encode-plus}
 use Rattle.convolution.specs.Distance.{distance, weight-distance}
-use Rattle.convolution.specs.Near.{Near, near}
-use Rattle.interleaver.specs.Interleaver.{wordBits, place, placeBack, deinterleave, place-back, back-place, back-lt, place-lt, place-mod, taken-from}
-use Rattle.accumulator.specs.Accumulator.{accumulate, differentiate, accumulate-same, accumulate-differentiate, accumulate-plus}
+use Rattle.interleaver.specs.Interleaver.{wordBits, deinterleave}
+use Rattle.accumulator.specs.Accumulator.{differentiate}
 use Rattle.word.specs.Answer.{readNumber}
 use Rattle.word.specs.Bursts.{burst, no-code}
 use Rattle.word.specs.Word.{wordBytes, inputOf, codedOf, wordOf, blockIn, codedIn, inputIn, writeSays, readSays, firstWrong, endsInZeros}

@@ -1,9 +1,8 @@
 -- Words: the 15,120 bits made from one information block by steps 2 to 7, the way back, and the questions that the two calls put.
 -- The definitions are shut: the crates above know them by the laws of `Word.Laws` and the theorems of `Theorems`.
-use mathlib.Core.Path.{_≡_, refl, sym, ap, ap₂, _∙_}
-use mathlib.Core.Bool.{Bool, true, false}
+use mathlib.Core.Bool.{Bool}
 use mathlib.Core.List.{List}
-use Prim.Native.Nat.{ℕ, zero, suc, _+_, _-_, _*_, _/_, _%_, _≤_, _<_}
+use Prim.Native.Nat.{ℕ, _+_}
 use lib.Dec.{ltb, eqb}
 use lib.ListN.{length}
 use Rattle.bits.specs.Choice.{pick}

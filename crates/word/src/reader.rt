@@ -1,8 +1,8 @@
 // Steps 7 to 2 undone, and the questions on the way: a word to its block.
 use crate::ReadAnswer;
 ghost use mathlib.Core.Path.{_≡_};
-ghost use Prim.Native.Nat.{ℕ, _+_, _<_};
-ghost use lib.ListN.{length, getD};
+ghost use Prim.Native.Nat.{_+_};
+ghost use lib.ListN.{getD};
 ghost use Rattle.bits.specs.Table.{tab};
 ghost use Rattle.convolution.specs.Code as code;
 ghost use Rattle.word.specs.Answer.{afterRead};

@@ -1,11 +1,9 @@
 -- Questions 2 and 8 here, the others in `decode`.
-use mathlib.Core.Path.{_≡_, refl, sym, ap, _∙_}
-use mathlib.Core.List.{List}
-use Prim.Native.Nat.{ℕ}
+use mathlib.Core.Path.{_≡_, sym, ap, _∙_}
 use native.Mathlib.Omega.{arith}
 use lib.ListN.{length}
 use Rattle.word.specs.Answer.{afterRead}
-use Rattle.word.specs.Word.{blockIn, readSays}
+use Rattle.word.specs.Word.{blockIn}
 use Rattle.word.specs.Word.Answers.{read-rate, read-word-length, read-block-length, read-judged}
 use Rattle.word.specs.declared.ReadAnswer.{ReadAnswer}
 use borrow.Author.Needs.{needs}

@@ -1,6 +1,5 @@
 -- Each case has its number, and one has a place, which is small.
 use mathlib.Core.Path.{_≡_, sym, ap}
-use Prim.Native.Nat.{ℕ, _≤_}
 use native.Mathlib.Omega.{arith}
 use Rattle.word.specs.Answer.{readPlace, readCode}
 use borrow.Author.Needs.{needs}

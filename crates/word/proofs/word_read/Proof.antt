@@ -1,10 +1,8 @@
 -- The code of the call's answer.
-use mathlib.Core.Path.{_≡_, sym, ap, _∙_}
-use Prim.Native.Nat.{ℕ, _≤_}
+use mathlib.Core.Path.{ap, _∙_}
 use native.Mathlib.Omega.{arith}
 use lib.ListN.{length}
 use Rattle.word.specs.Answer.{readPlace, readCode}
-use Rattle.word.specs.Word.{readSays}
 use Rattle.word.specs.Word.Answers.{read-place}
 use borrow.Author.Needs.{needs}
 use Rattle.word.proofs.word_read.Statement.{statement}

@@ -1,5 +1,5 @@
 -- The questions' answer stands; the word is written only where it is acceptance.
-use mathlib.Core.Path.{_≡_, refl, sym, ap, _∙_}
+use mathlib.Core.Path.{sym, ap, _∙_}
 use lib.ListN.{length}
 use Rattle.word.specs.Answer.{afterWrite}
 use Rattle.word.specs.Word.{wordOf}

@@ -1,9 +1,9 @@
 -- The two calls' answers, case by case, and what an acceptance says.
-use mathlib.Core.Path.{_≡_, refl, sym, ap, ap₂, _∙_}
+use mathlib.Core.Path.{_≡_, refl, ap, ap₂, _∙_}
 use mathlib.Core.Bool.{Bool, true, false}
 use mathlib.Core.List.{List}
 use mathlib.Core.Logic.{⊎-elim}
-use Prim.Native.Nat.{ℕ, zero, suc, _+_, _-_, _*_, _/_, _%_, _^_, _≤_, _<_}
+use Prim.Native.Nat.{ℕ, suc, _+_, _-_, _*_, _/_, _%_, _^_, _≤_, _<_}
 use native.Mathlib.Omega.{arith}
 use native.Mathlib.Nat.{div-one}
 use lib.Dec.{ltb, eqb}
@@ -13,7 +13,7 @@ use Rattle.bits.specs.Choice.{pick, lt-or-le, bit-cases, pick-yes}
 use Rattle.bits.specs.Table.{both, both-true}
 use Rattle.bits.specs.First.{up-to-le}
 use Rattle.bits.specs.Pack.{bitAt, Bytes}
-use Rattle.rates.specs.Rate.{infoBits, blockBytes, block-size, by-rate}
+use Rattle.rates.specs.Rate.{infoBits, blockBytes, block-size}
 use Rattle.interleaver.specs.Interleaver.{wordBits}
 use Rattle.word.specs.Word.{wordBytes, codedIn, inputIn, spareZero, agrees, firstWrong, endsInZeros, checkRight, writeSays, judged, readSays}
 use Rattle.word.specs.Word.Laws.{Packed, Sound, sound}

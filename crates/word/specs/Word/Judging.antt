@@ -1,22 +1,19 @@
 -- Questions 13 to 15 as the reader's code puts them, to lists of coded bits and of input bits.
 use mathlib.Core.Path.{_≡_, refl, sym, ap, _∙_}
-use mathlib.Core.Bool.{Bool, true, false}
+use mathlib.Core.Bool.{true}
 use mathlib.Core.List.{List}
-use Prim.Native.Nat.{ℕ, _+_, _*_, _<_, _≤_}
+use Prim.Native.Nat.{ℕ, _+_, _*_, _<_}
 use native.Mathlib.Omega.{arith}
 use lib.Dec.{eqb}
-use lib.ListN.{length, getD}
+use lib.ListN.{getD}
 use borrow.Author.Tests.{eq-eqb, ne-eqb}
-use Rattle.bits.specs.Table.{both}
 use Rattle.bits.specs.First.{upTo}
-use Rattle.bits.specs.Pack.{val, bitAt, bytesOf, cut, Bits, bit-bytes, cut-in, cut-bits}
-use Rattle.rates.specs.Rate.{infoBits, inputBits, blockBytes, block-size}
+use Rattle.bits.specs.Pack.{val, bitAt, cut, Bits, bit-bytes, cut-in, cut-bits}
+use Rattle.rates.specs.Rate.{infoBits, blockBytes, block-size}
 use Rattle.crc.specs.Check.{register, register-same}
 use Rattle.convolution.specs.Code.{encode}
-use Rattle.interleaver.specs.Interleaver.{wordBits}
 use Rattle.word.specs.Word.{packedBlock, agrees, firstWrong, endsInZeros, checkRight, judged}
 use Rattle.word.specs.Word.Answers as Answers
-use Rattle.word.specs.declared.ReadAnswer.{ReadAnswer}
 use Rattle.word.specs.declared.ReadAnswer.the-variants as R
 
 -- the bits of a packed block

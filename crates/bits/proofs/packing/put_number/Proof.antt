@@ -1,8 +1,8 @@
 -- One bit of the number more stands in its place at each turn.
 use borrow.Author.Needs.{needs}
 use Prim.Native.Nat.{_/_, _^_}
-use mathlib.Core.Path.{_≡_, refl, _∙_, ap}
-use Prim.Native.Nat.{ℕ, _+_, _-_, _≤_}
+use mathlib.Core.Path.{_≡_}
+use Prim.Native.Nat.{_-_, _≤_}
 use native.Mathlib.Omega.{arith}
 use lib.Bits.{and-mask, mask-lt}
 use Rattle.bits.specs.Loops.{Spread, spread-none, spread-more}

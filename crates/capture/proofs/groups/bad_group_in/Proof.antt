@@ -6,7 +6,6 @@ use lib.Dec.{ltb}
 use borrow.Author.Needs.{needs}
 use borrow.Author.Tests.{lt-ltb, le-ltb}
 use Rattle.bits.specs.First.{upTo, first-on, first-here, first-end}
-use Rattle.capture.specs.Bounds.{bounds}
 use Rattle.capture.specs.Groups.{grouped}
 use Rattle.capture.proofs.groups.bad_group_in.Statement.{statement}
 use Rattle.capture.proofs.groups.bad_group_in.Tie as tie

@@ -1,6 +1,6 @@
 -- The code is the definition.
 use mathlib.Core.Path.{refl}
-use Prim.Native.Nat.{_+_, _/_, _≤_, _<_}
+use Prim.Native.Nat.{_+_, _/_}
 use native.Mathlib.Omega.{arith}
 use lib.ListN.{length}
 use borrow.Author.Needs.{needs}

@@ -1,9 +1,9 @@
 -- The coded bits are taken out of a copy of the word, and the block is read from them.
-use mathlib.Core.Path.{_≡_, refl, sym, ap, _∙_}
+use mathlib.Core.Path.{refl, ap, _∙_}
 use mathlib.Core.List.{List}
 use Prim.Native.Nat.{ℕ}
-use lib.ListN.{length, getD}
-use Rattle.bits.specs.Table.{tab, length-tab, tab-bits}
+use lib.ListN.{length}
+use Rattle.bits.specs.Table.{length-tab, tab-bits}
 use Rattle.word.specs.Answer.{afterRead}
 use Rattle.word.specs.Word.{codedIn}
 use Rattle.word.specs.Word.Laws.{coded-in-bits}

@@ -1,10 +1,8 @@
 -- Each answer is the one that questions 13 to 15 give, in their order.
-use mathlib.Core.Path.{_≡_, refl, sym, ap, _∙_}
-use Prim.Native.Nat.{ℕ, _+_, _*_, _<_, _≤_}
+use mathlib.Core.Path.{refl, ap}
 use native.Mathlib.Omega.{arith}
 use lib.ListN.{length, getD}
-use Rattle.bits.specs.Pack.{length-bytes}
-use Rattle.rates.specs.Rate.{infoBits, inputBits, blockBytes, block-size, input-room}
+use Rattle.rates.specs.Rate.{infoBits, inputBits, block-size, input-room}
 use Rattle.word.specs.Word.Lists.{packed-length}
 use Rattle.word.specs.Word.Judging.{says-13, says-14, says-14-last, says-15, says-0}
 use borrow.Author.Needs.{needs}

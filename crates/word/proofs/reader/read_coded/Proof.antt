@@ -1,16 +1,14 @@
 -- The front of the room holds the input bits that the second output gives; they are settled by the questions.
-use mathlib.Core.Path.{_≡_, refl, sym, ap, ap₂, _∙_}
+use mathlib.Core.Path.{_≡_, sym, ap, _∙_}
 use mathlib.Core.List.{List, _++_}
-use Prim.Native.Nat.{ℕ, _≤_, _<_}
+use Prim.Native.Nat.{ℕ, _≤_}
 use native.Mathlib.Omega.{arith}
 use lib.ListN.{length, take, drop, getD}
 use lib.Seq.{length-take-le, take-at, length-front}
 use Rattle.bits.specs.Table.{tab, length-tab, tab-bits}
 use Rattle.rates.specs.Rate.{inputBits, input-room, block-room}
 use Rattle.convolution.specs.Code.{decode, decode-bits}
-use Rattle.convolution.specs.Ready.{Decodes}
 use Rattle.word.specs.Answer.{afterRead}
-use Rattle.word.specs.Word.{packedBlock}
 use Rattle.word.specs.Word.Lists.{judged-list, packed-list}
 use borrow.Author.Needs.{needs}
 use Rattle.word.proofs.reader.read_coded.Statement.{statement}

@@ -1,12 +1,11 @@
 -- The input bits are packed aside and judged; the block is copied from there on acceptance, and otherwise left alone.
-use mathlib.Core.Path.{_≡_, refl, sym, ap, _∙_}
-use mathlib.Core.List.{List}
-use Prim.Native.Nat.{ℕ, _≤_, _<_}
+use mathlib.Core.Path.{_≡_, sym, ap, _∙_}
+use Prim.Native.Nat.{ℕ}
 use native.Mathlib.Omega.{arith}
-use lib.ListN.{length, take, getD}
+use lib.ListN.{length, getD}
 use lib.Seq.{length-take-le}
 use Rattle.bits.specs.Table.{copied}
-use Rattle.rates.specs.Rate.{infoBits, inputBits, block-room}
+use Rattle.rates.specs.Rate.{inputBits, block-room}
 use Rattle.word.specs.Answer.{afterRead}
 use Rattle.word.specs.Word.{packedBlock}
 use Rattle.word.specs.Word.Lists.{packed-made, front-bits}

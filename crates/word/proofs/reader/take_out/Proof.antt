@@ -1,9 +1,5 @@
 -- The word is copied, and three steps are undone on the copy.
 use mathlib.Core.Path.{_∙_, sym}
-use native.Mathlib.Omega.{arith}
-use Prim.Native.Nat.{ℕ}
-use mathlib.Core.Path.{_≡_}
-use lib.ListN.{length}
 use Rattle.bits.specs.Table.{copied}
 use Rattle.word.specs.Word.Laws.{coded-made}
 use borrow.Author.Needs.{needs}

@@ -1,9 +1,7 @@
 -- Coded bits, then the word of them.
-use mathlib.Core.Path.{_≡_, ap, _∙_}
-use mathlib.Core.List.{List}
-use Prim.Native.Nat.{ℕ, _<_}
-use lib.ListN.{length, getD}
-use Rattle.bits.specs.Table.{tab, length-tab, tab-bits}
+use mathlib.Core.Path.{ap, _∙_}
+use lib.ListN.{length}
+use Rattle.bits.specs.Table.{length-tab, tab-bits}
 use Rattle.word.specs.Word.{codedOf}
 use Rattle.word.specs.Word.Laws.{coded-bits, word-from}
 use borrow.Author.Needs.{needs}

@@ -1,13 +1,12 @@
 -- The front of the room holds the input bits, and the code makes the coded bits of them.
 use mathlib.Core.Path.{_≡_, sym, ap, _∙_}
 use mathlib.Core.List.{List}
-use Prim.Native.Nat.{ℕ, _≤_, _<_}
+use Prim.Native.Nat.{ℕ, _<_}
 use native.Mathlib.Omega.{arith}
 use lib.ListN.{length, take, getD}
 use lib.Seq.{length-take-le}
 use Rattle.bits.specs.Table.{tab, length-tab, tab-bits, front-made}
 use Rattle.rates.specs.Rate.{inputBits, input-room}
-use Rattle.convolution.specs.Ready.{Encodes}
 use Rattle.word.specs.Word.{inputOf}
 use Rattle.word.specs.Word.Laws.{input-bits}
 use Rattle.word.specs.Word.Lists.{coded-list}

@@ -3,7 +3,7 @@ use mathlib.Core.Path.{_≡_, sym, ap, _∙_}
 use Prim.Native.Nat.{ℕ, _-_, _%_, _<_}
 use native.Mathlib.Omega.{arith}
 use lib.Bits.{and-mask}
-use lib.ListN.{length, getD}
+use lib.ListN.{getD}
 use Rattle.rates.specs.Rate.{blockBytes, block-size}
 use Rattle.word.specs.Word.Answers as Answers
 use borrow.Author.Needs.{needs}

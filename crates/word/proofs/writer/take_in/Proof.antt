@@ -1,8 +1,7 @@
 -- The block's bits, the check's and two zeros stand one after another, as `inputOf` has them.
-use mathlib.Core.Path.{_≡_, sym, ap, _∙_}
-use Prim.Native.Nat.{ℕ, _+_, _*_, _<_, _≤_}
+use mathlib.Core.Path.{_∙_}
 use native.Mathlib.Omega.{arith}
-use lib.ListN.{length, length-set}
+use lib.ListN.{length-set}
 use Rattle.rates.specs.Rate.{block-size, input-room}
 use Rattle.word.specs.Word.Lists.{input-made}
 use borrow.Author.Needs.{needs}
