@@ -4,7 +4,7 @@
 SHELL := /bin/bash
 .DEFAULT_GOAL := help
 .DELETE_ON_ERROR:
-.PHONY: help test host-test demo bench lib clean FORCE
+.PHONY: help test host-test demo bench lib program install uninstall clean FORCE
 
 CC = gcc
 CXX = g++
@@ -15,13 +15,25 @@ PLAIN = -O3 -march=native
 SANITIZED = -O1 -g -fsanitize=address,undefined -fno-sanitize-recover=all
 RUSTFLAGS = --edition 2021 -O -D warnings
 
-# The static libraries: the run calls and the word calls. Another archive can stand in for them, such as
-# the plain C version, which shows that the tests outside the proofs hold without the libraries:
-#   make host-test LIBS=target/host/standin/librun.a
+VERSION = 0.1.0
+
+# The static library: the run calls and the word calls. Another archive can stand in for it, such as
+# the plain C version, which shows that the tests outside the proofs hold without the library:
+#   make host-test LIBS=target/host/standin/libmahyrei.a
 # Several archives are linked in the order given.
-LIBS = target/staticlib/librun.a target/staticlib/libword.a
+LIBRARY = target/lib/libmahyrei.a
+LIBS = $(LIBRARY)
 HOST = target/host
 HEADER = include/mahyrei.h
+PROGRAM = $(HOST)/mahyrei
+
+# Where `make install` puts things. DESTDIR goes before each of them, for packages.
+PREFIX ?= /usr/local
+BINDIR ?= $(PREFIX)/bin
+LIBDIR ?= $(PREFIX)/lib
+INCLUDEDIR ?= $(PREFIX)/include
+MANDIR ?= $(PREFIX)/share/man
+DESTDIR ?=
 
 # The tests run on a small stack, in KiB, as the library promises to.
 STACK = ulimit -s 1024
@@ -37,7 +49,10 @@ help:
 	@echo '                is compared'
 	@echo 'make demo       write a run, read it back, damage it, see the refusals'
 	@echo 'make bench      times of the library beside plain C and plain Rust'
-	@echo 'make lib        the static libraries: $(LIBS)'
+	@echo 'make lib        the static library: $(LIBRARY)'
+	@echo 'make program    the command: $(PROGRAM)'
+	@echo 'make install    library, header, pkg-config file, command and man page, under PREFIX=$(PREFIX);'
+	@echo '                DESTDIR= is honoured, and make uninstall takes them away'
 	@echo 'make clean      remove what was built outside the proofs'
 
 test:
@@ -61,7 +76,24 @@ bench: $(HOST)/bench_words $(HOST)/bench_runs
 	@echo
 	@$(HOST)/bench_runs
 
-lib: $(LIBS)
+lib: $(LIBRARY)
+
+program: $(PROGRAM)
+
+INSTALLED = $(BINDIR)/mahyrei $(LIBDIR)/libmahyrei.a $(LIBDIR)/pkgconfig/mahyrei.pc \
+    $(INCLUDEDIR)/mahyrei.h $(MANDIR)/man1/mahyrei.1
+install: $(LIBRARY) $(PROGRAM)
+	install -d $(foreach file,$(INSTALLED),'$(DESTDIR)$(dir $(file))')
+	install -m 755 $(PROGRAM) '$(DESTDIR)$(BINDIR)/mahyrei'
+	install -m 644 $(LIBRARY) '$(DESTDIR)$(LIBDIR)/libmahyrei.a'
+	install -m 644 $(HEADER) '$(DESTDIR)$(INCLUDEDIR)/mahyrei.h'
+	install -m 644 host/mahyrei.1 '$(DESTDIR)$(MANDIR)/man1/mahyrei.1'
+	sed -e 's|@PREFIX@|$(PREFIX)|' -e 's|@LIBDIR@|$(LIBDIR)|' -e 's|@INCLUDEDIR@|$(INCLUDEDIR)|' \
+	    -e 's|@VERSION@|$(VERSION)|' host/mahyrei.pc.in >'$(DESTDIR)$(LIBDIR)/pkgconfig/mahyrei.pc'
+	chmod 644 '$(DESTDIR)$(LIBDIR)/pkgconfig/mahyrei.pc'
+
+uninstall:
+	rm -f $(foreach file,$(INSTALLED),'$(DESTDIR)$(file)')
 
 clean:
 	rm -rf $(HOST)
@@ -69,6 +101,13 @@ clean:
 # `rt staticlib` proves what the library stands on, where that is not done yet.
 target/staticlib/lib%.a: crates.txt $(shell find crates -name '*.rt' -o -name '*.antt')
 	rt staticlib $*
+
+# `rt staticlib` exports the calls of one crate; the library joins the two.
+$(LIBRARY): target/staticlib/librun.a target/staticlib/libword.a
+	@rm -rf $(HOST)/joined && mkdir -p $(@D) $(HOST)/joined
+	@for archive in $(abspath $^); do (cd $(HOST)/joined && ar x $$archive) || exit 1; done
+	@rm -f $@
+	@ar rcs $@ $(HOST)/joined/*.o
 
 # Names the archives in use: a program linked with others is linked again.
 LINKED = $(LIBS) $(HOST)/archives
@@ -80,7 +119,7 @@ $(HOST)/archives: FORCE
 # The four calls in plain C.
 STANDIN = $(HOST)/standin
 PLAIN_SOURCES = bench/plain_word.c bench/plain_word.h tests/c/plain_run.c
-$(STANDIN)/librun.a: $(PLAIN_SOURCES) $(HEADER)
+$(STANDIN)/libmahyrei.a: $(PLAIN_SOURCES) $(HEADER)
 	@mkdir -p $(@D)
 	@$(CC) $(CFLAGS) $(PLAIN) -c bench/plain_word.c -o $(STANDIN)/plain_word.o
 	@$(CC) $(CFLAGS) $(PLAIN) -Dplain_word_write=word_write -Dplain_word_read=word_read \
@@ -88,6 +127,11 @@ $(STANDIN)/librun.a: $(PLAIN_SOURCES) $(HEADER)
 	@$(CC) $(CFLAGS) $(PLAIN) -Ibench -c tests/c/plain_run.c -o $(STANDIN)/run.o
 	@rm -f $@
 	@ar rcs $@ $(addprefix $(STANDIN)/,plain_word.o word.o run.o)
+
+HOST_SOURCES = $(wildcard host/*.c)
+HOST_FLAGS = -D_XOPEN_SOURCE=700 -DMAHYREI_VERSION='"$(VERSION)"'
+$(PROGRAM): $(HOST_SOURCES) $(wildcard host/*.h) $(HEADER) $(LINKED)
+	@$(CC) $(CFLAGS) $(HOST_FLAGS) $(HOST_SOURCES) $(LIBS) -o $@
 
 $(HOST)/%_calls: tests/c/%_calls.c $(HEADER) $(LINKED)
 	@$(CC) $(CFLAGS) $(SANITIZED) $< $(LIBS) -o $@
