@@ -68,8 +68,8 @@ host-test: $(HOST_TESTS)
 	@$(STACK) && SEED=$(SEED) RUNS=$(RUNS) $(HOST)/compare_runs
 	@echo 'tests outside the proofs: passed'
 
-demo: $(HOST)/run_demo
-	@$(HOST)/run_demo
+demo: $(PROGRAM) $(HOST)/slots
+	@demo/run $^
 
 bench: $(HOST)/bench_words $(HOST)/bench_runs
 	@$(HOST)/bench_words
@@ -148,8 +148,10 @@ $(HOST)/libsecond.rlib: $(SECOND)
 $(HOST)/compare_%: tests/second/compare_%.rs $(HOST)/libsecond.rlib $(LINKED)
 	@$(RUSTC) $(RUSTFLAGS) $< $(LINK_RUST) -o $@
 
-$(HOST)/run_demo: demo/run_demo.c $(HEADER) $(LINKED)
-	@$(CC) $(CFLAGS) $< $(LIBS) -o $@
+# The demo's tool stands on the command's parts.
+HOST_PARTS = $(filter-out host/main.c,$(HOST_SOURCES))
+$(HOST)/slots: demo/slots.c $(HOST_PARTS) $(wildcard host/*.h) $(HEADER) $(LINKED)
+	@$(CC) $(CFLAGS) $(HOST_FLAGS) -Ihost $< $(HOST_PARTS) $(LIBS) -o $@
 
 $(HOST)/plain_word.o: bench/plain_word.c bench/plain_word.h $(HEADER)
 	@mkdir -p $(@D)
