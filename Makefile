@@ -38,6 +38,10 @@ DESTDIR ?=
 # The tests run on a small stack, in KiB, as the library promises to.
 STACK = ulimit -s 1024
 
+# What the tests of the command use; RUNSHEET= leaves out the comparison with the proved program.
+RUNSHEET = target/bin/runsheet
+COMMAND_TESTS = $(PROGRAM) $(HOST)/mahyrei_sanitized $(HOST)/slots $(HOST)/faults.so $(RUNSHEET)
+
 # For the comparisons with the second implementation; empty means their own defaults.
 SEED ?=
 WORDS ?=
@@ -49,7 +53,7 @@ help:
 	@echo '                is compared'
 	@echo 'make demo       write a run, read it back, damage it, see the refusals'
 	@echo 'make bench      times of the library beside plain C and plain Rust'
-	@echo 'make lib        the static library: $(LIBRARY)'
+	@echo 'make lib        the static library: $(LIBS)'
 	@echo 'make program    the command: $(PROGRAM)'
 	@echo 'make install    library, header, pkg-config file, command and man page, under PREFIX=$(PREFIX);'
 	@echo '                DESTDIR= is honoured, and make uninstall takes them away'
@@ -58,7 +62,8 @@ help:
 test:
 	@tests/run
 
-HOST_TESTS = $(addprefix $(HOST)/,word_calls run_calls second_test compare_words compare_runs)
+HOST_TESTS = $(addprefix $(HOST)/,word_calls run_calls second_test compare_words compare_runs) \
+    $(COMMAND_TESTS)
 host-test: $(HOST_TESTS)
 	@echo '#include "mahyrei.h"' | $(CXX) -x c++ $(WARNINGS) -Iinclude -fsyntax-only -
 	@$(STACK) && ASAN_OPTIONS=detect_leaks=0 $(HOST)/word_calls
@@ -66,6 +71,7 @@ host-test: $(HOST_TESTS)
 	@$(STACK) && $(HOST)/second_test --quiet
 	@$(STACK) && SEED=$(SEED) WORDS=$(WORDS) $(HOST)/compare_words
 	@$(STACK) && SEED=$(SEED) RUNS=$(RUNS) $(HOST)/compare_runs
+	@$(STACK) && tests/command $(COMMAND_TESTS)
 	@echo 'tests outside the proofs: passed'
 
 demo: $(PROGRAM) $(HOST)/slots
@@ -76,16 +82,16 @@ bench: $(HOST)/bench_words $(HOST)/bench_runs
 	@echo
 	@$(HOST)/bench_runs
 
-lib: $(LIBRARY)
+lib: $(LIBS)
 
 program: $(PROGRAM)
 
 INSTALLED = $(BINDIR)/mahyrei $(LIBDIR)/libmahyrei.a $(LIBDIR)/pkgconfig/mahyrei.pc \
     $(INCLUDEDIR)/mahyrei.h $(MANDIR)/man1/mahyrei.1
-install: $(LIBRARY) $(PROGRAM)
+install: $(LIBS) $(PROGRAM)
 	install -d $(foreach file,$(INSTALLED),'$(DESTDIR)$(dir $(file))')
 	install -m 755 $(PROGRAM) '$(DESTDIR)$(BINDIR)/mahyrei'
-	install -m 644 $(LIBRARY) '$(DESTDIR)$(LIBDIR)/libmahyrei.a'
+	install -m 644 $(LIBS) '$(DESTDIR)$(LIBDIR)/libmahyrei.a'
 	install -m 644 $(HEADER) '$(DESTDIR)$(INCLUDEDIR)/mahyrei.h'
 	install -m 644 host/mahyrei.1 '$(DESTDIR)$(MANDIR)/man1/mahyrei.1'
 	sed -e 's|@PREFIX@|$(PREFIX)|' -e 's|@LIBDIR@|$(LIBDIR)|' -e 's|@INCLUDEDIR@|$(INCLUDEDIR)|' \
@@ -101,6 +107,9 @@ clean:
 # `rt staticlib` proves what the library stands on, where that is not done yet.
 target/staticlib/lib%.a: crates.txt $(shell find crates -name '*.rt' -o -name '*.antt')
 	rt staticlib $*
+
+target/bin/runsheet: crates.txt $(shell find crates -name '*.rt' -o -name '*.antt')
+	rt check runsheet
 
 # `rt staticlib` exports the calls of one crate; the library joins the two.
 $(LIBRARY): target/staticlib/librun.a target/staticlib/libword.a
@@ -132,6 +141,13 @@ HOST_SOURCES = $(wildcard host/*.c)
 HOST_FLAGS = -D_XOPEN_SOURCE=700 -DMAHYREI_VERSION='"$(VERSION)"'
 $(PROGRAM): $(HOST_SOURCES) $(wildcard host/*.h) $(HEADER) $(LINKED)
 	@$(CC) $(CFLAGS) $(HOST_FLAGS) $(HOST_SOURCES) $(LIBS) -o $@
+
+$(HOST)/mahyrei_sanitized: $(HOST_SOURCES) $(wildcard host/*.h) $(HEADER) $(LINKED)
+	@$(CC) $(CFLAGS) $(SANITIZED) $(HOST_FLAGS) $(HOST_SOURCES) $(LIBS) -o $@
+
+$(HOST)/faults.so: tests/c/faults.c
+	@mkdir -p $(@D)
+	@$(CC) $(CFLAGS) -shared -fPIC $< -o $@
 
 $(HOST)/%_calls: tests/c/%_calls.c $(HEADER) $(LINKED)
 	@$(CC) $(CFLAGS) $(SANITIZED) $< $(LIBS) -o $@

@@ -150,10 +150,18 @@ static mode_t new_mode(void) {
     return 0666 & ~mask;
 }
 
+/* Brings a file to the disk. */
+static bool sync_file(int file) {
+    int done = -1;
+    do {
+        done = fsync(file);
+    } while (done != 0 && errno == EINTR);
+    return done == 0;
+}
+
 /* A name is on the disk when its folder is. Some file systems cannot do that to a folder. */
-static bool sync_folder(const char *folder) {
-    const int file = open(folder, O_RDONLY | O_DIRECTORY | O_CLOEXEC);
-    return file >= 0 && close_after(file, fsync(file) == 0 || errno == EINVAL);
+static bool sync_folder(int folder) {
+    return sync_file(folder) || errno == EINVAL;
 }
 
 /* The folder that a file is in, on the heap. */
@@ -167,16 +175,19 @@ static char *folder_of(const char *name) {
 static bool write_temporary(const char *folder, const void *from, size_t len, mode_t mode) {
     const int file = temporary_make(folder);
     return file >= 0 && close_after(file, write_all(file, from, len) && fchmod(file, mode) == 0 &&
-                                              fsync(file) == 0);
+                                              sync_file(file));
 }
 
+/* The folder is opened first: one that cannot be brought to the disk is left as it was. */
 static bool replace(const char *name, const void *from, size_t len, mode_t mode) {
-    char *const folder = folder_of(name);
-    const bool good = folder != NULL && write_temporary(folder, from, len, mode) &&
-                      temporary_name(name) && sync_folder(folder);
+    char *const path = folder_of(name);
+    const int folder = path == NULL ? -1 : open(path, O_RDONLY | O_DIRECTORY | O_CLOEXEC);
+    const bool good =
+        folder >= 0 && close_after(folder, write_temporary(path, from, len, mode) &&
+                                               temporary_name(name) && sync_folder(folder));
     temporary_remove();
     const int kept = errno;
-    free(folder);
+    free(path);
     errno = kept;
     return good;
 }
