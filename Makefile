@@ -1,5 +1,5 @@
 # Tasks of the repository. The proofs are `rt ci`; all else here is outside them and is built under
-# target/host, which `rt ci` removes with the rest of target/.
+# target/host and target/lib, which `rt ci` removes with the rest of target/.
 
 SHELL := /bin/bash
 .DEFAULT_GOAL := help
@@ -19,7 +19,7 @@ VERSION = 0.1.0
 
 # The static library: the run calls and the word calls. Another archive can stand in for it, such as
 # the plain C version, which shows that the tests outside the proofs hold without the library:
-#   make host-test LIBS=target/host/standin/libmahyrei.a
+#   make host-test LIBS=target/host/standin/libmahyrei.a RUNSHEET=
 # Several archives are linked in the order given.
 LIBRARY = target/lib/libmahyrei.a
 LIBS = $(LIBRARY)
@@ -51,7 +51,7 @@ help:
 	@echo 'make test       prove every crate (rt ci), then host-test; last line: N passed, 0 failed'
 	@echo 'make host-test  the tests outside the proofs alone; SEED=n, WORDS=n and RUNS=n choose what'
 	@echo '                is compared'
-	@echo 'make demo       write a run, read it back, damage it, see the refusals'
+	@echo 'make demo       write a run, see its first symbols, read it back, damage it'
 	@echo 'make bench      times of the library beside plain C and plain Rust'
 	@echo 'make lib        the static library: $(LIBS)'
 	@echo 'make program    the command: $(PROGRAM)'
@@ -102,21 +102,20 @@ uninstall:
 	rm -f $(foreach file,$(INSTALLED),'$(DESTDIR)$(file)')
 
 clean:
-	rm -rf $(HOST)
+	rm -rf $(HOST) target/lib
 
-# `rt staticlib` proves what the library stands on, where that is not done yet.
-target/staticlib/lib%.a: crates.txt $(shell find crates -name '*.rt' -o -name '*.antt')
+# `rt` proves what these stand on, where that is not done yet.
+PROVED := crates.txt $(shell find crates -name '*.rt' -o -name '*.antt')
+target/staticlib/lib%.a: $(PROVED)
 	rt staticlib $*
 
-target/bin/runsheet: crates.txt $(shell find crates -name '*.rt' -o -name '*.antt')
+target/bin/runsheet: $(PROVED)
 	rt check runsheet
 
 # `rt staticlib` exports the calls of one crate; the library joins the two.
 $(LIBRARY): target/staticlib/librun.a target/staticlib/libword.a
-	@rm -rf $(HOST)/joined && mkdir -p $(@D) $(HOST)/joined
-	@for archive in $(abspath $^); do (cd $(HOST)/joined && ar x $$archive) || exit 1; done
-	@rm -f $@
-	@ar rcs $@ $(HOST)/joined/*.o
+	@mkdir -p $(@D)
+	@printf '%s\n' 'create $@' $(foreach archive,$^,'addlib $(archive)') save end | ar -M
 
 # Names the archives in use: a program linked with others is linked again.
 LINKED = $(LIBS) $(HOST)/archives
