@@ -118,13 +118,14 @@ bool write_all(int file, const void *from, size_t len) {
     const uint8_t *at = from;
     while (len > 0) {
         const ssize_t put = write(file, at, len);
-        if (put < 0 && errno != EINTR) {
+        if (put == 0) {
+            errno = EIO; /* a device that takes nothing would never be done */
+        }
+        if (put == 0 || (put < 0 && errno != EINTR)) {
             return false;
         }
-        if (put > 0) {
-            at += put;
-            len -= (size_t)put;
-        }
+        at += put > 0 ? put : 0;
+        len -= put > 0 ? (size_t)put : 0;
     }
     return true;
 }

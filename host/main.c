@@ -2,7 +2,6 @@
  * mahyrei: writes and reads runs from the command line. Every question about a run is put to the
  * library; here are only files, room to lend, and words for the answer.
  */
-#include <errno.h>
 #include <fcntl.h>
 #include <stdio.h>
 #include <stdlib.h>
@@ -175,6 +174,7 @@ struct line {
     bool help, version;
     int count;
     char *words[WORDS_MAX];
+    const char *wrong, *why; /* the first word that could not be taken, if any */
 };
 
 static enum status misused(const char *what, const char *why) {
@@ -210,26 +210,30 @@ static int take_option(char *const argv[], struct line *line) {
     return 0;
 }
 
-/* Options may stand anywhere before `--`. The word that cannot be taken, or NULL. */
-static const char *take_line(char *const argv[], struct line *line) {
-    bool options = true;
-    for (int i = 1; argv[i] != NULL;) {
-        if (options && strcmp(argv[i], "--") == 0) {
-            options = false;
-            i++;
-        } else if (options && argv[i][0] == '-' && !is_dash(argv[i])) {
-            const int taken = take_option(argv + i, line);
-            if (taken == 0) {
-                return argv[i];
-            }
-            i += taken;
-        } else if (line->count < WORDS_MAX) {
-            line->words[line->count++] = argv[i++];
-        } else {
-            return argv[i];
-        }
+static int take_word(char *word, struct line *line) {
+    if (line->count == WORDS_MAX) {
+        line->why = "one operand too many";
+        return 0;
     }
-    return NULL;
+    line->words[line->count++] = word;
+    return 1;
+}
+
+/* Options may stand anywhere before `--`. */
+static void take_line(char *const argv[], struct line *line) {
+    bool options = true;
+    for (int i = 1, taken; argv[i] != NULL && line->wrong == NULL; i += taken) {
+        if (!options || argv[i][0] != '-' || is_dash(argv[i])) {
+            taken = take_word(argv[i], line);
+        } else if (strcmp(argv[i], "--") == 0) {
+            options = false;
+            taken = 1;
+        } else {
+            line->why = "no such option, or its file is missing";
+            taken = take_option(argv + i, line);
+        }
+        line->wrong = taken == 0 ? argv[i] : NULL;
+    }
 }
 
 static const struct command *find_command(const char *name) {
@@ -278,12 +282,12 @@ static enum status obey(struct line *line) {
     return run_command(command, line->words + 1, line->log);
 }
 
-/* A standard file that was handed over closed is opened to fail: else an output could take its
- * number, and a message would go into it. */
+/* A standard file that was handed over closed is opened, input and output so that they fail,
+ * messages so that they go nowhere. Else an output could take its number, and get the messages. */
 static bool hold_standard_files(void) {
-    static const int WRONG_WAY[] = {O_WRONLY, O_RDONLY, O_WRONLY};
+    static const int WAYS[] = {O_WRONLY, O_RDONLY, O_WRONLY};
     for (int file = 0; file < 3; file++) {
-        if (fcntl(file, F_GETFD) == -1 && open("/dev/null", WRONG_WAY[file]) != file) {
+        if (fcntl(file, F_GETFD) == -1 && open("/dev/null", WAYS[file]) != file) {
             return false;
         }
     }
@@ -292,10 +296,9 @@ static bool hold_standard_files(void) {
 
 static enum status act(char *const argv[]) {
     struct line line = {0};
-    const char *const wrong = take_line(argv, &line);
-    if (wrong != NULL) {
-        return misused(wrong, wrong[0] == '-' ? "no such option, or its file is missing"
-                                              : "one operand too many");
+    take_line(argv, &line);
+    if (line.wrong != NULL) {
+        return misused(line.wrong, line.why);
     }
     if (line.help) {
         return print(HELP);
