@@ -55,8 +55,8 @@ help:
 	@echo 'make bench      times of the library beside plain C and plain Rust'
 	@echo 'make lib        the static library: $(LIBS)'
 	@echo 'make program    the command: $(PROGRAM)'
-	@echo 'make install    library, header, pkg-config file, command and man page, under PREFIX=$(PREFIX);'
-	@echo '                DESTDIR= is honoured, and make uninstall takes them away'
+	@echo 'make install    library, header, pkg-config file, command and man page, under PREFIX=$(PREFIX)'
+	@echo '                and DESTDIR; make uninstall takes them away'
 	@echo 'make clean      remove what was built outside the proofs'
 
 test:
