@@ -1,10 +1,10 @@
 # Tasks of the repository. The proofs are `rt ci`; all else here is outside them and is built under
-# target/host, which `rt ci` removes with the rest of target/.
+# target/host and target/lib, which `rt ci` removes with the rest of target/.
 
 SHELL := /bin/bash
 .DEFAULT_GOAL := help
 .DELETE_ON_ERROR:
-.PHONY: help test host-test demo bench lib clean FORCE
+.PHONY: help test host-test demo bench lib program install uninstall clean FORCE
 
 CC = gcc
 CXX = g++
@@ -15,16 +15,32 @@ PLAIN = -O3 -march=native
 SANITIZED = -O1 -g -fsanitize=address,undefined -fno-sanitize-recover=all
 RUSTFLAGS = --edition 2021 -O -D warnings
 
-# The static libraries: the run calls and the word calls. Another archive can stand in for them, such as
-# the plain C version, which shows that the tests outside the proofs hold without the libraries:
-#   make host-test LIBS=target/host/standin/librun.a
+VERSION = 0.1.0
+
+# The static library: the run calls and the word calls. Another archive can stand in for it, such as
+# the plain C version, which shows that the tests outside the proofs hold without the library:
+#   make host-test LIBS=target/host/standin/libmahyrei.a RUNSHEET=
 # Several archives are linked in the order given.
-LIBS = target/staticlib/librun.a target/staticlib/libword.a
+LIBRARY = target/lib/libmahyrei.a
+LIBS = $(LIBRARY)
 HOST = target/host
 HEADER = include/mahyrei.h
+PROGRAM = $(HOST)/mahyrei
+
+# Where `make install` puts things. DESTDIR goes before each of them, for packages.
+PREFIX ?= /usr/local
+BINDIR ?= $(PREFIX)/bin
+LIBDIR ?= $(PREFIX)/lib
+INCLUDEDIR ?= $(PREFIX)/include
+MANDIR ?= $(PREFIX)/share/man
+DESTDIR ?=
 
 # The tests run on a small stack, in KiB, as the library promises to.
 STACK = ulimit -s 1024
+
+# What the tests of the command use; RUNSHEET= leaves out the comparison with the proved program.
+RUNSHEET = target/bin/runsheet
+COMMAND_TESTS = $(PROGRAM) $(HOST)/mahyrei_sanitized $(HOST)/slots $(HOST)/faults.so $(RUNSHEET)
 
 # For the comparisons with the second implementation; empty means their own defaults.
 SEED ?=
@@ -35,15 +51,19 @@ help:
 	@echo 'make test       prove every crate (rt ci), then host-test; last line: N passed, 0 failed'
 	@echo 'make host-test  the tests outside the proofs alone; SEED=n, WORDS=n and RUNS=n choose what'
 	@echo '                is compared'
-	@echo 'make demo       write a run, read it back, damage it, see the refusals'
+	@echo 'make demo       write a run, see its first symbols, read it back, damage it'
 	@echo 'make bench      times of the library beside plain C and plain Rust'
-	@echo 'make lib        the static libraries: $(LIBS)'
+	@echo 'make lib        the static library: $(LIBS)'
+	@echo 'make program    the command: $(PROGRAM)'
+	@echo 'make install    library, header, pkg-config file, command and man page, under PREFIX=$(PREFIX)'
+	@echo '                and DESTDIR; make uninstall takes them away'
 	@echo 'make clean      remove what was built outside the proofs'
 
 test:
 	@tests/run
 
-HOST_TESTS = $(addprefix $(HOST)/,word_calls run_calls second_test compare_words compare_runs)
+HOST_TESTS = $(addprefix $(HOST)/,word_calls run_calls second_test compare_words compare_runs) \
+    $(COMMAND_TESTS)
 host-test: $(HOST_TESTS)
 	@echo '#include "mahyrei.h"' | $(CXX) -x c++ $(WARNINGS) -Iinclude -fsyntax-only -
 	@$(STACK) && ASAN_OPTIONS=detect_leaks=0 $(HOST)/word_calls
@@ -51,10 +71,11 @@ host-test: $(HOST_TESTS)
 	@$(STACK) && $(HOST)/second_test --quiet
 	@$(STACK) && SEED=$(SEED) WORDS=$(WORDS) $(HOST)/compare_words
 	@$(STACK) && SEED=$(SEED) RUNS=$(RUNS) $(HOST)/compare_runs
+	@$(STACK) && tests/command $(COMMAND_TESTS)
 	@echo 'tests outside the proofs: passed'
 
-demo: $(HOST)/run_demo
-	@$(HOST)/run_demo
+demo: $(PROGRAM) $(HOST)/slots
+	@demo/run $^
 
 bench: $(HOST)/bench_words $(HOST)/bench_runs
 	@$(HOST)/bench_words
@@ -63,12 +84,38 @@ bench: $(HOST)/bench_words $(HOST)/bench_runs
 
 lib: $(LIBS)
 
-clean:
-	rm -rf $(HOST)
+program: $(PROGRAM)
 
-# `rt staticlib` proves what the library stands on, where that is not done yet.
-target/staticlib/lib%.a: crates.txt $(shell find crates -name '*.rt' -o -name '*.antt')
+INSTALLED = $(BINDIR)/mahyrei $(LIBDIR)/libmahyrei.a $(LIBDIR)/pkgconfig/mahyrei.pc \
+    $(INCLUDEDIR)/mahyrei.h $(MANDIR)/man1/mahyrei.1
+install: $(LIBS) $(PROGRAM)
+	install -d $(foreach file,$(INSTALLED),'$(DESTDIR)$(dir $(file))')
+	install -m 755 $(PROGRAM) '$(DESTDIR)$(BINDIR)/mahyrei'
+	install -m 644 $(LIBS) '$(DESTDIR)$(LIBDIR)/libmahyrei.a'
+	install -m 644 $(HEADER) '$(DESTDIR)$(INCLUDEDIR)/mahyrei.h'
+	install -m 644 host/mahyrei.1 '$(DESTDIR)$(MANDIR)/man1/mahyrei.1'
+	sed -e 's|@PREFIX@|$(PREFIX)|' -e 's|@LIBDIR@|$(LIBDIR)|' -e 's|@INCLUDEDIR@|$(INCLUDEDIR)|' \
+	    -e 's|@VERSION@|$(VERSION)|' host/mahyrei.pc.in >'$(DESTDIR)$(LIBDIR)/pkgconfig/mahyrei.pc'
+	chmod 644 '$(DESTDIR)$(LIBDIR)/pkgconfig/mahyrei.pc'
+
+uninstall:
+	rm -f $(foreach file,$(INSTALLED),'$(DESTDIR)$(file)')
+
+clean:
+	rm -rf $(HOST) target/lib
+
+# `rt` proves what these stand on, where that is not done yet.
+PROVED := crates.txt $(shell find crates -name '*.rt' -o -name '*.antt')
+target/staticlib/lib%.a: $(PROVED)
 	rt staticlib $*
+
+target/bin/runsheet: $(PROVED)
+	rt check runsheet
+
+# `rt staticlib` exports the calls of one crate; the library joins the two.
+$(LIBRARY): target/staticlib/librun.a target/staticlib/libword.a
+	@mkdir -p $(@D)
+	@printf '%s\n' 'create $@' $(foreach archive,$^,'addlib $(archive)') save end | ar -M
 
 # Names the archives in use: a program linked with others is linked again.
 LINKED = $(LIBS) $(HOST)/archives
@@ -80,7 +127,7 @@ $(HOST)/archives: FORCE
 # The four calls in plain C.
 STANDIN = $(HOST)/standin
 PLAIN_SOURCES = bench/plain_word.c bench/plain_word.h tests/c/plain_run.c
-$(STANDIN)/librun.a: $(PLAIN_SOURCES) $(HEADER)
+$(STANDIN)/libmahyrei.a: $(PLAIN_SOURCES) $(HEADER)
 	@mkdir -p $(@D)
 	@$(CC) $(CFLAGS) $(PLAIN) -c bench/plain_word.c -o $(STANDIN)/plain_word.o
 	@$(CC) $(CFLAGS) $(PLAIN) -Dplain_word_write=word_write -Dplain_word_read=word_read \
@@ -88,6 +135,18 @@ $(STANDIN)/librun.a: $(PLAIN_SOURCES) $(HEADER)
 	@$(CC) $(CFLAGS) $(PLAIN) -Ibench -c tests/c/plain_run.c -o $(STANDIN)/run.o
 	@rm -f $@
 	@ar rcs $@ $(addprefix $(STANDIN)/,plain_word.o word.o run.o)
+
+HOST_SOURCES = $(wildcard host/*.c)
+HOST_FLAGS = -D_XOPEN_SOURCE=700 -DMAHYREI_VERSION='"$(VERSION)"'
+$(PROGRAM): $(HOST_SOURCES) $(wildcard host/*.h) $(HEADER) $(LINKED)
+	@$(CC) $(CFLAGS) $(HOST_FLAGS) $(HOST_SOURCES) $(LIBS) -o $@
+
+$(HOST)/mahyrei_sanitized: $(HOST_SOURCES) $(wildcard host/*.h) $(HEADER) $(LINKED)
+	@$(CC) $(CFLAGS) $(SANITIZED) $(HOST_FLAGS) $(HOST_SOURCES) $(LIBS) -o $@
+
+$(HOST)/faults.so: tests/c/faults.c
+	@mkdir -p $(@D)
+	@$(CC) $(CFLAGS) -shared -fPIC $< -o $@
 
 $(HOST)/%_calls: tests/c/%_calls.c $(HEADER) $(LINKED)
 	@$(CC) $(CFLAGS) $(SANITIZED) $< $(LIBS) -o $@
@@ -104,8 +163,10 @@ $(HOST)/libsecond.rlib: $(SECOND)
 $(HOST)/compare_%: tests/second/compare_%.rs $(HOST)/libsecond.rlib $(LINKED)
 	@$(RUSTC) $(RUSTFLAGS) $< $(LINK_RUST) -o $@
 
-$(HOST)/run_demo: demo/run_demo.c $(HEADER) $(LINKED)
-	@$(CC) $(CFLAGS) $< $(LIBS) -o $@
+# The demo's tool stands on the command's parts.
+HOST_PARTS = $(filter-out host/main.c,$(HOST_SOURCES))
+$(HOST)/slots: demo/slots.c $(HOST_PARTS) $(wildcard host/*.h) $(HEADER) $(LINKED)
+	@$(CC) $(CFLAGS) $(HOST_FLAGS) -Ihost $< $(HOST_PARTS) $(LIBS) -o $@
 
 $(HOST)/plain_word.o: bench/plain_word.c bench/plain_word.h $(HEADER)
 	@mkdir -p $(@D)

@@ -10,7 +10,7 @@
  * slots of the frames; run_read accepts slots only if some frames make them, and gives those
  * frames back. No call corrects anything.
  *
- * Link with librun.a for the run calls, libword.a for the word calls. All calls
+ * Link with libmahyrei.a (-lmahyrei), which needs nothing but memcpy and memset. All calls
  *   - are total: every number, every length and every content of the slices gets an answer;
  *   - work on the lent slices and less than 1 MiB of stack alone: no allocation, no state kept
  *     from call to call, so any number of threads may call at once;

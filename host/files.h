@@ -1,0 +1,41 @@
+/*
+ * Inputs are read whole and outputs written whole. What goes wrong is said on standard error, where
+ * it happens; the caller has only to end with status 2.
+ */
+#ifndef FILES_H
+#define FILES_H
+
+#include <stdbool.h>
+#include <stddef.h>
+#include <stdint.h>
+
+/* Bytes of the heap; NULL where there are none. */
+struct bytes {
+    uint8_t *at;
+    size_t len;
+};
+
+/* The operand that stands for standard input or output. */
+bool is_dash(const char *name);
+
+/* Room for so many bytes. */
+bool make_room(size_t len, struct bytes *room);
+
+/* Reads a file, up to the limit: of a longer one the bytes behind the limit are left alone, so that
+ * an endless input ends too. */
+bool take_in(const char *name, size_t limit, struct bytes *to);
+
+/* The same for a file or hexadecimal text: `hex:` and digits, or nothing but digits. */
+bool take_in_text(const char *operand, size_t limit, struct bytes *to);
+
+/* Writes all of it to an open file; false and errno where that fails. */
+bool write_all(int file, const void *from, size_t len);
+
+/*
+ * Writes an output. A file gets the bytes all at once: they go to a temporary file in its folder,
+ * which is renamed when it is whole and on the disk. A device, a pipe and standard output get the
+ * bytes as they are written.
+ */
+bool put_out(const char *name, const void *from, size_t len);
+
+#endif
