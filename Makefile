@@ -92,7 +92,7 @@ $(STANDIN)/librun.a: $(PLAIN_SOURCES) $(HEADER)
 $(HOST)/%_calls: tests/c/%_calls.c $(HEADER) $(LINKED)
 	@$(CC) $(CFLAGS) $(SANITIZED) $< $(LIBS) -o $@
 
-SECOND = $(addprefix tests/second/,lib.rs compare.rs library.rs run.rs word.rs)
+SECOND = $(addprefix tests/second/,lib.rs compare.rs library.rs run.rs run_cases.rs word.rs word_cases.rs)
 $(HOST)/second_test: $(SECOND)
 	@mkdir -p $(@D)
 	@$(RUSTC) $(RUSTFLAGS) --test $< -o $@
@@ -115,4 +115,14 @@ $(HOST)/bench_words: bench/bench_words.c $(HOST)/plain_word.o bench/plain_word.h
 	@$(CC) $(CFLAGS) $< $(HOST)/plain_word.o $(LIBS) -o $@
 
 $(HOST)/bench_runs: bench/bench_runs.rs $(HOST)/libsecond.rlib $(LINKED)
+	@$(RUSTC) $(RUSTFLAGS) $< $(LINK_RUST) -o $@
+
+# Evidence beyond the tests (docs/EVIDENCE.md): for as long as one likes, on all cores.
+SECONDS ?= 60
+CASE ?=
+.PHONY: soak
+soak: $(HOST)/soak
+	@SEED=$(SEED) CASE=$(CASE) $< $(SECONDS)
+
+$(HOST)/soak: tests/second/soak.rs $(HOST)/libsecond.rlib $(LINKED)
 	@$(RUSTC) $(RUSTFLAGS) $< $(LINK_RUST) -o $@
