@@ -89,7 +89,7 @@ $(STANDIN)/librun.a: $(PLAIN_SOURCES) $(HEADER)
 	@rm -f $@
 	@ar rcs $@ $(addprefix $(STANDIN)/,plain_word.o word.o run.o)
 
-$(HOST)/%_calls: tests/c/%_calls.c $(HEADER) $(LINKED)
+$(HOST)/%_calls: tests/c/%_calls.c tests/c/runs.h $(HEADER) $(LINKED)
 	@$(CC) $(CFLAGS) $(SANITIZED) $< $(LIBS) -o $@
 
 SECOND = $(addprefix tests/second/,lib.rs compare.rs library.rs run.rs run_cases.rs word.rs word_cases.rs)
