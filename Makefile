@@ -35,6 +35,9 @@ help:
 	@echo 'make test       prove every crate (rt ci), then host-test; last line: N passed, 0 failed'
 	@echo 'make host-test  the tests outside the proofs alone; SEED=n, WORDS=n and RUNS=n choose what'
 	@echo '                is compared'
+	@echo 'make soak       the four calls against the second implementation on all cores for SECONDS=n,'
+	@echo '                with a fresh seed or SEED=n'
+	@echo 'make fuzz       the four calls under libFuzzer and the sanitizers on all cores for SECONDS=n'
 	@echo 'make demo       write a run, read it back, damage it, see the refusals'
 	@echo 'make bench      times of the library beside plain C and plain Rust'
 	@echo 'make lib        the static libraries: $(LIBS)'
@@ -120,9 +123,27 @@ $(HOST)/bench_runs: bench/bench_runs.rs $(HOST)/libsecond.rlib $(LINKED)
 # Evidence beyond the tests (docs/EVIDENCE.md): for as long as one likes, on all cores.
 SECONDS ?= 60
 CASE ?=
-.PHONY: soak
+.PHONY: soak fuzz evidence-test
 soak: $(HOST)/soak
 	@SEED=$(SEED) CASE=$(CASE) $< $(SECONDS)
 
+fuzz: $(HOST)/fuzz_drive
+	@tests/fuzz/run $(SECONDS) $< $(LIBS)
+
+# A moment of each, within the tests, so that both stay fit to be run.
+host-test: evidence-test
+evidence-test: $(HOST)/soak $(HOST)/fuzz_drive
+	@SEED=$(SEED) $(HOST)/soak 2
+	@$(STACK) && ASAN_OPTIONS=detect_leaks=0 $(HOST)/fuzz_drive
+
 $(HOST)/soak: tests/second/soak.rs $(HOST)/libsecond.rlib $(LINKED)
 	@$(RUSTC) $(RUSTFLAGS) $< $(LINK_RUST) -o $@
+
+# The fuzz target with a driver in place of libFuzzer, beside the run calls in plain C.
+$(HOST)/plain_run.o: tests/c/plain_run.c bench/plain_word.h $(HEADER)
+	@mkdir -p $(@D)
+	@$(CC) $(CFLAGS) $(PLAIN) -Ibench -Drun_write=plain_run_write -Drun_read=plain_run_read -c $< -o $@
+
+FUZZ_TARGET = tests/fuzz/drive.c tests/fuzz/calls.c $(HOST)/plain_word.o $(HOST)/plain_run.o
+$(HOST)/fuzz_drive: $(FUZZ_TARGET) tests/fuzz/calls.h tests/c/runs.h $(HEADER) $(LINKED)
+	@$(CC) $(CFLAGS) $(SANITIZED) -Ibench $(FUZZ_TARGET) $(LIBS) -o $@
