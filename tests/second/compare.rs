@@ -287,45 +287,42 @@ impl Tally {
         }
     }
 
-    /// One table of these calls: what was put to each and what it answered. A dash stands where a
-    /// call cannot answer a number, unless it did.
+    /// One table of these calls: what was put to each and what it answered.
     pub fn table(&self, calls: &[Call]) {
-        let mut all = Counts::default();
-        calls
-            .iter()
-            .for_each(|&call| all.add(&self.counts[call as usize]));
-        let row = |name: &str, of: &dyn Fn(&Counts) -> u64, can: &dyn Fn(Call) -> bool| {
-            print!("  {name:<29}");
-            for &call in calls {
-                match of(&self.counts[call as usize]) {
-                    0 if !can(call) => print!(" {:>15}", "-"),
-                    count => print!(" {count:>15}"),
-                }
-            }
-            println!(" {:>15}", of(&all));
-        };
-
         print!("  {:<29}", "");
-        calls.iter().for_each(|call| print!(" {:>15}", call.name()));
-        println!(" {:>15}", "all");
-        row("cases", &|counts| counts.cases, &|_| true);
+        calls.iter().for_each(|call| print!(" {:>12}", call.name()));
+        println!(" {:>12}", "all");
+        let any = |_| true;
+        self.row(calls, "cases", |of| of.cases, any);
         for (number, name) in (0..).zip(NUMBERS) {
+            let count = |of: &Counts| of.answers[usize::from(number)];
             let can = |call: Call| call.numbers().contains(&number);
-            let count = |counts: &Counts| counts.answers[usize::from(number)];
-            row(&format!("answer {number:>2} {name}"), &count, &can);
+            self.row(calls, &format!("answer {number:>2} {name}"), count, can);
         }
-        row("lent bytes checked", &|counts| counts.lent, &|_| true);
-        row(
-            "bytes around them checked",
-            &|counts| counts.margins,
-            &|_| true,
-        );
-        row(
-            "lent bytes changed on refusal",
-            &|counts| counts.changed,
-            &|_| true,
-        );
-        row("differences", &|counts| counts.differences, &|_| true);
+        self.row(calls, "lent bytes checked", |of| of.lent, any);
+        self.row(calls, "bytes around them checked", |of| of.margins, any);
+        self.row(calls, "lent bytes changed on refusal", |of| of.changed, any);
+        self.row(calls, "differences", |of| of.differences, any);
+    }
+
+    /// A row of the table. A dash stands where a call cannot have such a count, unless it has.
+    fn row(
+        &self,
+        calls: &[Call],
+        name: &str,
+        count: impl Fn(&Counts) -> u64,
+        can: impl Fn(Call) -> bool,
+    ) {
+        let count = |call: Call| count(&self.counts[call as usize]);
+        print!("  {name:<29}");
+        for &call in calls {
+            match count(call) {
+                0 if !can(call) => print!(" {:>12}", "-"),
+                count => print!(" {count:>12}"),
+            }
+        }
+        let all: u64 = calls.iter().map(|&call| count(call)).sum();
+        println!(" {all:>12}");
     }
 
     /// Prints the table. Fails where something differs, or where a number that one of these calls
@@ -339,8 +336,9 @@ impl Tally {
             ));
         }
         for &call in calls {
-            let met = |&&number: &&u8| self.counts[call as usize].answers[usize::from(number)] == 0;
-            if let Some(number) = call.numbers().iter().find(met) {
+            let answers = &self.counts[call as usize].answers;
+            let unmet = |number: &&u8| answers[usize::from(**number)] == 0;
+            if let Some(number) = call.numbers().iter().find(unmet) {
                 return Err(format!("{} never answered {number}", call.name()));
             }
         }
