@@ -2,8 +2,7 @@
  * Fuzz target over the four calls: an input is read as a call with its arguments, never as slots
  * alone, since no fuzzer would find a run or a word by itself. A word or a run to be read is
  * written by the library first, then damaged as the input says: slots, symbols, coded bits, input
- * bits of the code, bits of the stream under a right check. Or it is the rest of the input as it
- * is.
+ * bits of the code, bits of the stream under a right check. Or it is the rest of the input itself.
  *
  * What is demanded of each call: the answer and every byte of the written slice are those of the
  * plain C version (tests/c/plain_run.c, bench/plain_word.c), which is built into the fuzzer and
@@ -44,6 +43,9 @@ enum {
     MARKER_ROOM = 64, /* W has six bits */
     CODE_TAIL = 34    /* input bits of the code behind the block: check and termination */
 };
+
+/* Bits of the header's fields, in order; the last are the zeros at its end. */
+static const size_t WIDTHS[8] = {2, 4, 8, 9, 12, 6, 7, 16};
 
 static const char *const CALL_NAMES[CALLS] = {"word_write", "word_read", "run_write", "run_read"};
 
@@ -92,8 +94,7 @@ static size_t take_below(struct input *in, size_t bytes, size_t limit) {
     return (size_t)(take(in, bytes) % limit);
 }
 
-/* How often to damage: mostly once, since of several the first that is asked about hides the rest.
- */
+/* How often to damage: mostly once, since of several the first that is met hides the rest. */
 static size_t take_few(struct input *in) {
     static const size_t FEW[8] = {1, 1, 1, 1, 0, 2, 3, 8};
     return FEW[take_below(in, 1, 8)];
@@ -218,7 +219,6 @@ static bool is_run(enum call call) {
 
 /* The header as it is lent; only for one of eight bytes. */
 static struct run lent_run(void) {
-    static const size_t WIDTHS[7] = {2, 4, 8, 9, 12, 6, 7};
     uint64_t fields[7], packed = 0;
     for (size_t i = 0; i < MAHYREI_HEADER_BYTES; i++) {
         packed = packed << 8 | lent[HEADER].slice[i];
@@ -519,7 +519,10 @@ static void put_word_back(const struct run *run, uint8_t *slots, size_t c, const
         for (size_t x = i * run->m; x < (i + 1) * run->m; x++) {
             symbol = symbol * 2 + get_bit(word, x);
         }
-        put_pulse(run, slots, stand(run, c * S + i), symbol);
+        const size_t s = stand(run, c * S + i);
+        if (!get_bit(slots, s * group_slots(run) + symbol)) { /* most stand already */
+            put_pulse(run, slots, s, symbol);
+        }
     }
 }
 
@@ -571,7 +574,7 @@ static void damage_run(struct input *in, const struct run *run, uint8_t *slots) 
     const size_t group = group_slots(run), M = pulse_order(run), symbols = symbol_count(run);
     for (size_t left = take_few(in); left > 0; left--) {
         const size_t how = take_below(in, 1, 16), s = take_below(in, 3, symbols);
-        const size_t at = take_below(in, 1, 256);
+        const size_t at = (size_t)take(in, 2);
         switch (how) {
         case 0:
             flip(slots, s * group + at % group);
@@ -597,7 +600,6 @@ static void damage_run(struct input *in, const struct run *run, uint8_t *slots) 
 
 /* Sets a field to any number, so that a header fails where it would not by chance. */
 static void set_field(uint8_t *header, size_t field, uint64_t number) {
-    static const size_t WIDTHS[8] = {2, 4, 8, 9, 12, 6, 7, 16};
     size_t end = 0;
     for (size_t i = 0; i <= field; i++) {
         end += WIDTHS[i];
