@@ -19,7 +19,7 @@ fn run() -> Result<(), String> {
     edges(&mut tally, &mut Rng::of_index(seed, runs));
     for index in 0..runs {
         let mut rng = Rng::of_index(seed, index);
-        compare_run(&mut tally, &mut met, &mut rng, &sizes, index);
+        met.count(&compare_run(&mut tally, &mut rng, &sizes, index));
         if tally.differences() > MANY_DIFFERENCES {
             return Err("too many differences, the rest is left out".to_string());
         }

@@ -15,7 +15,7 @@ use std::collections::BTreeSet;
 pub const LEAST_RUNS: u64 = 7 * 4 * DAMAGES.len() as u64;
 
 /// A run to be made, and its stages.
-struct Sample {
+pub struct Sample {
     header: Header,
     run: Run,
     marker: Vec<u8>,
@@ -1042,7 +1042,7 @@ pub struct Met {
 }
 
 impl Met {
-    fn count(&mut self, sample: &Sample) {
+    pub fn count(&mut self, sample: &Sample) {
         for (count, (_, is)) in self.kinds.iter_mut().zip(KINDS) {
             *count += u64::from(is(sample));
         }
@@ -1060,8 +1060,8 @@ impl Met {
     }
 }
 
-/// Writes the sample, reads it damaged, from this kind of damage on the first that it can have,
-/// and puts a call that fails question `first` beside.
+/// Writes the sample, reads it with the first of the damages that it can have, and puts a call that
+/// fails question `first` beside.
 fn compare_sample(
     tally: &mut Tally,
     rng: &mut Rng,
@@ -1085,16 +1085,16 @@ fn damages_from(kind: u64) -> impl Iterator<Item = &'static Damage> {
     DAMAGES.iter().cycle().skip(kind as usize % DAMAGES.len())
 }
 
-/// The run of this index and the call beside it, put to both.
-pub fn compare_run(tally: &mut Tally, met: &mut Met, rng: &mut Rng, sizes: &Sizes, index: u64) {
+/// The run of this index, which is given back, and the call beside it, put to both.
+pub fn compare_run(tally: &mut Tally, rng: &mut Rng, sizes: &Sizes, index: u64) -> Sample {
     let header = some_header(rng, sizes, index);
     let sample = Sample::new(rng, header);
-    met.count(&sample);
     // a quarter of the runs stay sound
     let sound = (index / 7 % 4 == 0).then_some(&NONE);
     let damages = sound.into_iter().chain(damages_from(index));
     let (first, what) = (1 + index % 8, format!("run {index}"));
     compare_sample(tally, rng, &sample, damages, first as u8, &what);
+    sample
 }
 
 /// The most slot bytes of a run with any header, so that a case takes no longer than a moment.
@@ -1134,13 +1134,12 @@ fn any_header(rng: &mut Rng, sizes: &Sizes) -> Header {
 
 /// Both calls with a header of any fields: on a whole run, where the header has one that is not
 /// too large, else on slices of any length and content.
-pub fn compare_any(tally: &mut Tally, met: &mut Met, rng: &mut Rng, sizes: &Sizes, index: u64) {
+pub fn compare_any(tally: &mut Tally, rng: &mut Rng, sizes: &Sizes, index: u64) {
     let what = format!("any header {index}");
     let header = any_header(rng, sizes);
     match Run::of(&header.pack()) {
         Ok(run) if run.slots_len() <= ANY_MOST => {
             let sample = Sample::new(rng, header);
-            met.count(&sample);
             let sound = (rng.below(4) == 0).then_some(&NONE);
             let damages = sound.into_iter().chain(damages_from(rng.next()));
             let first = 1 + rng.below(8) as u8;

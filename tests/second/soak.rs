@@ -7,7 +7,7 @@
 //! SEED comes to it again.
 
 use second::compare::{argument, optional_argument, verdict, Call, Rng, Tally, MANY_DIFFERENCES};
-use second::run_cases::{compare_any, compare_run, edges, Met, Sizes};
+use second::run_cases::{compare_any, compare_run, edges, Sizes};
 use second::word_cases::compare_word;
 use std::fs::File;
 use std::io::Read;
@@ -40,43 +40,39 @@ fn fresh_seed() -> Result<u64, String> {
     Ok(u64::from_be_bytes(bytes))
 }
 
-/// Puts one case. Of 32, 20 are words, 11 are runs, one is a run with any header, which takes as
-/// long as the others together; the edges of document 01 come first.
+/// Puts one case. Of 32, 20 are words, 11 are runs, one is a run with any header, of which some are
+/// large; the edges of document 01 come first.
 fn put_case(tally: &mut Tally, soak: &Soak, case: u64) {
     let rng = &mut Rng::of_index(soak.seed, case);
     let (round, seat) = (case / 32, case % 32);
-    // what kinds of runs were met is asked by compare_runs alone
-    let (met, sizes) = (&mut Met::default(), &soak.sizes);
     match seat {
         _ if case == 0 => edges(tally, rng),
         0..=19 => compare_word(tally, rng, 20 * round + seat),
-        20..=30 => compare_run(tally, met, rng, sizes, 11 * round + seat - 20),
-        _ => compare_any(tally, met, rng, sizes, round),
+        20..=30 => drop(compare_run(tally, rng, &soak.sizes, 11 * round + seat - 20)),
+        _ => compare_any(tally, rng, &soak.sizes, round),
     }
 }
 
-/// Puts one case, and says how to put it again where it went wrong. False where a program is not
-/// even right enough to go on: the second implementation, or these cases, panicked.
-fn try_case(tally: &mut Tally, soak: &Soak, case: u64) -> bool {
+/// Puts one case, and says how to put it again where it went wrong. Fails where there is no going
+/// on: the second implementation or the maker of the case panicked.
+fn try_case(tally: &mut Tally, soak: &Soak, case: u64) -> Result<(), String> {
     let before = tally.differences();
-    let ended = catch_unwind(AssertUnwindSafe(|| put_case(tally, soak, case))).is_ok();
-    if !ended || tally.differences() > before {
+    let ended = catch_unwind(AssertUnwindSafe(|| put_case(tally, soak, case)));
+    if ended.is_err() || tally.differences() > before {
         println!("  shown again by: make soak SEED={} CASE={case}", soak.seed);
     }
-    ended
+    ended.map_err(|_| format!("case {case} panicked"))
 }
 
 /// The cases of one thread: the next that no other thread has taken, until time is up.
 fn work(soak: &Soak) -> Result<Tally, String> {
     let mut tally = Tally::default();
     while Instant::now() < soak.end && !soak.stop.load(Relaxed) {
-        if !try_case(&mut tally, soak, soak.next.fetch_add(1, Relaxed)) {
-            soak.stop.store(true, Relaxed);
-            return Err("a case panicked".to_string());
-        }
-        if tally.differences() > MANY_DIFFERENCES {
+        let ended = try_case(&mut tally, soak, soak.next.fetch_add(1, Relaxed));
+        if ended.is_err() || tally.differences() > MANY_DIFFERENCES {
             soak.stop.store(true, Relaxed);
         }
+        ended?;
     }
     Ok(tally)
 }
@@ -114,7 +110,7 @@ fn run() -> Result<(), String> {
         Some(case) => {
             println!("soak: case {case} alone, SEED={seed}");
             let mut tally = Tally::default();
-            try_case(&mut tally, &soak, case);
+            try_case(&mut tally, &soak, case)?;
             tally
         }
         None => {
