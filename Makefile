@@ -95,7 +95,8 @@ $(STANDIN)/librun.a: $(PLAIN_SOURCES) $(HEADER)
 $(HOST)/%_calls: tests/c/%_calls.c tests/c/runs.h $(HEADER) $(LINKED)
 	@$(CC) $(CFLAGS) $(SANITIZED) $< $(LIBS) -o $@
 
-SECOND = $(addprefix tests/second/,lib.rs compare.rs library.rs run.rs run_cases.rs word.rs word_cases.rs)
+SECOND = $(addprefix tests/second/,lib.rs compare.rs library.rs run.rs word.rs run_cases.rs \
+    word_cases.rs)
 $(HOST)/second_test: $(SECOND)
 	@mkdir -p $(@D)
 	@$(RUSTC) $(RUSTFLAGS) --test $< -o $@
@@ -142,7 +143,8 @@ $(HOST)/soak: tests/second/soak.rs $(HOST)/libsecond.rlib $(LINKED)
 # The fuzz target with a driver in place of libFuzzer, beside the run calls in plain C.
 $(HOST)/plain_run.o: tests/c/plain_run.c bench/plain_word.h $(HEADER)
 	@mkdir -p $(@D)
-	@$(CC) $(CFLAGS) $(PLAIN) -Ibench -Drun_write=plain_run_write -Drun_read=plain_run_read -c $< -o $@
+	@$(CC) $(CFLAGS) $(PLAIN) -Ibench -Drun_write=plain_run_write -Drun_read=plain_run_read \
+	    -c $< -o $@
 
 FUZZ_TARGET = tests/fuzz/drive.c tests/fuzz/calls.c $(HOST)/plain_word.o $(HOST)/plain_run.o
 $(HOST)/fuzz_drive: $(FUZZ_TARGET) tests/fuzz/calls.h tests/c/runs.h $(HEADER) $(LINKED)

@@ -2,9 +2,9 @@
 //! `soak [SECONDS]`.
 //!
 //! The cases of one SEED are numbered, and each depends on the seed and its number alone, not on
-//! the threads. Without SEED a fresh one is drawn and printed; with CASE that one case is put alone,
-//! so SEED and CASE show again what a soak found. A crash of the library names no case, but the same
-//! SEED comes to it again.
+//! the threads. Without SEED a fresh one is drawn and printed; with CASE that one case is put
+//! alone, so SEED and CASE show again what a soak found. A crash of the library names no case, but
+//! the same SEED comes to it again.
 
 use second::compare::{argument, optional_argument, verdict, Call, Rng, Tally, MANY_DIFFERENCES};
 use second::run_cases::{compare_any, compare_run, edges, Sizes};
