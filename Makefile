@@ -35,13 +35,13 @@ help:
 	@echo 'make test       prove every crate (rt ci), then host-test; last line: N passed, 0 failed'
 	@echo 'make host-test  the tests outside the proofs alone; SEED=n, WORDS=n and RUNS=n choose what'
 	@echo '                is compared'
-	@echo 'make soak       the four calls against the second implementation on all cores for SECONDS=n,'
-	@echo '                with a fresh seed or SEED=n'
-	@echo 'make fuzz       the four calls under libFuzzer and the sanitizers on all cores for SECONDS=n'
 	@echo 'make demo       write a run, read it back, damage it, see the refusals'
 	@echo 'make bench      times of the library beside plain C and plain Rust'
 	@echo 'make lib        the static libraries: $(LIBS)'
 	@echo 'make clean      remove what was built outside the proofs'
+	@echo 'make soak       the four calls against the second implementation, on all cores for'
+	@echo '                SECONDS=n, with a fresh seed or SEED=n'
+	@echo 'make fuzz       the four calls under libFuzzer and the sanitizers, likewise'
 
 test:
 	@tests/run
@@ -92,7 +92,7 @@ $(STANDIN)/librun.a: $(PLAIN_SOURCES) $(HEADER)
 	@rm -f $@
 	@ar rcs $@ $(addprefix $(STANDIN)/,plain_word.o word.o run.o)
 
-$(HOST)/%_calls: tests/c/%_calls.c tests/c/runs.h $(HEADER) $(LINKED)
+$(HOST)/%_calls: tests/c/%_calls.c $(HEADER) $(LINKED)
 	@$(CC) $(CFLAGS) $(SANITIZED) $< $(LIBS) -o $@
 
 SECOND = $(addprefix tests/second/,lib.rs compare.rs library.rs run.rs word.rs run_cases.rs \
@@ -139,6 +139,8 @@ evidence-test: $(HOST)/soak $(HOST)/fuzz_drive
 
 $(HOST)/soak: tests/second/soak.rs $(HOST)/libsecond.rlib $(LINKED)
 	@$(RUSTC) $(RUSTFLAGS) $< $(LINK_RUST) -o $@
+
+$(HOST)/run_calls: tests/c/runs.h
 
 # The fuzz target with a driver in place of libFuzzer, beside the run calls in plain C.
 $(HOST)/plain_run.o: tests/c/plain_run.c bench/plain_word.h $(HEADER)
