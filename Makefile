@@ -58,6 +58,9 @@ help:
 	@echo 'make install    library, header, pkg-config file, command and man page, under PREFIX=$(PREFIX)'
 	@echo '                and DESTDIR; make uninstall takes them away'
 	@echo 'make clean      remove what was built outside the proofs'
+	@echo 'make soak       the four calls against the second implementation, on all cores for'
+	@echo '                SECONDS=n, with a fresh seed or SEED=n'
+	@echo 'make fuzz       the four calls under libFuzzer and the sanitizers, likewise'
 
 test:
 	@tests/run
@@ -151,7 +154,8 @@ $(HOST)/faults.so: tests/c/faults.c
 $(HOST)/%_calls: tests/c/%_calls.c $(HEADER) $(LINKED)
 	@$(CC) $(CFLAGS) $(SANITIZED) $< $(LIBS) -o $@
 
-SECOND = $(addprefix tests/second/,lib.rs compare.rs library.rs run.rs word.rs)
+SECOND = $(addprefix tests/second/,lib.rs compare.rs library.rs run.rs word.rs run_cases.rs \
+    word_cases.rs)
 $(HOST)/second_test: $(SECOND)
 	@mkdir -p $(@D)
 	@$(RUSTC) $(RUSTFLAGS) --test $< -o $@
@@ -177,3 +181,34 @@ $(HOST)/bench_words: bench/bench_words.c $(HOST)/plain_word.o bench/plain_word.h
 
 $(HOST)/bench_runs: bench/bench_runs.rs $(HOST)/libsecond.rlib $(LINKED)
 	@$(RUSTC) $(RUSTFLAGS) $< $(LINK_RUST) -o $@
+
+# Evidence beyond the tests (docs/EVIDENCE.md): for as long as one likes, on all cores.
+SECONDS ?= 60
+CASE ?=
+.PHONY: soak fuzz evidence-test
+soak: $(HOST)/soak
+	@SEED=$(SEED) CASE=$(CASE) $< $(SECONDS)
+
+fuzz: $(HOST)/fuzz_drive
+	@tests/fuzz/run $(SECONDS) $< $(LIBS)
+
+# A moment of each, within the tests, so that both stay fit to be run.
+host-test: evidence-test
+evidence-test: $(HOST)/soak $(HOST)/fuzz_drive
+	@SEED=$(SEED) $(HOST)/soak 2
+	@$(STACK) && ASAN_OPTIONS=detect_leaks=0 $(HOST)/fuzz_drive
+
+$(HOST)/soak: tests/second/soak.rs $(HOST)/libsecond.rlib $(LINKED)
+	@$(RUSTC) $(RUSTFLAGS) $< $(LINK_RUST) -o $@
+
+$(HOST)/run_calls: tests/c/runs.h
+
+# The fuzz target with a driver in place of libFuzzer, beside the run calls in plain C.
+$(HOST)/plain_run.o: tests/c/plain_run.c bench/plain_word.h $(HEADER)
+	@mkdir -p $(@D)
+	@$(CC) $(CFLAGS) $(PLAIN) -Ibench -Drun_write=plain_run_write -Drun_read=plain_run_read \
+	    -c $< -o $@
+
+FUZZ_TARGET = tests/fuzz/drive.c tests/fuzz/calls.c $(HOST)/plain_word.o $(HOST)/plain_run.o
+$(HOST)/fuzz_drive: $(FUZZ_TARGET) tests/fuzz/calls.h tests/c/runs.h $(HEADER) $(LINKED)
+	@$(CC) $(CFLAGS) $(SANITIZED) -Ibench $(FUZZ_TARGET) $(LIBS) -o $@

@@ -16,6 +16,7 @@
 #include <sys/mman.h>
 
 #include "mahyrei.h"
+#include "runs.h"
 
 /* ---- checks, each of them counted */
 
@@ -142,69 +143,6 @@ static uint64_t call(bool write) {
 
 /* ---- runs */
 
-struct run {
-    uint64_t rate, m, N, B, F, W, A; /* as in the header */
-};
-
-static void pack_header(const struct run *run, uint8_t header[MAHYREI_HEADER_BYTES]) {
-    uint64_t packed = run->rate;
-    packed = packed << 4 | run->m;
-    packed = packed << 8 | run->N;
-    packed = packed << 9 | run->B;
-    packed = packed << 12 | run->F;
-    packed = packed << 6 | run->W;
-    packed = packed << 7 | run->A;
-    packed <<= 16;
-    for (size_t i = 0; i < MAHYREI_HEADER_BYTES; i++) {
-        header[i] = (uint8_t)(packed >> (56 - 8 * i));
-    }
-}
-
-/* The sizes of mahyrei.h. */
-static size_t pulse_order(const struct run *run) {
-    return (size_t)1 << run->m;
-}
-
-static size_t word_symbols(const struct run *run) {
-    return MAHYREI_WORD_BITS / run->m;
-}
-
-static size_t block_bits(const struct run *run) {
-    return word_block_bytes(run->rate) * 8 - 2;
-}
-
-static size_t block_count(const struct run *run) {
-    return (run->A * (8 * run->F + 64) + block_bits(run) - 1) / block_bits(run);
-}
-
-static size_t place_count(const struct run *run) {
-    return block_count(run) * word_symbols(run) + run->N * (run->N - 1) * run->B;
-}
-
-static size_t period(const struct run *run) {
-    return word_symbols(run) + run->W;
-}
-
-static size_t symbol_count(const struct run *run) {
-    return place_count(run) / word_symbols(run) * period(run);
-}
-
-static size_t group_slots(const struct run *run) {
-    return pulse_order(run) + pulse_order(run) / 4;
-}
-
-static size_t slot_count(const struct run *run) {
-    return symbol_count(run) * group_slots(run);
-}
-
-static size_t slot_bytes(const struct run *run) {
-    return (slot_count(run) + 7) / 8;
-}
-
-static size_t frame_bytes(const struct run *run) {
-    return run->A * run->F;
-}
-
 /* The smallest runs with rows, one for each m, then runs with N = 1; the last has no fill bits. The
  * hash is that of the slots for the frames and the marker below, made alike by two programs with no
  * common code, tests/second/run.rs and tests/c/plain_run.c. */
@@ -273,15 +211,7 @@ static bool read_back(const struct run *run, const uint8_t *slots, const uint8_t
            memcmp(lent_frames.slice, frames, frame_bytes(run)) == 0;
 }
 
-/* ---- bits, words and symbols */
-
-static size_t get_bit(const uint8_t *bytes, size_t x) {
-    return bytes[x / 8] >> (7 - x % 8) & 1;
-}
-
-static void flip(uint8_t *bytes, size_t x) {
-    bytes[x / 8] = (uint8_t)(bytes[x / 8] ^ 0x80 >> x % 8);
-}
+/* ---- words and symbols */
 
 enum { WORDS_MAX = 8, SYMBOLS_MAX = 65536 };
 
@@ -336,12 +266,6 @@ static void make_slots(const struct run *run, uint8_t *to) {
     for (size_t i = 0; i < symbol_count(run); i++) {
         flip(to, i * group_slots(run) + symbols[i]);
     }
-}
-
-/* The symbol, markers counted, at which symbol t of the words stands. */
-static size_t stand(const struct run *run, size_t t) {
-    const size_t place = t + t % run->N * run->B * run->N;
-    return place / word_symbols(run) * period(run) + run->W + place % word_symbols(run);
 }
 
 /* ---- the tests */
@@ -472,18 +396,6 @@ static void test_damage(const struct run *run) {
     test_slots(run);
     test_symbols(run);
     CHECK(read_back(run, slots, frames));
-}
-
-/* Changes one coded bit of a word: the accumulator carries the change from the output place that
- * takes the coded bit on to the end of the word. */
-static void flip_coded(uint8_t *word, uint64_t coded) {
-    uint64_t j = 0;
-    while ((11 * j + 210 * j * j) % MAHYREI_WORD_BITS != coded) {
-        j++;
-    }
-    for (; j < MAHYREI_WORD_BITS; j++) {
-        flip(word, (size_t)j);
-    }
 }
 
 static uint64_t read_words(const struct run *run) {

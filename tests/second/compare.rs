@@ -1,6 +1,7 @@
 //! What the comparing programs share: random numbers, lent slices, and the tally of the answers.
 
 use crate::word::{self, Refusal};
+use std::process::ExitCode;
 use std::time::Instant;
 
 /// splitmix64.
@@ -64,6 +65,15 @@ impl Lent {
         &mut self.area[MARGIN..end]
     }
 
+    /// How many bytes of the slice differ from those given.
+    fn changed(&self, from: &[u8]) -> u64 {
+        let slice = &self.area[MARGIN..MARGIN + from.len()];
+        if slice == from {
+            return 0; // the usual case, and the fast one
+        }
+        slice.iter().zip(from).filter(|(a, b)| a != b).count() as u64
+    }
+
     /// The first byte that is not what it should be, counted from the start of the slice.
     fn wrong_byte(&self, should: &[u8]) -> Option<isize> {
         let (before, rest) = self.area.split_at(MARGIN);
@@ -77,10 +87,87 @@ impl Lent {
     }
 }
 
+/// The four calls.
+#[derive(Clone, Copy)]
+pub enum Call {
+    WordWrite,
+    WordRead,
+    RunWrite,
+    RunRead,
+}
+
+impl Call {
+    pub const ALL: [Call; 4] = [
+        Call::WordWrite,
+        Call::WordRead,
+        Call::RunWrite,
+        Call::RunRead,
+    ];
+
+    pub fn name(self) -> &'static str {
+        ["word_write", "word_read", "run_write", "run_read"][self as usize]
+    }
+
+    /// The numbers that the call can answer.
+    pub fn numbers(self) -> &'static [u8] {
+        match self {
+            Call::WordWrite => &[0, 2, 8, 9],
+            Call::WordRead => &[0, 2, 8, 13, 14, 15],
+            Call::RunWrite => &[0, 1, 2, 3, 4, 5, 6, 7, 8],
+            Call::RunRead => &[0, 1, 2, 3, 4, 5, 6, 7, 8, 9, 10, 11, 12, 13, 14, 15, 16, 18],
+        }
+    }
+}
+
+/// Whether a call writes or reads.
+#[derive(Clone, Copy)]
+pub enum Way {
+    Write,
+    Read,
+}
+
+impl Way {
+    pub fn of_words(self) -> Call {
+        match self {
+            Way::Write => Call::WordWrite,
+            Way::Read => Call::WordRead,
+        }
+    }
+
+    pub fn of_runs(self) -> Call {
+        match self {
+            Way::Write => Call::RunWrite,
+            Way::Read => Call::RunRead,
+        }
+    }
+}
+
+/// What each number says, from 0 on.
+const NUMBERS: [&str; 19] = [
+    "accepted",
+    "header",
+    "rate",
+    "pulse order",
+    "rows and step",
+    "whole codeblocks",
+    "frame size or count",
+    "marker",
+    "length",
+    "spare bits",
+    "pulses",
+    "marker symbols",
+    "unhit places",
+    "coded bits",
+    "termination",
+    "check",
+    "frame marker",
+    "a block of fill",
+    "fill bits",
+];
+
 /// One call to be put to the library, with what the second implementation says of it.
 pub struct Case<'a> {
-    /// Which of the two calls: 0 writes, 1 reads.
-    pub call: usize,
+    pub call: Call,
     pub inputs: &'a [&'a [u8]],
     pub output_len: usize,
     pub expected: Result<Vec<u8>, Refusal>,
@@ -90,22 +177,47 @@ pub struct Case<'a> {
     pub what: &'a str,
 }
 
+/// More than these say nothing new; a program that finds so many stops.
+pub const MANY_DIFFERENCES: u64 = 10;
+
+/// What came of the cases of a call.
+#[derive(Clone, Copy, Default)]
+struct Counts {
+    cases: u64,
+    /// Answers by number.
+    answers: [u64; 32],
+    /// Bytes of the lent slices, and of the margins around them; all of them are compared.
+    lent: u64,
+    margins: u64,
+    /// Lent bytes that a refused call changed.
+    changed: u64,
+    differences: u64,
+}
+
+impl Counts {
+    fn add(&mut self, other: &Counts) {
+        self.cases += other.cases;
+        for (sum, more) in self.answers.iter_mut().zip(other.answers) {
+            *sum += more;
+        }
+        self.lent += other.lent;
+        self.margins += other.margins;
+        self.changed += other.changed;
+        self.differences += other.differences;
+    }
+}
+
 /// What has been compared, and what came of it.
 pub struct Tally {
     started: Instant,
-    /// Answers by call and number.
-    answers: [[u64; 32]; 2],
-    bytes: u64,
-    pub differences: u64,
+    counts: [Counts; 4],
 }
 
 impl Default for Tally {
     fn default() -> Tally {
         Tally {
             started: Instant::now(),
-            answers: [[0; 32]; 2],
-            bytes: 0,
-            differences: 0,
+            counts: Default::default(),
         }
     }
 }
@@ -126,16 +238,23 @@ impl Tally {
         let lent: Vec<&[u8]> = inputs.iter_mut().map(|input| &*input.slice()).collect();
         let answer = library(&lent, output.slice());
 
+        let number = (answer % 256) as u8;
+        let counts = &mut self.counts[case.call as usize];
+        counts.cases += 1;
+        if let Some(count) = counts.answers.get_mut(usize::from(number)) {
+            *count += 1;
+        }
+        if answer != 0 {
+            let lent = inputs.iter().zip(case.inputs.iter().copied());
+            let lent = lent.chain([(&output, &before[..])]);
+            counts.changed += lent.map(|(lent, before)| lent.changed(before)).sum::<u64>();
+        }
         let (expected, should) = match case.expected {
             Ok(bytes) => (0, bytes),
             Err(Refusal { number, place }) => (place as u64 * 256 + u64::from(number), before),
         };
-        let number = (answer % 256) as u8;
-        if let Some(count) = self.answers[case.call].get_mut(usize::from(number)) {
-            *count += 1;
-        }
         let mut differ = |problem: String| {
-            self.differences += 1;
+            counts.differences += 1;
             println!("{}: {problem}", case.what);
         };
         if answer != expected {
@@ -149,57 +268,110 @@ impl Tally {
         }
         let read = inputs.iter().zip(case.inputs.iter().copied());
         for (i, (lent, should)) in read.chain([(&output, &should[..])]).enumerate() {
-            self.bytes += lent.area.len() as u64;
+            counts.lent += should.len() as u64;
+            counts.margins += 2 * MARGIN as u64;
             if let Some(at) = lent.wrong_byte(should) {
                 differ(format!("byte {at} of slice {i} is wrong"));
             }
         }
     }
 
-    /// Prints the table of answers. Fails where something differs, or where one of the numbers,
-    /// given with their meanings, was never answered.
-    pub fn report(
-        &self,
-        calls: [&str; 2],
-        numbers: &[(u8, &str)],
-        seed: u64,
-    ) -> Result<(), String> {
-        println!("  {:<22} {:>10} {:>10}", "answer", calls[0], calls[1]);
-        for (number, name) in numbers {
-            let [write, read] = self.answers.map(|answers| answers[usize::from(*number)]);
-            println!("  {number:>2} {name:<19} {write:>10} {read:>10}");
+    pub fn differences(&self) -> u64 {
+        self.counts.iter().map(|counts| counts.differences).sum()
+    }
+
+    /// Adds what another tally has.
+    pub fn add(&mut self, other: &Tally) {
+        for (sum, more) in self.counts.iter_mut().zip(&other.counts) {
+            sum.add(more);
         }
-        println!(
-            "  {} bytes compared in {:.1} s, {} differences",
-            self.bytes,
-            self.started.elapsed().as_secs_f64(),
-            self.differences
-        );
-        if self.differences > 0 {
+    }
+
+    /// One table of these calls: what was put to each and what it answered.
+    pub fn table(&self, calls: &[Call]) {
+        print!("  {:<29}", "");
+        calls.iter().for_each(|call| print!(" {:>12}", call.name()));
+        println!(" {:>12}", "all");
+        let any = |_| true;
+        self.row(calls, "cases", |of| of.cases, any);
+        for (number, name) in (0..).zip(NUMBERS) {
+            let count = |of: &Counts| of.answers[usize::from(number)];
+            let can = |call: Call| call.numbers().contains(&number);
+            self.row(calls, &format!("answer {number:>2} {name}"), count, can);
+        }
+        self.row(calls, "lent bytes checked", |of| of.lent, any);
+        self.row(calls, "bytes around them checked", |of| of.margins, any);
+        self.row(calls, "lent bytes changed on refusal", |of| of.changed, any);
+        self.row(calls, "differences", |of| of.differences, any);
+    }
+
+    /// A row of the table. A dash stands where a call cannot have such a count, unless it has.
+    fn row(
+        &self,
+        calls: &[Call],
+        name: &str,
+        count: impl Fn(&Counts) -> u64,
+        can: impl Fn(Call) -> bool,
+    ) {
+        let count = |call: Call| count(&self.counts[call as usize]);
+        print!("  {name:<29}");
+        for &call in calls {
+            match count(call) {
+                0 if !can(call) => print!(" {:>12}", "-"),
+                count => print!(" {count:>12}"),
+            }
+        }
+        let all: u64 = calls.iter().map(|&call| count(call)).sum();
+        println!(" {all:>12}");
+    }
+
+    /// Prints the table. Fails where something differs, or where a number that one of these calls
+    /// can answer was never answered by it.
+    pub fn report(&self, calls: &[Call], seed: u64) -> Result<(), String> {
+        self.table(calls);
+        println!("  in {:.1} s", self.started.elapsed().as_secs_f64());
+        if self.differences() > 0 {
             return Err(format!(
                 "library and second implementation differ; SEED={seed} shows it again"
             ));
         }
-        let met = |&(number, _): &(u8, &str)| {
-            let count = |answers: &[u64; 32]| answers[usize::from(number)];
-            self.answers.iter().map(count).sum::<u64>() > 0
-        };
-        if !numbers.iter().all(met) {
-            return Err("an answer was never met".to_string());
+        for &call in calls {
+            let answers = &self.counts[call as usize].answers;
+            let unmet = |number: &&u8| answers[usize::from(**number)] == 0;
+            if let Some(number) = call.numbers().iter().find(unmet) {
+                return Err(format!("{} never answered {number}", call.name()));
+            }
         }
         Ok(())
     }
 }
 
-/// A number from the command line or the environment.
-pub fn argument(index: usize, name: &str, default: u64) -> Result<u64, String> {
+/// A number from the command line or the environment, if it is given.
+pub fn optional_argument(index: usize, name: &str) -> Result<Option<u64>, String> {
     let text = std::env::args()
         .nth(index)
         .or_else(|| std::env::var(name).ok());
     match text.as_deref() {
-        None | Some("") => Ok(default),
-        Some(text) => text
-            .parse()
-            .map_err(|_| format!("{name} is a number, not '{text}'")),
+        None | Some("") => Ok(None),
+        Some(text) => match text.parse() {
+            Ok(number) => Ok(Some(number)),
+            Err(_) => Err(format!("{name} is a number, not '{text}'")),
+        },
+    }
+}
+
+/// The same, with a default.
+pub fn argument(index: usize, name: &str, default: u64) -> Result<u64, String> {
+    Ok(optional_argument(index, name)?.unwrap_or(default))
+}
+
+/// Ends a comparing program.
+pub fn verdict(result: Result<(), String>) -> ExitCode {
+    match result {
+        Ok(()) => ExitCode::SUCCESS,
+        Err(problem) => {
+            println!("FAILED: {problem}");
+            ExitCode::FAILURE
+        }
     }
 }

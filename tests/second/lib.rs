@@ -4,4 +4,8 @@ pub mod compare;
 #[cfg(not(test))] // the tests of the second implementation are linked with no library
 pub mod library;
 pub mod run;
+#[cfg(not(test))]
+pub mod run_cases;
 pub mod word;
+#[cfg(not(test))]
+pub mod word_cases;

@@ -1,0 +1,98 @@
+/*
+ * Runs as the C tests make them: the header's fields, the sizes that follow (mahyrei.h), and bits.
+ */
+#ifndef RUNS_H
+#define RUNS_H
+
+#include "mahyrei.h"
+
+struct run {
+    uint64_t rate, m, N, B, F, W, A; /* as in the header */
+};
+
+static inline void pack_header(const struct run *run, uint8_t header[MAHYREI_HEADER_BYTES]) {
+    uint64_t packed = run->rate;
+    packed = packed << 4 | run->m;
+    packed = packed << 8 | run->N;
+    packed = packed << 9 | run->B;
+    packed = packed << 12 | run->F;
+    packed = packed << 6 | run->W;
+    packed = packed << 7 | run->A;
+    packed <<= 16;
+    for (size_t i = 0; i < MAHYREI_HEADER_BYTES; i++) {
+        header[i] = (uint8_t)(packed >> (56 - 8 * i));
+    }
+}
+
+/* The sizes of mahyrei.h. */
+static inline size_t pulse_order(const struct run *run) {
+    return (size_t)1 << run->m;
+}
+
+static inline size_t word_symbols(const struct run *run) {
+    return MAHYREI_WORD_BITS / run->m;
+}
+
+static inline size_t block_bits(const struct run *run) {
+    return word_block_bytes(run->rate) * 8 - 2;
+}
+
+static inline size_t block_count(const struct run *run) {
+    return (run->A * (8 * run->F + 64) + block_bits(run) - 1) / block_bits(run);
+}
+
+static inline size_t place_count(const struct run *run) {
+    return block_count(run) * word_symbols(run) + run->N * (run->N - 1) * run->B;
+}
+
+static inline size_t period(const struct run *run) {
+    return word_symbols(run) + run->W;
+}
+
+static inline size_t symbol_count(const struct run *run) {
+    return place_count(run) / word_symbols(run) * period(run);
+}
+
+static inline size_t group_slots(const struct run *run) {
+    return pulse_order(run) + pulse_order(run) / 4;
+}
+
+static inline size_t slot_count(const struct run *run) {
+    return symbol_count(run) * group_slots(run);
+}
+
+static inline size_t slot_bytes(const struct run *run) {
+    return (slot_count(run) + 7) / 8;
+}
+
+static inline size_t frame_bytes(const struct run *run) {
+    return run->A * run->F;
+}
+
+static inline size_t get_bit(const uint8_t *bytes, size_t x) {
+    return bytes[x / 8] >> (7 - x % 8) & 1;
+}
+
+static inline void flip(uint8_t *bytes, size_t x) {
+    bytes[x / 8] = (uint8_t)(bytes[x / 8] ^ 0x80 >> x % 8);
+}
+
+/* The symbol, markers counted, at which symbol t of the words stands. */
+static inline size_t stand(const struct run *run, size_t t) {
+    const size_t place = t + t % run->N * run->B * run->N;
+    return place / word_symbols(run) * period(run) + run->W + place % word_symbols(run);
+}
+
+/* Changes one coded bit of a word: the accumulator carries the change from the output place that
+ * takes the coded bit on to the end of the word. */
+static inline void flip_coded(uint8_t *word, uint64_t coded) {
+    uint64_t j = 0;
+    while ((11 * j + 210 * j * j) % MAHYREI_WORD_BITS != coded) {
+        j++;
+    }
+    for (; j < MAHYREI_WORD_BITS; j++) {
+        flip(word, (size_t)j);
+    }
+}
+
+#endif

@@ -1,0 +1,720 @@
+/*
+ * Fuzz target over the four calls: an input is read as a call with its arguments, never as slots
+ * alone, since no fuzzer would find a run or a word by itself. A word or a run to be read is
+ * written by the library first, then damaged as the input says: slots, symbols, coded bits, input
+ * bits of the code, bits of the stream under a right check. Or it is the rest of the input itself.
+ *
+ * What is demanded of each call: the answer and every byte of the written slice are those of the
+ * plain C version (tests/c/plain_run.c, bench/plain_word.c), which is built into the fuzzer and
+ * guides it, the library being closed to it; a refused call changes no lent byte; what is accepted
+ * goes back to where it came from, bit for bit; number and place are ones that the call can give.
+ *
+ * The sanitizers do not see into the library either. So each slice is lent from pages of its own,
+ * right before or right behind a page that may not be touched, with a margin of bytes on its other
+ * side that is compared, and the slices that a call reads are write-protected.
+ */
+#define _DEFAULT_SOURCE /* MAP_ANONYMOUS */
+#include <fcntl.h>
+#include <stdbool.h>
+#include <stdio.h>
+#include <stdlib.h>
+#include <string.h>
+#include <sys/mman.h>
+#include <unistd.h>
+
+#include "../c/runs.h"
+#include "calls.h"
+#include "mahyrei.h"
+#include "plain_word.h"
+
+/* tests/c/plain_run.c, built with these names. */
+uint64_t plain_run_write(const uint8_t *header, size_t header_len, const uint8_t *marker,
+                         size_t marker_len, const uint8_t *frames, size_t frames_len,
+                         uint8_t *slots, size_t slots_len);
+uint64_t plain_run_read(const uint8_t *header, size_t header_len, const uint8_t *marker,
+                        size_t marker_len, const uint8_t *slots, size_t slots_len, uint8_t *frames,
+                        size_t frames_len);
+
+enum {
+    PAGE = 4096,
+    MARGIN = 64,
+    SLOTS_MOST = 1 << 20, /* slot bytes; runs up to the largest of 182 MB are too slow to fuzz */
+    AREA = SLOTS_MOST + PAGE,
+    MARKER_ROOM = 64, /* W has six bits */
+    CODE_TAIL = 34    /* input bits of the code behind the block: check and termination */
+};
+
+/* Bits of the header's fields, in order; the last are the zeros at its end. */
+static const size_t WIDTHS[8] = {2, 4, 8, 9, 12, 6, 7, 16};
+
+static const char *const CALL_NAMES[CALLS] = {"word_write", "word_read", "run_write", "run_read"};
+
+/* The numbers that a call can answer, a bit each. */
+static const uint32_t CAN_ANSWER[CALLS] = {
+    [WORD_WRITE] = 1U << 0 | 1U << 2 | 1U << 8 | 1U << 9,
+    [WORD_READ] = 1U << 0 | 1U << 2 | 1U << 8 | 1U << 13 | 1U << 14 | 1U << 15,
+    [RUN_WRITE] = 0x1FF,
+    [RUN_READ] = 0x1FFFF | 1U << 18,
+};
+
+struct counts *counts;
+
+/* libFuzzer keeps inputs that set a new one of these: here, a number at an order or a rate. */
+__attribute__((section("__libfuzzer_extra_counters"),
+               used)) static uint8_t seen[CALLS][NUMBERS][16];
+
+static void require(bool ok, enum call call, const char *what) {
+    if (!ok) {
+        fprintf(stderr, "%s: %s\n", CALL_NAMES[call], what);
+        abort();
+    }
+}
+
+/* ---- the input */
+
+struct input {
+    const uint8_t *at;
+    size_t left;
+};
+
+/* The next bytes as a number; behind the end there are zeros. */
+static uint64_t take(struct input *in, size_t bytes) {
+    uint64_t number = 0;
+    for (size_t i = 0; i < bytes; i++) {
+        number <<= 8;
+        if (in->left > 0) {
+            number |= *in->at++;
+            in->left--;
+        }
+    }
+    return number;
+}
+
+static size_t take_below(struct input *in, size_t bytes, size_t limit) {
+    return (size_t)(take(in, bytes) % limit);
+}
+
+/* How often to damage: mostly once, since of several the first that is met hides the rest. */
+static size_t take_few(struct input *in) {
+    static const size_t FEW[8] = {1, 1, 1, 1, 0, 2, 3, 8};
+    return FEW[take_below(in, 1, 8)];
+}
+
+/* Fills bytes with a piece of the input again and again, or with random ones from a seed. */
+static void fill(struct input *in, uint8_t *bytes, size_t len) {
+    uint8_t piece[32] = {0};
+    const size_t choice = take_below(in, 1, 64), period = choice < 32 ? choice + 1 : 0;
+    for (size_t i = 0; i < period; i++) {
+        piece[i] = (uint8_t)take(in, 1);
+    }
+    uint64_t state = period == 0 ? take(in, 4) + 1 : 0; /* xorshift64 */
+    for (size_t i = 0; i < len; i++) {
+        state ^= state << 13;
+        state ^= state >> 7;
+        state ^= state << 17;
+        bytes[i] = period == 0 ? (uint8_t)(state >> 32) : piece[i % period];
+    }
+}
+
+/* The rest of the input as it is, then zeros. */
+static void fill_raw(struct input *in, uint8_t *bytes, size_t len) {
+    const size_t count = in->left < len ? in->left : len;
+    memset(bytes, 0, len);
+    memcpy(bytes, in->at, count);
+}
+
+/* Mostly the right length. */
+static size_t choose_len(struct input *in, size_t right) {
+    switch (take_below(in, 1, 16)) {
+    case 13:
+        return right + 1;
+    case 14:
+        return right > 0 ? right - 1 : 0;
+    case 15:
+        return take_below(in, 2, PAGE);
+    default:
+        return right;
+    }
+}
+
+/* ---- lent slices */
+
+struct lent {
+    uint8_t *area; /* the pages before and behind it may not be touched */
+    uint8_t *slice;
+    size_t len;
+    bool low; /* the slice is at the start of the area, not at its end */
+    uint8_t before[AREA];
+};
+
+enum { HEADER, MARKER, FROM, TO, SLICES };
+
+static struct lent lent[SLICES];
+static uint8_t placement; /* a bit for each slice, and one for NULL in place of an empty slice */
+
+static void map_area(struct lent *slice) {
+    uint8_t *pages =
+        mmap(NULL, AREA + 2 * PAGE, PROT_NONE, MAP_PRIVATE | MAP_ANONYMOUS | MAP_NORESERVE, -1, 0);
+    if (pages == MAP_FAILED || mprotect(pages + PAGE, AREA, PROT_READ | PROT_WRITE) != 0) {
+        perror("mmap");
+        exit(1);
+    }
+    slice->area = pages + PAGE;
+}
+
+static void protect(const struct lent *slice, int protection) {
+    if (mprotect(slice->area, AREA, protection) != 0) {
+        perror("mprotect");
+        exit(1);
+    }
+}
+
+/* The slice and the margin on its open side. */
+static uint8_t *watched(const struct lent *slice) {
+    return slice->low ? slice->area : slice->area + AREA - slice->len - MARGIN;
+}
+
+/* Lends the first bytes of what is given, and zeros behind them. */
+static void lend(int which, size_t len, const uint8_t *given, size_t given_len) {
+    struct lent *const slice = &lent[which];
+    slice->len = len;
+    slice->low = placement >> which & 1;
+    memset(watched(slice), 0x5A, len + MARGIN);
+    slice->slice = slice->low ? slice->area : slice->area + AREA - len;
+    memset(slice->slice, 0, len);
+    memcpy(slice->slice, given, given_len < len ? given_len : len);
+    if (len == 0 && placement >> SLICES & 1) {
+        slice->slice = NULL;
+    }
+}
+
+/* Lends a slice to be written. */
+static void lend_to(size_t len) {
+    static uint8_t old[AREA];
+    for (size_t i = 0; i < len; i++) {
+        old[i] = (uint8_t)(i * 37 + len);
+    }
+    lend(TO, len, old, len);
+}
+
+/* Counts the bytes of the slice that changed; the margin may not change at all. */
+static uint64_t changed(const struct lent *slice, enum call call) {
+    const uint8_t *now = watched(slice), *before = slice->before;
+    uint64_t differ = 0;
+    if (memcmp(now, before, slice->len + MARGIN) != 0) {
+        const size_t first = slice->low ? 0 : MARGIN, margin = slice->low ? slice->len : 0;
+        for (size_t i = 0; i < slice->len; i++) {
+            differ += now[first + i] != before[first + i];
+        }
+        require(memcmp(now + margin, before + margin, MARGIN) == 0, call, "wrote beside a slice");
+    }
+    return differ;
+}
+
+/* ---- a call, and what is demanded of it */
+
+static bool is_run(enum call call) {
+    return call >= RUN_WRITE;
+}
+
+/* The header as it is lent; only for one of eight bytes. */
+static struct run lent_run(void) {
+    uint64_t fields[7], packed = 0;
+    for (size_t i = 0; i < MAHYREI_HEADER_BYTES; i++) {
+        packed = packed << 8 | lent[HEADER].slice[i];
+    }
+    for (size_t i = 0; i < 7; i++) {
+        fields[i] = packed >> (64 - WIDTHS[i]);
+        packed <<= WIDTHS[i];
+    }
+    return (struct run){fields[0], fields[1], fields[2], fields[3],
+                        fields[4], fields[5], fields[6]};
+}
+
+static uint64_t put_library(enum call call, uint64_t rate) {
+    const struct lent *const h = &lent[HEADER], *const m = &lent[MARKER];
+    const struct lent *const from = &lent[FROM], *const to = &lent[TO];
+    switch (call) {
+    case WORD_WRITE:
+        return word_write(rate, from->slice, from->len, to->slice, to->len);
+    case WORD_READ:
+        return word_read(rate, from->slice, from->len, to->slice, to->len);
+    case RUN_WRITE:
+        return run_write(h->slice, h->len, m->slice, m->len, from->slice, from->len, to->slice,
+                         to->len);
+    default:
+        return run_read(h->slice, h->len, m->slice, m->len, from->slice, from->len, to->slice,
+                        to->len);
+    }
+}
+
+static uint64_t put_plain(enum call call, uint64_t rate, uint8_t *to, size_t to_len) {
+    const struct lent *const h = &lent[HEADER], *const m = &lent[MARKER];
+    const struct lent *const from = &lent[FROM];
+    switch (call) {
+    case WORD_WRITE:
+        return plain_word_write(rate, from->slice, from->len, to, to_len);
+    case WORD_READ:
+        return plain_word_read(rate, from->slice, from->len, to, to_len);
+    case RUN_WRITE:
+        return plain_run_write(h->slice, h->len, m->slice, m->len, from->slice, from->len, to,
+                               to_len);
+    default:
+        return plain_run_read(h->slice, h->len, m->slice, m->len, from->slice, from->len, to,
+                              to_len);
+    }
+}
+
+/* One more than the highest place that can stand beside this number. */
+static uint64_t place_limit(enum call call, unsigned number) {
+    if (call == WORD_READ && number == MAHYREI_BAD_CODE) {
+        return MAHYREI_WORD_BITS;
+    }
+    if (call != RUN_READ || number < MAHYREI_BAD_PULSE || number > MAHYREI_BAD_FRAME_MARKER) {
+        return 1;
+    }
+    const struct run run = lent_run();
+    return number <= MAHYREI_BAD_IDLE    ? symbol_count(&run)
+           : number <= MAHYREI_BAD_CHECK ? block_count(&run)
+                                         : run.A;
+}
+
+static void judge_answer(enum call call, uint64_t rate, uint64_t answer) {
+    const unsigned number = answer_number(answer);
+    require(number < NUMBERS && CAN_ANSWER[call] >> number & 1, call, "a number it cannot give");
+    require(answer_place(answer) < place_limit(call, number), call, "a place that there is not");
+    counts->call[call].answers[number]++;
+    const uint64_t kind = !is_run(call) ? rate : lent[HEADER].len != 8 ? 0 : lent_run().m;
+    seen[call][number][kind < 16 ? kind : 15] = 1;
+}
+
+/* Puts a call on the lent slices to the library, and judges all of it. */
+static uint64_t put(enum call call, uint64_t rate) {
+    static uint8_t expected[AREA];
+    const int first = is_run(call) ? HEADER : FROM;
+    for (int i = first; i < SLICES; i++) {
+        memcpy(lent[i].before, watched(&lent[i]), lent[i].len + MARGIN);
+        protect(&lent[i], i == TO ? PROT_READ | PROT_WRITE : PROT_READ);
+    }
+    const uint64_t answer = put_library(call, rate);
+    uint64_t read_changed = 0;
+    for (int i = first; i < TO; i++) {
+        protect(&lent[i], PROT_READ | PROT_WRITE);
+        read_changed += changed(&lent[i], call);
+        counts->call[call].lent += lent[i].len;
+    }
+    counts->call[call].lent += lent[TO].len;
+    const uint64_t to_changed = changed(&lent[TO], call);
+    if (answer != MAHYREI_ACCEPTED) {
+        counts->call[call].changed += read_changed + to_changed;
+        require(to_changed == 0, call, "refused, and changed a lent byte");
+    }
+    require(read_changed == 0, call, "changed a slice that it only reads");
+    judge_answer(call, rate, answer);
+
+    const size_t start = lent[TO].low ? 0 : MARGIN;
+    memcpy(expected, lent[TO].before + start, lent[TO].len);
+    require(answer == put_plain(call, rate, expected, lent[TO].len), call,
+            "another answer than plain C");
+    require(lent[TO].len == 0 || memcmp(lent[TO].slice, expected, lent[TO].len) == 0, call,
+            "wrote other bytes than plain C");
+    return answer;
+}
+
+/* Puts a call and, where it is accepted, the call that goes the other way. */
+static void put_and_back(enum call call, uint64_t rate) {
+    static uint8_t came[AREA], went[AREA];
+    const enum call back = call == WORD_WRITE  ? WORD_READ
+                           : call == WORD_READ ? WORD_WRITE
+                           : call == RUN_WRITE ? RUN_READ
+                                               : RUN_WRITE;
+    if (put(call, rate) != MAHYREI_ACCEPTED) {
+        return;
+    }
+    const size_t from_len = lent[FROM].len, to_len = lent[TO].len;
+    memcpy(came, lent[FROM].slice, from_len);
+    memcpy(went, lent[TO].slice, to_len);
+    lend(FROM, to_len, went, to_len);
+    lend_to(from_len);
+    require(put(back, rate) == MAHYREI_ACCEPTED, back, "refused what the other call made");
+    require(memcmp(lent[TO].slice, came, from_len) == 0, back, "did not lead back");
+}
+
+/* ---- words */
+
+static uint8_t given[AREA]; /* what is lent to be read */
+
+static size_t code_inputs(uint64_t rate) {
+    return word_block_bytes(rate) * 8 - 2 + CODE_TAIL;
+}
+
+/* Changes the encoder's outputs at one step: the second, and the first only where it is asked. */
+static void flip_outputs(uint8_t *word, uint64_t rate, size_t step, bool first) {
+    if (step >= code_inputs(rate)) {
+        return;
+    }
+    size_t place = rate == MAHYREI_RATE_1_3   ? 3 * step
+                   : rate == MAHYREI_RATE_1_2 ? 2 * step
+                                              : (3 * step + 1) / 2;
+    if (rate != MAHYREI_RATE_2_3 || step % 2 == 0) { /* the first is kept */
+        if (first) {
+            flip_coded(word, place);
+        }
+        place++;
+    }
+    flip_coded(word, place);
+    if (rate == MAHYREI_RATE_1_3) { /* the third is the second again */
+        flip_coded(word, place + 1);
+    }
+}
+
+/* The word as if one input bit of the code had been another: outputs 1 + D^2 and 1 + D + D^2. */
+static void flip_code_input(uint8_t *word, uint64_t rate, size_t input) {
+    flip_outputs(word, rate, input, true);
+    flip_outputs(word, rate, input + 1, false);
+    flip_outputs(word, rate, input + 2, true);
+}
+
+static void damage_word(struct input *in, uint64_t rate, uint8_t *word) {
+    const size_t inputs = code_inputs(rate);
+    for (size_t left = take_few(in); left > 0; left--) {
+        const size_t how = take_below(in, 1, 8), place = take_below(in, 2, MAHYREI_WORD_BITS);
+        switch (how) {
+        case 0:
+            flip(word, place);
+            break;
+        case 1:
+            flip_coded(word, place);
+            break;
+        case 2: /* the last coded bits */
+            flip_coded(word, MAHYREI_WORD_BITS - 1 - place % 6);
+            break;
+        case 3: /* check and termination */
+            flip_code_input(word, rate, inputs - 1 - place % CODE_TAIL);
+            break;
+        case 4: /* termination */
+            flip_code_input(word, rate, inputs - 1 - place % 2);
+            break;
+        default:
+            flip_code_input(word, rate, place % inputs);
+        }
+    }
+}
+
+static void make_block(struct input *in, uint64_t rate, uint8_t *block) {
+    const size_t len = word_block_bytes(rate);
+    fill(in, block, len);
+    if (take_below(in, 1, 8) != 7) {
+        block[len - 1] &= 0xFC;
+    }
+}
+
+static void make_word(struct input *in, uint64_t rate) {
+    uint8_t block[MAHYREI_BLOCK_BYTES_MAX];
+    if (take_below(in, 1, 4) == 3) {
+        fill_raw(in, given, MAHYREI_WORD_BYTES);
+        return;
+    }
+    make_block(in, rate, block);
+    block[word_block_bytes(rate) - 1] &= 0xFC;
+    require(word_write(rate, block, word_block_bytes(rate), given, MAHYREI_WORD_BYTES) == 0,
+            WORD_WRITE, "refused a block");
+    damage_word(in, rate, given);
+}
+
+static void put_word(struct input *in, enum call call) {
+    const uint64_t choice = take(in, 1), known = choice % 3;
+    const uint64_t rate = choice < 240 ? known : take(in, 8);
+    const size_t block_len = choose_len(in, word_block_bytes(known));
+    const size_t word_len = choose_len(in, MAHYREI_WORD_BYTES);
+    if (call == WORD_WRITE) {
+        make_block(in, known, given);
+        lend(FROM, block_len, given, word_block_bytes(known));
+        lend_to(word_len);
+    } else {
+        make_word(in, known);
+        lend(FROM, word_len, given, MAHYREI_WORD_BYTES);
+        lend_to(block_len);
+    }
+    put_and_back(call, rate);
+}
+
+/* ---- runs */
+
+static size_t gcd(size_t a, size_t b) {
+    return b == 0 ? a : gcd(b, a % b);
+}
+
+/* Makes N and B fit: the steps that do are the multiples of one, if it is in range. */
+static void fit_rows(struct run *run) {
+    const size_t S = word_symbols(run), fits = S / gcd(S, run->N * (run->N - 1));
+    if (run->N > 1 && fits <= 256) {
+        run->B = fits * (1 + run->B % (256 / fits));
+    } else {
+        run->N = 1;
+    }
+}
+
+/* A header that passes, of a run of at most SLOTS_MOST bytes. */
+static struct run make_run(struct input *in) {
+    struct run run = {.rate = take(in, 1) % 3, .m = 2 + take(in, 1) % 7};
+    run.N = 1 + take(in, 1) % 128;
+    run.B = 1 + take(in, 1);
+    run.F = 1 + take(in, 2) % 2048;
+    run.W = 1 + take(in, 1) % 32;
+    run.A = 1 + take(in, 1) % 64;
+    /* small runs, which are fast, more often than large ones */
+    const size_t most = SLOTS_MOST >> take_below(in, 1, 8);
+    fit_rows(&run);
+    while (slot_bytes(&run) > most && (run.A > 1 || run.F > 1 || run.N > 1)) {
+        if (run.A > 1) {
+            run.A /= 2;
+        } else if (run.F > 1) {
+            run.F /= 2;
+        } else {
+            run.N = (run.N + 1) / 2;
+            fit_rows(&run);
+        }
+    }
+    return run;
+}
+
+/* The symbol whose group this is: its first pulse, or 0. */
+static size_t get_symbol(const struct run *run, const uint8_t *slots, size_t s) {
+    for (size_t q = 0; q < pulse_order(run); q++) {
+        if (get_bit(slots, s * group_slots(run) + q)) {
+            return q;
+        }
+    }
+    return 0;
+}
+
+/* One pulse in the group, at any of its slots. */
+static void put_pulse(const struct run *run, uint8_t *slots, size_t s, size_t at) {
+    for (size_t q = 0; q < group_slots(run); q++) {
+        const size_t x = s * group_slots(run) + q;
+        if (get_bit(slots, x) != (q == at)) {
+            flip(slots, x);
+        }
+    }
+}
+
+static void get_word(const struct run *run, const uint8_t *slots, size_t c, uint8_t *word) {
+    const size_t S = word_symbols(run);
+    memset(word, 0, MAHYREI_WORD_BYTES);
+    for (size_t i = 0; i < S; i++) {
+        const size_t symbol = get_symbol(run, slots, stand(run, c * S + i));
+        for (size_t j = 0; j < run->m; j++) { /* first bit highest */
+            if (symbol >> (run->m - 1 - j) & 1) {
+                flip(word, i * run->m + j);
+            }
+        }
+    }
+}
+
+static void put_word_back(const struct run *run, uint8_t *slots, size_t c, const uint8_t *word) {
+    const size_t S = word_symbols(run);
+    for (size_t i = 0; i < S; i++) {
+        size_t symbol = 0;
+        for (size_t x = i * run->m; x < (i + 1) * run->m; x++) {
+            symbol = symbol * 2 + get_bit(word, x);
+        }
+        const size_t s = stand(run, c * S + i);
+        if (!get_bit(slots, s * group_slots(run) + symbol)) { /* most stand already */
+            put_pulse(run, slots, s, symbol);
+        }
+    }
+}
+
+/* Changes a bit of a word's block and makes the check right again. */
+static void flip_stream(uint8_t *word, uint64_t rate, size_t bit) {
+    uint8_t block[MAHYREI_BLOCK_BYTES_MAX];
+    const size_t len = word_block_bytes(rate);
+    if (word_read(rate, word, MAHYREI_WORD_BYTES, block, len) == MAHYREI_ACCEPTED) {
+        flip(block, bit);
+        require(word_write(rate, block, len, word, MAHYREI_WORD_BYTES) == 0, WORD_WRITE,
+                "refused a block");
+    }
+}
+
+/* A bit of the stream: of a frame marker, of the fill, where there is some, or any. */
+static size_t take_stream_bit(struct input *in, const struct run *run) {
+    const size_t marked = 64 + 8 * run->F, end = run->A * marked;
+    const size_t all = block_count(run) * block_bits(run);
+    switch (take_below(in, 1, 4)) {
+    case 0:
+        return take_below(in, 1, run->A) * marked + take_below(in, 1, 64);
+    case 1:
+        return end < all ? end + take_below(in, 2, all - end) : all - 1;
+    default:
+        return take_below(in, 3, all);
+    }
+}
+
+/* Damages one word of the run. */
+static void damage_run_word(struct input *in, const struct run *run, uint8_t *slots) {
+    uint8_t word[MAHYREI_WORD_BYTES];
+    const size_t how = take_below(in, 1, 8);
+    size_t c = take_below(in, 1, block_count(run));
+    if (how < 4) {
+        get_word(run, slots, c, word);
+        damage_word(in, run->rate, word);
+    } else if (how < 7) {
+        const size_t x = take_stream_bit(in, run), k = block_bits(run);
+        c = x / k;
+        get_word(run, slots, c, word);
+        flip_stream(word, run->rate, x % k);
+    } else { /* word 0 once more */
+        get_word(run, slots, 0, word);
+    }
+    put_word_back(run, slots, c, word);
+}
+
+static void damage_run(struct input *in, const struct run *run, uint8_t *slots) {
+    const size_t group = group_slots(run), M = pulse_order(run), symbols = symbol_count(run);
+    for (size_t left = take_few(in); left > 0; left--) {
+        const size_t how = take_below(in, 1, 16), s = take_below(in, 3, symbols);
+        const size_t at = (size_t)take(in, 2);
+        switch (how) {
+        case 0:
+            flip(slots, s * group + at % group);
+            break;
+        case 1: /* spare, where there are such bits */
+            flip(slots, 8 * slot_bytes(run) - 1 - at % 8);
+            break;
+        case 2: /* a lone guard pulse */
+            put_pulse(run, slots, s, M + at % (M / 4));
+            break;
+        case 3:
+        case 4: /* another symbol */
+            put_pulse(run, slots, s, at % M);
+            break;
+        case 5: /* a marker symbol */
+            put_pulse(run, slots, s / period(run) * period(run) + at % run->W, s % M);
+            break;
+        default:
+            damage_run_word(in, run, slots);
+        }
+    }
+}
+
+/* Sets a field to any number, so that a header fails where it would not by chance. */
+static void set_field(uint8_t *header, size_t field, uint64_t number) {
+    size_t end = 0;
+    for (size_t i = 0; i <= field; i++) {
+        end += WIDTHS[i];
+    }
+    for (size_t i = 0; i < WIDTHS[field]; i++) {
+        if (get_bit(header, end - 1 - i) != (number >> i & 1)) {
+            flip(header, end - 1 - i);
+        }
+    }
+}
+
+/* The header as it is lent: mostly that of the run, else changed in one way. */
+static void lend_header(struct input *in, const struct run *run) {
+    uint8_t header[2 * MAHYREI_HEADER_BYTES] = {0};
+    size_t len = MAHYREI_HEADER_BYTES;
+    pack_header(run, header);
+    const size_t choice = take_below(in, 1, 32);
+    if (choice < 8) {
+        set_field(header, choice, take(in, 2));
+    } else if (choice == 8) {
+        for (size_t i = 0; i < len; i++) {
+            header[i] = (uint8_t)take(in, 1);
+        }
+    } else if (choice == 9) {
+        len = take_below(in, 1, sizeof header);
+    }
+    lend(HEADER, len, header, len);
+}
+
+static void make_marker(struct input *in, const struct run *run, uint8_t marker[MARKER_ROOM]) {
+    const size_t choice = take_below(in, 1, 8);
+    fill(in, marker, MARKER_ROOM);
+    for (size_t i = 0; i < MARKER_ROOM && choice != 7; i++) { /* else as it came */
+        marker[i] &= (uint8_t)(pulse_order(run) - 1);
+    }
+}
+
+/* The slots to be read. */
+static void make_slots(struct input *in, const struct run *run, const uint8_t *marker) {
+    static uint8_t frames[MAHYREI_FRAMES_BYTES_MAX];
+    uint8_t header[MAHYREI_HEADER_BYTES];
+    if (take_below(in, 1, 8) == 7) {
+        fill_raw(in, given, slot_bytes(run));
+        return;
+    }
+    fill(in, frames, frame_bytes(run));
+    pack_header(run, header);
+    memset(given, 0, slot_bytes(run)); /* an input says all that it does */
+    if (run_write(header, sizeof header, marker, run->W, frames, frame_bytes(run), given,
+                  slot_bytes(run)) == MAHYREI_ACCEPTED) { /* not where a marker symbol is M */
+        damage_run(in, run, given);
+    }
+}
+
+static void put_run(struct input *in, enum call call) {
+    uint8_t marker[MARKER_ROOM];
+    const struct run run = make_run(in);
+    lend_header(in, &run);
+    make_marker(in, &run, marker);
+    lend(MARKER, choose_len(in, run.W) % MARKER_ROOM, marker, MARKER_ROOM);
+    const size_t frames_len = choose_len(in, frame_bytes(&run));
+    const size_t slots_len = choose_len(in, slot_bytes(&run));
+    if (call == RUN_WRITE) {
+        fill(in, given, frame_bytes(&run));
+        lend(FROM, frames_len, given, frame_bytes(&run));
+        lend_to(slots_len);
+    } else {
+        make_slots(in, &run, marker);
+        lend(FROM, slots_len, given, slot_bytes(&run));
+        lend_to(frames_len);
+    }
+    put_and_back(call, 0);
+}
+
+/* ---- libFuzzer's two functions */
+
+static struct counts *map_counts(void) {
+    static struct counts alone;
+    const char *const name = getenv("FUZZ_COUNTS");
+    if (name == NULL) {
+        return &alone;
+    }
+    const int file = open(name, O_RDWR | O_CREAT, 0666);
+    if (file < 0 || ftruncate(file, sizeof(struct counts)) != 0) {
+        perror(name);
+        exit(1);
+    }
+    void *const mapped =
+        mmap(NULL, sizeof(struct counts), PROT_READ | PROT_WRITE, MAP_SHARED, file, 0);
+    if (mapped == MAP_FAILED) {
+        perror(name);
+        exit(1);
+    }
+    close(file);
+    return mapped;
+}
+
+int LLVMFuzzerInitialize(int *argc, char ***argv) {
+    (void)argc, (void)argv;
+    counts = map_counts();
+    for (int i = 0; i < SLICES; i++) {
+        map_area(&lent[i]);
+    }
+    return 0;
+}
+
+int LLVMFuzzerTestOneInput(const uint8_t *data, size_t size) {
+    struct input in = {data, size};
+    const enum call call = (enum call)take_below(&in, 1, CALLS);
+    placement = (uint8_t)take(&in, 1);
+    counts->inputs++;
+    if (is_run(call)) {
+        put_run(&in, call);
+    } else {
+        put_word(&in, call);
+    }
+    return 0;
+}

@@ -1,0 +1,30 @@
+/*
+ * The fuzz target over the four calls, as libFuzzer knows it, and what it counts.
+ */
+#ifndef CALLS_H
+#define CALLS_H
+
+#include <stddef.h>
+#include <stdint.h>
+
+enum call { WORD_WRITE, WORD_READ, RUN_WRITE, RUN_READ, CALLS };
+
+enum { NUMBERS = 19 };
+
+/* tests/fuzz/run reads these as 64-bit numbers in this order. */
+struct counts {
+    uint64_t inputs;
+    struct {
+        uint64_t answers[NUMBERS];
+        uint64_t lent;    /* bytes of lent slices, all of them compared after the call */
+        uint64_t changed; /* lent bytes that a refused call changed */
+    } call[CALLS];
+};
+
+/* In the file that FUZZ_COUNTS names, where it is set, so that a crash loses none. */
+extern struct counts *counts;
+
+int LLVMFuzzerInitialize(int *argc, char ***argv);
+int LLVMFuzzerTestOneInput(const uint8_t *data, size_t size);
+
+#endif
