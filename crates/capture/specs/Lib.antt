@@ -7,5 +7,6 @@ pub mod Leading
 pub mod Window
 pub mod Bounds
 pub mod Scan
+pub mod Firsts
 pub mod Zeros
 pub mod Lines

@@ -52,7 +52,9 @@ pub fn word_out(p: slots::Plan, b: &[u8], j: usize, word: &mut [u8])
     requires { ⌜ Taken p (now b) j (now word) ⌝ }
     ensures { λ _. ⌜ now (word .exit) ≡ wordOut p (now (b .entry)) j ⌝ }
 {
+    let mut firsts = [0u64; 7560];
     let mut room = [0u8; 15120];
-    words::take_out(p, b, j, &mut room);
+    words::windows(p, b, j, &mut firsts);
+    words::take_out(p, b, j, &firsts, &mut room);
     bits::packing::pack(&room, word);
 }

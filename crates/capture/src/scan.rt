@@ -33,7 +33,7 @@ fn left_out(half: usize, v: u64) -> usize
 }
 
 // The zeros in front of the first one of 64 bits, by halves: no branch depends on where it stands.
-fn leading(v: u64) -> usize
+pub fn leading(v: u64) -> usize
     requires { ⌜ 1 ≤ v ⌝ }
     ensures { λ r. ⌜ Leads 64 v r ⌝ }
 {
@@ -61,7 +61,7 @@ fn window(b: &[u8], i: usize) -> u64
 }
 
 // The same from slot x on.
-fn ahead(b: &[u8], x: usize) -> u64
+pub fn ahead(b: &[u8], x: usize) -> u64
     requires { ⌜ x < 8 * length (now b) ⌝ }
     ensures { λ r. ⌜ r ≡ val (cut (reach (length (now (b .entry))) x) (slotsFrom (now (b .entry)) x)) 64 ⌝ }
 {
