@@ -57,3 +57,12 @@ group-bound p fine s h =
     let k : s + 1 ≤ symbolCount p = omega arith in
     let m = fine .slots-bound in
     omega (arith, mul-le-mul k (le-refl (p .group)))
+
+-- all that is known of the numbers of group s
+pub record Held (p : Plan) (b : List ℕ) (s : ℕ) : Type 0 where
+  pub sizes : Bounds p
+  pub inside : s * p .group + p .group ≤ 8 * length b
+  pub small : s * p .group + p .group < 2 ^ 31
+
+pub held : (p : Plan) → Fine p → (b : List ℕ) → length b ≡ slotBytes p → (s : ℕ) → s < symbolCount p → Held p b s
+held p fine b long s h = record { sizes = bounds p fine; inside = group-in p b s long h; small = group-bound p fine s h }

@@ -5,8 +5,8 @@ use Prim.Native.Nat.{ℕ, _+_, _-_, _*_, _≤_}
 use native.Mathlib.Omega.{arith}
 use borrow.Author.Needs.{needs}
 use Rattle.bits.specs.First.{upTo, first-on, first-here, first-end}
-use Rattle.slots.specs.Plan.{unit}
-use Rattle.capture.specs.Bounds.{bounds}
+use Rattle.slots.specs.Plan.{unit, symbolCount}
+use Rattle.capture.specs.Bounds.{bounds, Bounds}
 use Rattle.capture.specs.Capture.{markRight}
 use Rattle.capture.specs.Lines.{line-in}
 use Rattle.capture.specs.Scan.{bool-no, bool-yes}
@@ -19,58 +19,37 @@ Inv-loop p b line first count w₀ w = (w ≤ count) × (upTo (markRight p b) (f
 abbrev μ-loop : tie.MeasureT-loop
 μ-loop p b line first count w₀ w = count - w
 
+-- the sizes that the needs rest on
+known : (s : tie.Start Inv-loop μ-loop) → Bounds (s .args .p) × (s .args .line * unit (s .args .p) + unit (s .args .p) ≤ symbolCount (s .args .p))
+known s = (bounds (s .args .p) (s .pre .0 .fine), line-in (s .args .p) (s .pre .0 .fine) (s .args .line) (s .pre .1))
+
 add-first : tie.Need-add-first Inv-loop μ-loop
-add-first c =
-    let a = c .before .before .args in
-    let h = c .before .before .pre in
-    let k = bounds (a .p) (h .0 .fine) in
-    let u = line-in (a .p) (h .0 .fine) (a .line) (h .1) in
-    omega arith
+add-first c = let r = known (c .before .before) in omega arith
 
 mul-first : tie.Need-mul-first Inv-loop μ-loop
-mul-first c =
-    let a = c .before .before .args in
-    let h = c .before .before .pre in
-    let k = bounds (a .p) (h .0 .fine) in
-    let u = line-in (a .p) (h .0 .fine) (a .line) (h .1) in
-    omega arith
+mul-first c = let r = known (c .before .before) in omega arith
 
 loop-holds : tie.Need-loop-holds Inv-loop μ-loop
 loop-holds c =
     let a = c .before .before .args in
-    let h = c .before .before .pre in
-    let k = bounds (a .p) (h .0 .fine) in
-    let u = line-in (a .p) (h .0 .fine) (a .line) (h .1) in
+    let r = known (c .before .before) in
     let first : ℕ = a .line * unit (a .p) in
     let e : first + 0 ≡ first = omega arith in
     (search needs, ap (λ (x : ℕ). upTo (markRight (a .p) (a .b .now)) x (first + a .p .count)) e)
 
 mark-right-requires : tie.Need-mark-right-requires Inv-loop μ-loop
 mark-right-requires c κs =
-    let a = c .before .before .before .before .args in
     let h = c .before .before .before .before .pre in
-    let k = bounds (a .p) (h .0 .fine) in
-    let u = line-in (a .p) (h .0 .fine) (a .line) (h .1) in
+    let r = known (c .before .before .before .before) in
     (h .0, h .1, omega arith)
 
 add-result : tie.Need-add-result Inv-loop μ-loop
-add-result c =
-    let a = c .before .before .before .before .before .before .args in
-    let h = c .before .before .before .before .before .before .pre in
-    let k = bounds (a .p) (h .0 .fine) in
-    let u = line-in (a .p) (h .0 .fine) (a .line) (h .1) in
-    let l = c .before .before .before .loop in
-    let t : ℕ → Bool = markRight (a .p) (a .b .now) in
-    let first : ℕ = a .line * unit (a .p) in
-    let end : ℕ = first + a .p .count in
-    omega arith
+add-result c = let r = known (c .before .before .before .before .before .before) in omega arith
 
 returns : tie.Need-returns Inv-loop μ-loop
 returns c =
     let a = c .before .before .before .before .before .before .args in
-    let h = c .before .before .before .before .before .before .pre in
-    let k = bounds (a .p) (h .0 .fine) in
-    let u = line-in (a .p) (h .0 .fine) (a .line) (h .1) in
+    let r = known (c .before .before .before .before .before .before) in
     let l = c .before .before .before .loop in
     let t : ℕ → Bool = markRight (a .p) (a .b .now) in
     let first : ℕ = a .line * unit (a .p) in
@@ -86,9 +65,7 @@ loop-less c = search needs
 loop-again : tie.Need-loop-again Inv-loop μ-loop
 loop-again c =
     let a = c .before .before .before .before .before .before .args in
-    let h = c .before .before .before .before .before .before .pre in
-    let k = bounds (a .p) (h .0 .fine) in
-    let u = line-in (a .p) (h .0 .fine) (a .line) (h .1) in
+    let r = known (c .before .before .before .before .before .before) in
     let l = c .before .before .before .loop in
     let t : ℕ → Bool = markRight (a .p) (a .b .now) in
     let first : ℕ = a .line * unit (a .p) in
@@ -101,23 +78,12 @@ loop-again c =
     )
 
 add-result-2 : tie.Need-add-result-2 Inv-loop μ-loop
-add-result-2 c =
-    let a = c .before .before .before .before .args in
-    let h = c .before .before .before .before .pre in
-    let k = bounds (a .p) (h .0 .fine) in
-    let u = line-in (a .p) (h .0 .fine) (a .line) (h .1) in
-    let l = c .before .loop in
-    let t : ℕ → Bool = markRight (a .p) (a .b .now) in
-    let first : ℕ = a .line * unit (a .p) in
-    let end : ℕ = first + a .p .count in
-    omega arith
+add-result-2 c = let r = known (c .before .before .before .before) in omega arith
 
 returns-2 : tie.Need-returns-2 Inv-loop μ-loop
 returns-2 c =
     let a = c .before .before .before .before .args in
-    let h = c .before .before .before .before .pre in
-    let k = bounds (a .p) (h .0 .fine) in
-    let u = line-in (a .p) (h .0 .fine) (a .line) (h .1) in
+    let r = known (c .before .before .before .before) in
     let l = c .before .loop in
     let t : ℕ → Bool = markRight (a .p) (a .b .now) in
     let first : ℕ = a .line * unit (a .p) in

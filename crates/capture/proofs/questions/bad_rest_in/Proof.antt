@@ -6,8 +6,8 @@ use native.Mathlib.Omega.{arith}
 use native.Mathlib.Nat.{mod-lt}
 use borrow.Author.Needs.{needs}
 use Rattle.bits.specs.First.{upTo, first-on, first-here, first-end, first-skip}
-use Rattle.slots.specs.Plan.{unit}
-use Rattle.capture.specs.Bounds.{bounds}
+use Rattle.slots.specs.Plan.{unit, symbolCount}
+use Rattle.capture.specs.Bounds.{bounds, Bounds}
 use Rattle.capture.specs.Capture.{restZero}
 use Rattle.capture.specs.Lines.{turned, turned-mod, line-in, rest-else}
 use Rattle.capture.specs.Scan.{bool-no, bool-yes}
@@ -20,37 +20,21 @@ Inv-loop p b line symbols rows first c₀ i₀ c i = (i ≤ symbols) × (c ≡ (
 abbrev μ-loop : tie.MeasureT-loop
 μ-loop p b line symbols rows first c₀ i₀ c i = symbols - i
 
+-- the sizes that the needs rest on
+known : (s : tie.Start Inv-loop μ-loop) → Bounds (s .args .p) × (s .args .line * unit (s .args .p) + unit (s .args .p) ≤ symbolCount (s .args .p))
+known s = (bounds (s .args .p) (s .pre .0 .fine), line-in (s .args .p) (s .pre .0 .fine) (s .args .line) (s .pre .1))
+
 add-first : tie.Need-add-first Inv-loop μ-loop
-add-first c =
-    let a = c .before .before .args in
-    let h = c .before .before .pre in
-    let k = bounds (a .p) (h .0 .fine) in
-    let u = line-in (a .p) (h .0 .fine) (a .line) (h .1) in
-    omega arith
+add-first c = let r = known (c .before .before) in omega arith
 
 mul-first : tie.Need-mul-first Inv-loop μ-loop
-mul-first c =
-    let a = c .before .before .args in
-    let h = c .before .before .pre in
-    let k = bounds (a .p) (h .0 .fine) in
-    let u = line-in (a .p) (h .0 .fine) (a .line) (h .1) in
-    omega arith
+mul-first c = let r = known (c .before .before) in omega arith
 
 add-first-2 : tie.Need-add-first-2 Inv-loop μ-loop
-add-first-2 c =
-    let a = c .before .before .before .args in
-    let h = c .before .before .before .pre in
-    let k = bounds (a .p) (h .0 .fine) in
-    let u = line-in (a .p) (h .0 .fine) (a .line) (h .1) in
-    omega arith
+add-first-2 c = let r = known (c .before .before .before) in omega arith
 
 mul-c : tie.Need-mul-c Inv-loop μ-loop
-mul-c c =
-    let a = c .before .before .before .args in
-    let h = c .before .before .before .pre in
-    let k = bounds (a .p) (h .0 .fine) in
-    let u = line-in (a .p) (h .0 .fine) (a .line) (h .1) in
-    omega arith
+mul-c c = let r = known (c .before .before .before) in omega arith
 
 rem-c : tie.Need-rem-c Inv-loop μ-loop
 rem-c c = let m = c .before .before .before .pre .0 .fine .rows-least in omega arith
@@ -59,8 +43,7 @@ loop-holds : tie.Need-loop-holds Inv-loop μ-loop
 loop-holds c =
     let a = c .before .before .before .args in
     let h = c .before .before .before .pre in
-    let k = bounds (a .p) (h .0 .fine) in
-    let u = line-in (a .p) (h .0 .fine) (a .line) (h .1) in
+    let r = known (c .before .before .before) in
     let t : ℕ → Bool = restZero (a .p) (a .b .now) in
     let first : ℕ = a .line * unit (a .p) in
     let end : ℕ = first + unit (a .p) in
@@ -73,36 +56,18 @@ loop-holds c =
 
 rest-zero-requires : tie.Need-rest-zero-requires Inv-loop μ-loop
 rest-zero-requires c κs =
-    let a = c .before .before .before .before .before .args in
     let h = c .before .before .before .before .before .pre in
-    let k = bounds (a .p) (h .0 .fine) in
-    let u = line-in (a .p) (h .0 .fine) (a .line) (h .1) in
+    let r = known (c .before .before .before .before .before) in
     let l = c .before .loop in
-    let t : ℕ → Bool = restZero (a .p) (a .b .now) in
-    let first : ℕ = a .line * unit (a .p) in
-    let end : ℕ = first + unit (a .p) in
-    let s : ℕ = first + (a .p .count + l .i) in
     (h .0, h .1, omega arith, l .inv .1)
 
 add-result : tie.Need-add-result Inv-loop μ-loop
-add-result c =
-    let a = c .before .before .before .before .before .before .before .args in
-    let h = c .before .before .before .before .before .before .before .pre in
-    let k = bounds (a .p) (h .0 .fine) in
-    let u = line-in (a .p) (h .0 .fine) (a .line) (h .1) in
-    let l = c .before .before .before .loop in
-    let t : ℕ → Bool = restZero (a .p) (a .b .now) in
-    let first : ℕ = a .line * unit (a .p) in
-    let end : ℕ = first + unit (a .p) in
-    let s : ℕ = first + (a .p .count + l .i) in
-    omega arith
+add-result c = let r = known (c .before .before .before .before .before .before .before) in omega arith
 
 returns : tie.Need-returns Inv-loop μ-loop
 returns c =
     let a = c .before .before .before .before .before .before .before .args in
-    let h = c .before .before .before .before .before .before .before .pre in
-    let k = bounds (a .p) (h .0 .fine) in
-    let u = line-in (a .p) (h .0 .fine) (a .line) (h .1) in
+    let r = known (c .before .before .before .before .before .before .before) in
     let l = c .before .before .before .loop in
     let t : ℕ → Bool = restZero (a .p) (a .b .now) in
     let first : ℕ = a .line * unit (a .p) in
@@ -115,13 +80,7 @@ turn-requires : tie.Need-turn-requires Inv-loop μ-loop
 turn-requires c κs =
     let a = c .before .before .before .before .before .before .before .args in
     let h = c .before .before .before .before .before .before .before .pre in
-    let k = bounds (a .p) (h .0 .fine) in
-    let u = line-in (a .p) (h .0 .fine) (a .line) (h .1) in
     let l = c .before .before .before .loop in
-    let t : ℕ → Bool = restZero (a .p) (a .b .now) in
-    let first : ℕ = a .line * unit (a .p) in
-    let end : ℕ = first + unit (a .p) in
-    let s : ℕ = first + (a .p .count + l .i) in
     rw (l .inv .1) (mod-lt (a .line * a .p .symbols + l .i) (h .0 .fine .rows-least))
 
 add-i : tie.Need-add-i Inv-loop μ-loop
@@ -134,8 +93,7 @@ loop-again : tie.Need-loop-again Inv-loop μ-loop
 loop-again c =
     let a = c .before .before .before .before .before .before .before .before .args in
     let h = c .before .before .before .before .before .before .before .before .pre in
-    let k = bounds (a .p) (h .0 .fine) in
-    let u = line-in (a .p) (h .0 .fine) (a .line) (h .1) in
+    let r = known (c .before .before .before .before .before .before .before .before) in
     let l = c .before .before .before .before .loop in
     let t : ℕ → Bool = restZero (a .p) (a .b .now) in
     let first : ℕ = a .line * unit (a .p) in
@@ -152,24 +110,12 @@ loop-again c =
     )
 
 add-result-2 : tie.Need-add-result-2 Inv-loop μ-loop
-add-result-2 c =
-    let a = c .before .before .before .before .before .args in
-    let h = c .before .before .before .before .before .pre in
-    let k = bounds (a .p) (h .0 .fine) in
-    let u = line-in (a .p) (h .0 .fine) (a .line) (h .1) in
-    let l = c .before .loop in
-    let t : ℕ → Bool = restZero (a .p) (a .b .now) in
-    let first : ℕ = a .line * unit (a .p) in
-    let end : ℕ = first + unit (a .p) in
-    let s : ℕ = first + (a .p .count + l .i) in
-    omega arith
+add-result-2 c = let r = known (c .before .before .before .before .before) in omega arith
 
 returns-2 : tie.Need-returns-2 Inv-loop μ-loop
 returns-2 c =
     let a = c .before .before .before .before .before .args in
-    let h = c .before .before .before .before .before .pre in
-    let k = bounds (a .p) (h .0 .fine) in
-    let u = line-in (a .p) (h .0 .fine) (a .line) (h .1) in
+    let r = known (c .before .before .before .before .before) in
     let l = c .before .loop in
     let t : ℕ → Bool = restZero (a .p) (a .b .now) in
     let first : ℕ = a .line * unit (a .p) in

@@ -1,52 +1,33 @@
 -- One slot tells of a marker symbol.
 use mathlib.Core.Path.{sym, ap, _∙_}
-use Prim.Native.Nat.{ℕ, _+_, _*_}
+use Prim.Native.Nat.{ℕ, _+_, _*_, _≤_, _<_}
 use native.Mathlib.Omega.{arith}
 use lib.ListN.{getD}
 use borrow.Author.Needs.{needs}
 use Rattle.bits.specs.Choice.{bool}
-use Rattle.slots.specs.Plan.{unit}
-use Rattle.capture.specs.Bounds.{bounds, group-in, group-bound}
+use Rattle.slots.specs.Plan.{unit, symbolCount}
+use Rattle.capture.specs.Bounds.{bounds, Held, held}
 use Rattle.capture.specs.Groups.{tells}
 use Rattle.capture.specs.Lines.{line-in, mark-here}
 use Rattle.capture.proofs.questions.mark_right.Statement.{statement}
 use Rattle.capture.proofs.questions.mark_right.Tie as tie
 
-add-s : tie.Need-add-s
-add-s c =
-    let a = c .before .args in
-    let h = c .before .pre in
-    let k = bounds (a .t1) (h .0 .fine) in
+-- the sizes that the needs rest on
+known : (s : tie.Start) → (s .args .line * unit (s .args .t1) + unit (s .args .t1) ≤ symbolCount (s .args .t1)) × Held (s .args .t1) (s .args .b .now) (s .args .line * unit (s .args .t1) + s .args .w) × (getD (s .args .t1 .marks) (s .args .w) 0 < s .args .t1 .order)
+known s =
+    let a = s .args in
+    let h = s .pre in
     let u = line-in (a .t1) (h .0 .fine) (a .line) (h .1) in
-    let s : ℕ = a .line * unit (a .t1) + a .w in
-    let i = group-in (a .t1) (a .b .now) s (h .0 .long) (omega arith) in
-    let w = group-bound (a .t1) (h .0 .fine) s (omega arith) in
-    let q = h .0 .fine .marks-below (a .w) in
-    omega arith
+    (u, held (a .t1) (h .0 .fine) (a .b .now) (h .0 .long) (a .line * unit (a .t1) + a .w) (let k = bounds (a .t1) (h .0 .fine) in omega arith), h .0 .fine .marks-below (a .w))
+
+add-s : tie.Need-add-s
+add-s c = let r = known (c .before) in omega arith
 
 mul-s : tie.Need-mul-s
-mul-s c =
-    let a = c .before .args in
-    let h = c .before .pre in
-    let k = bounds (a .t1) (h .0 .fine) in
-    let u = line-in (a .t1) (h .0 .fine) (a .line) (h .1) in
-    let s : ℕ = a .line * unit (a .t1) + a .w in
-    let i = group-in (a .t1) (a .b .now) s (h .0 .long) (omega arith) in
-    let w = group-bound (a .t1) (h .0 .fine) s (omega arith) in
-    let q = h .0 .fine .marks-below (a .w) in
-    omega arith
+mul-s c = let r = known (c .before) in omega arith
 
 add-s-2 : tie.Need-add-s-2
-add-s-2 c =
-    let a = c .before .args in
-    let h = c .before .pre in
-    let k = bounds (a .t1) (h .0 .fine) in
-    let u = line-in (a .t1) (h .0 .fine) (a .line) (h .1) in
-    let s : ℕ = a .line * unit (a .t1) + a .w in
-    let i = group-in (a .t1) (a .b .now) s (h .0 .long) (omega arith) in
-    let w = group-bound (a .t1) (h .0 .fine) s (omega arith) in
-    let q = h .0 .fine .marks-below (a .w) in
-    omega arith
+add-s-2 c = let r = known (c .before) in omega arith
 
 element-copy-out-q : tie.Need-element-copy-out-q
 element-copy-out-q c = search needs
@@ -55,51 +36,20 @@ cast-q : tie.Need-cast-q
 cast-q c = search needs
 
 mul-bit-at : tie.Need-mul-bit-at
-mul-bit-at c =
-    let a = c .before .before .args in
-    let h = c .before .before .pre in
-    let k = bounds (a .t1) (h .0 .fine) in
-    let u = line-in (a .t1) (h .0 .fine) (a .line) (h .1) in
-    let s : ℕ = a .line * unit (a .t1) + a .w in
-    let i = group-in (a .t1) (a .b .now) s (h .0 .long) (omega arith) in
-    let w = group-bound (a .t1) (h .0 .fine) s (omega arith) in
-    let q = h .0 .fine .marks-below (a .w) in
-    omega arith
+mul-bit-at c = let r = known (c .before .before) in omega arith
 
 add-bit-at : tie.Need-add-bit-at
-add-bit-at c =
-    let a = c .before .before .args in
-    let h = c .before .before .pre in
-    let k = bounds (a .t1) (h .0 .fine) in
-    let u = line-in (a .t1) (h .0 .fine) (a .line) (h .1) in
-    let s : ℕ = a .line * unit (a .t1) + a .w in
-    let i = group-in (a .t1) (a .b .now) s (h .0 .long) (omega arith) in
-    let w = group-bound (a .t1) (h .0 .fine) s (omega arith) in
-    let q = h .0 .fine .marks-below (a .w) in
-    omega arith
+add-bit-at c = let r = known (c .before .before) in omega arith
 
 bit-at-requires : tie.Need-bit-at-requires
-bit-at-requires c κs =
-    let a = c .before .before .args in
-    let h = c .before .before .pre in
-    let k = bounds (a .t1) (h .0 .fine) in
-    let u = line-in (a .t1) (h .0 .fine) (a .line) (h .1) in
-    let s : ℕ = a .line * unit (a .t1) + a .w in
-    let i = group-in (a .t1) (a .b .now) s (h .0 .long) (omega arith) in
-    let w = group-bound (a .t1) (h .0 .fine) s (omega arith) in
-    let q = h .0 .fine .marks-below (a .w) in
-    omega arith
+bit-at-requires c κs = let r = known (c .before .before) in omega arith
 
 returns : tie.Need-returns
 returns c =
     let a = c .before .before .before .args in
     let h = c .before .before .before .pre in
-    let k = bounds (a .t1) (h .0 .fine) in
-    let u = line-in (a .t1) (h .0 .fine) (a .line) (h .1) in
+    let r = known (c .before .before .before) in
     let s : ℕ = a .line * unit (a .t1) + a .w in
-    let i = group-in (a .t1) (a .b .now) s (h .0 .long) (omega arith) in
-    let w = group-bound (a .t1) (h .0 .fine) s (omega arith) in
-    let q = h .0 .fine .marks-below (a .w) in
     let v : ℕ = getD (a .t1 .marks) (a .w) 0 in
     c .bit-at .ensures
     ∙ tells (a .t1) (h .0 .fine) (a .b .now) (h .0 .passed) s v (omega arith) (omega arith)

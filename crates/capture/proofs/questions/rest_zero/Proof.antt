@@ -1,147 +1,68 @@
 -- One slot tells of a symbol that should be 0.
 use mathlib.Core.Path.{_≡_, sym, ap, _∙_}
-use Prim.Native.Nat.{ℕ, _+_, _*_}
+use Prim.Native.Nat.{ℕ, _+_, _*_, _≤_}
 use native.Mathlib.Omega.{arith}
 use Rattle.bits.specs.Choice.{bool}
 use Rattle.bits.specs.Pack.{bitAt}
-use Rattle.slots.specs.Plan.{unit}
-use Rattle.capture.specs.Bounds.{bounds, group-in, group-bound}
+use Rattle.slots.specs.Plan.{unit, symbolCount}
+use Rattle.capture.specs.Bounds.{Held, held}
 use Rattle.capture.specs.Groups.{tells}
 use Rattle.capture.specs.Lines.{line-in, rest-hit, rest-unhit}
 use Rattle.capture.proofs.questions.rest_zero.Statement.{statement}
 use Rattle.capture.proofs.questions.rest_zero.Tie as tie
 
-mul-hit-by : tie.Need-mul-hit-by
-mul-hit-by c =
-    let a = c .before .args in
-    let h = c .before .pre in
-    let k = bounds (a .p) (h .0 .fine) in
+-- the sizes that the needs rest on
+known : (s : tie.Start) → (s .args .line * unit (s .args .p) + unit (s .args .p) ≤ symbolCount (s .args .p)) × Held (s .args .p) (s .args .b .now) (s .args .line * unit (s .args .p) + (s .args .p .count + s .args .i))
+known s =
+    let a = s .args in
+    let h = s .pre in
     let u = line-in (a .p) (h .0 .fine) (a .line) (h .1) in
-    let s : ℕ = a .line * unit (a .p) + (a .p .count + a .i) in
-    let i = group-in (a .p) (a .b .now) s (h .0 .long) (omega arith) in
-    let w = group-bound (a .p) (h .0 .fine) s (omega arith) in
-    omega arith
+    (u, held (a .p) (h .0 .fine) (a .b .now) (h .0 .long) (a .line * unit (a .p) + (a .p .count + a .i)) (omega arith))
+
+mul-hit-by : tie.Need-mul-hit-by
+mul-hit-by c = let r = known (c .before) in omega arith
 
 add-hit-by : tie.Need-add-hit-by
-add-hit-by c =
-    let a = c .before .args in
-    let h = c .before .pre in
-    let k = bounds (a .p) (h .0 .fine) in
-    let u = line-in (a .p) (h .0 .fine) (a .line) (h .1) in
-    let s : ℕ = a .line * unit (a .p) + (a .p .count + a .i) in
-    let i = group-in (a .p) (a .b .now) s (h .0 .long) (omega arith) in
-    let w = group-bound (a .p) (h .0 .fine) s (omega arith) in
-    omega arith
+add-hit-by c = let r = known (c .before) in omega arith
 
 hit-by-requires : tie.Need-hit-by-requires
-hit-by-requires c κs =
-    let a = c .before .args in
-    let h = c .before .pre in
-    let k = bounds (a .p) (h .0 .fine) in
-    let u = line-in (a .p) (h .0 .fine) (a .line) (h .1) in
-    let s : ℕ = a .line * unit (a .p) + (a .p .count + a .i) in
-    let i = group-in (a .p) (a .b .now) s (h .0 .long) (omega arith) in
-    let w = group-bound (a .p) (h .0 .fine) s (omega arith) in
-    (h .0 .fine, h .3)
+hit-by-requires c κs = let h = c .before .pre in (h .0 .fine, h .3)
 
 mul-if1 : tie.Need-mul-if1
-mul-if1 c =
-    let a = c .before .before .before .args in
-    let h = c .before .before .before .pre in
-    let k = bounds (a .p) (h .0 .fine) in
-    let u = line-in (a .p) (h .0 .fine) (a .line) (h .1) in
-    let s : ℕ = a .line * unit (a .p) + (a .p .count + a .i) in
-    let i = group-in (a .p) (a .b .now) s (h .0 .long) (omega arith) in
-    let w = group-bound (a .p) (h .0 .fine) s (omega arith) in
-    omega arith
+mul-if1 c = let r = known (c .before .before .before) in omega arith
 
 returns : tie.Need-returns
 returns c =
     let a = c .before .before .before .before .args in
     let h = c .before .before .before .before .pre in
-    let k = bounds (a .p) (h .0 .fine) in
-    let u = line-in (a .p) (h .0 .fine) (a .line) (h .1) in
-    let s : ℕ = a .line * unit (a .p) + (a .p .count + a .i) in
-    let i = group-in (a .p) (a .b .now) s (h .0 .long) (omega arith) in
-    let w = group-bound (a .p) (h .0 .fine) s (omega arith) in
+    let r = known (c .before .before .before .before) in
     let e = c .before .before .hit-by .ensures in
     ap bool (sym (rest-hit (a .p) (h .0 .fine) (a .line) (a .b .now) (a .i) (h .2) (omega arith)))
 
 add-s : tie.Need-add-s
-add-s c =
-    let a = c .before .before .before .before .before .args in
-    let h = c .before .before .before .before .before .pre in
-    let k = bounds (a .p) (h .0 .fine) in
-    let u = line-in (a .p) (h .0 .fine) (a .line) (h .1) in
-    let s : ℕ = a .line * unit (a .p) + (a .p .count + a .i) in
-    let i = group-in (a .p) (a .b .now) s (h .0 .long) (omega arith) in
-    let w = group-bound (a .p) (h .0 .fine) s (omega arith) in
-    omega arith
+add-s c = let r = known (c .before .before .before .before .before) in omega arith
 
 mul-s : tie.Need-mul-s
-mul-s c =
-    let a = c .before .before .before .before .before .args in
-    let h = c .before .before .before .before .before .pre in
-    let k = bounds (a .p) (h .0 .fine) in
-    let u = line-in (a .p) (h .0 .fine) (a .line) (h .1) in
-    let s : ℕ = a .line * unit (a .p) + (a .p .count + a .i) in
-    let i = group-in (a .p) (a .b .now) s (h .0 .long) (omega arith) in
-    let w = group-bound (a .p) (h .0 .fine) s (omega arith) in
-    omega arith
+mul-s c = let r = known (c .before .before .before .before .before) in omega arith
 
 add-s-2 : tie.Need-add-s-2
-add-s-2 c =
-    let a = c .before .before .before .before .before .before .args in
-    let h = c .before .before .before .before .before .before .pre in
-    let k = bounds (a .p) (h .0 .fine) in
-    let u = line-in (a .p) (h .0 .fine) (a .line) (h .1) in
-    let s : ℕ = a .line * unit (a .p) + (a .p .count + a .i) in
-    let i = group-in (a .p) (a .b .now) s (h .0 .long) (omega arith) in
-    let w = group-bound (a .p) (h .0 .fine) s (omega arith) in
-    omega arith
+add-s-2 c = let r = known (c .before .before .before .before .before .before) in omega arith
 
 add-s-3 : tie.Need-add-s-3
-add-s-3 c =
-    let a = c .before .before .before .before .before .before .args in
-    let h = c .before .before .before .before .before .before .pre in
-    let k = bounds (a .p) (h .0 .fine) in
-    let u = line-in (a .p) (h .0 .fine) (a .line) (h .1) in
-    let s : ℕ = a .line * unit (a .p) + (a .p .count + a .i) in
-    let i = group-in (a .p) (a .b .now) s (h .0 .long) (omega arith) in
-    let w = group-bound (a .p) (h .0 .fine) s (omega arith) in
-    omega arith
+add-s-3 c = let r = known (c .before .before .before .before .before .before) in omega arith
 
 mul-bit-at : tie.Need-mul-bit-at
-mul-bit-at c =
-    let a = c .before .before .before .before .before .before .before .args in
-    let h = c .before .before .before .before .before .before .before .pre in
-    let k = bounds (a .p) (h .0 .fine) in
-    let u = line-in (a .p) (h .0 .fine) (a .line) (h .1) in
-    let s : ℕ = a .line * unit (a .p) + (a .p .count + a .i) in
-    let i = group-in (a .p) (a .b .now) s (h .0 .long) (omega arith) in
-    let w = group-bound (a .p) (h .0 .fine) s (omega arith) in
-    omega arith
+mul-bit-at c = let r = known (c .before .before .before .before .before .before .before) in omega arith
 
 bit-at-requires : tie.Need-bit-at-requires
-bit-at-requires c κs =
-    let a = c .before .before .before .before .before .before .before .args in
-    let h = c .before .before .before .before .before .before .before .pre in
-    let k = bounds (a .p) (h .0 .fine) in
-    let u = line-in (a .p) (h .0 .fine) (a .line) (h .1) in
-    let s : ℕ = a .line * unit (a .p) + (a .p .count + a .i) in
-    let i = group-in (a .p) (a .b .now) s (h .0 .long) (omega arith) in
-    let w = group-bound (a .p) (h .0 .fine) s (omega arith) in
-    omega arith
+bit-at-requires c κs = let r = known (c .before .before .before .before .before .before .before) in omega arith
 
 returns-2 : tie.Need-returns-2
 returns-2 c =
     let a = c .before .before .before .before .before .before .before .before .args in
     let h = c .before .before .before .before .before .before .before .before .pre in
-    let k = bounds (a .p) (h .0 .fine) in
-    let u = line-in (a .p) (h .0 .fine) (a .line) (h .1) in
+    let r = known (c .before .before .before .before .before .before .before .before) in
     let s : ℕ = a .line * unit (a .p) + (a .p .count + a .i) in
-    let i = group-in (a .p) (a .b .now) s (h .0 .long) (omega arith) in
-    let w = group-bound (a .p) (h .0 .fine) s (omega arith) in
     let e : s * a .p .group ≡ s * a .p .group + 0 = omega arith in
     c .bit-at .ensures ∙ ap (bitAt (a .b .now)) e
     ∙ tells (a .p) (h .0 .fine) (a .b .now) (h .0 .passed) s 0 (omega arith) (omega arith)
