@@ -3,14 +3,14 @@ use mathlib.Core.Path.{_≡_, refl, sym, ap, _∙_}
 use mathlib.Core.Bool.{Bool, true}
 use mathlib.Core.List.{List}
 use mathlib.Core.Logic.{⊎-elim}
-use Prim.Native.Nat.{ℕ, _+_, _-_, _*_, _/_, _%_, _≤_, _<_}
+use Prim.Native.Nat.{ℕ, _+_, _-_, _*_, _%_, _≤_, _<_}
 use native.Mathlib.Omega.{arith}
-use native.Mathlib.Nat.{le-refl, mul-le-mul, mod-lt, div-add-mod'}
+use native.Mathlib.Nat.{le-refl, mul-le-mul}
 use lib.Arith.{digits-div, digits-mod}
 use lib.Dec.{ltb, eqb}
 use lib.ListN.{getD}
-use borrow.Author.Tests.{lt-ltb, le-ltb, eq-eqb, ne-eqb}
-use Rattle.bits.specs.Choice.{pick, lt-or-le, eq-or-ne}
+use borrow.Author.Tests.{lt-ltb, le-ltb}
+use Rattle.bits.specs.Choice.{pick, lt-or-le}
 use Rattle.bits.specs.First.{upTo, first-skip}
 use Rattle.slots.specs.declared.Plan.{Plan}
 use Rattle.slots.specs.Plan.{Fine, unit, total, symbolCount}
@@ -34,26 +34,6 @@ part-passes t x mid next end a c d l h =
     (λ (s : k < mid). f .before k g (omega arith))
     (λ (s : mid ≤ k). h k s (omega arith))
     (lt-or-le k mid))
-
--- one more, modulo n
-unfoldable pub turned : ℕ → ℕ → ℕ
-turned n c = pick (eqb (c + 1) n) 0 (c + 1)
-
-pub turned-mod : (n x : ℕ) → 1 ≤ n → turned n (x % n) ≡ (x + 1) % n
-unfolding turned
-turned-mod n x h =
-    let d : x / n * n + x % n ≡ x = div-add-mod' x n in
-    let r : x % n < n = mod-lt x h in
-    ⊎-elim
-    (λ (e : x % n + 1 ≡ n).
-    let z : 0 < n = omega arith in
-    let y : (x / n + 1) * n + 0 ≡ x + 1 = omega arith in
-    rw (eq-eqb (x % n + 1) n e) (sym (ap (λ (i : ℕ). i % n) (sym y) ∙ digits-mod (x / n + 1) z)))
-    (λ (e : x % n + 1 ≡ n → ⊥).
-    let z : x % n + 1 < n = ⊎-elim (λ (l : x % n + 1 < n). l) (λ (l : n ≤ x % n + 1). absurd (e (omega arith))) (lt-or-le (x % n + 1) n) in
-    let y : x / n * n + (x % n + 1) ≡ x + 1 = omega arith in
-    rw (ne-eqb (x % n + 1) n e) (sym (ap (λ (i : ℕ). i % n) (sym y) ∙ digits-mod (x / n) z)))
-    (eq-or-ne (x % n + 1) n)
 
 module _ (p : Plan) (fine : Fine p) (line : ℕ) where
   pub line-in : line < p .lines → line * unit p + unit p ≤ symbolCount p

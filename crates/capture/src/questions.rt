@@ -3,11 +3,9 @@ ghost use mathlib.Core.Path.{_≡_};
 ghost use Prim.Native.Nat.{_+_, _*_, _%_, _<_};
 ghost use Rattle.bits.specs.Choice.{bool};
 ghost use Rattle.bits.specs.First.{upTo};
-ghost use Rattle.slots.specs.Plan.{Fine, unit};
-ghost use Rattle.slots.specs.Slots.{hitBy};
+ghost use Rattle.slots.specs.Plan.{unit};
 ghost use Rattle.capture.specs.Asks.{Grouped};
 ghost use Rattle.capture.specs.Capture.{markRight, firstBadMark, restZero, firstBadRest};
-ghost use Rattle.capture.specs.Lines.{turned};
 
 // Marker symbol w of a row. Each group has one pulse, so that the slot of the right symbol tells.
 fn mark_right(p: slots::Plan, b: &[u8], line: usize, w: usize) -> u8
@@ -55,41 +53,17 @@ pub fn first_bad_mark(p: slots::Plan, b: &[u8]) -> usize
     line * unit
 }
 
-// The symbol that goes to place x, which is c modulo N; C·S where none does.
-fn hit_by(p: slots::Plan, x: usize, c: usize) -> usize
-    requires { ⌜ Fine p × (c ≡ x % p .rows) ⌝ }
-    ensures { λ r. ⌜ r ≡ hitBy p x ⌝ }
-{
-    let total = p.words * p.symbols;
-    let back = c * (p.step * p.rows);
-    if x < back {
-        return total;
-    }
-    if x - back < total {
-        return x - back;
-    }
-    total
-}
-
 // Place i of a row, which is c modulo N, of all places.
 fn rest_zero(p: slots::Plan, b: &[u8], line: usize, i: usize, c: usize) -> u8
     requires { ⌜ Grouped p (now b) × (line < p .lines) × (i < p .symbols) × (c ≡ (line * p .symbols + i) % p .rows) ⌝ }
     ensures { λ r. ⌜ r ≡ bool (restZero p (now (b .entry)) (line * unit p + (p .count + i))) ⌝ }
 {
     let symbols = p.symbols;
-    if hit_by(p, line * symbols + i, c) < p.words * symbols {
+    if slots::hit_by(p, line * symbols + i, c) < p.words * symbols {
         return 1;
     }
     let s = line * (symbols + p.count) + (p.count + i);
     bits::packing::bit_at(b, s * p.group)
-}
-
-// One more, modulo N.
-fn turn(rows: usize, c: usize) -> usize
-    requires { ⌜ c < rows ⌝ }
-    ensures { λ r. ⌜ r ≡ turned rows c ⌝ }
-{
-    if c + 1 == rows { 0 } else { c + 1 }
 }
 
 // The first place of a row that is not hit and not 0, as a symbol, or the symbol behind the row.
@@ -106,7 +80,7 @@ fn bad_rest_in(p: slots::Plan, b: &[u8], line: usize) -> usize
         if rest_zero(p, b, line, i, c) == 0 {
             return first + i;
         }
-        c = turn(rows, c);
+        c = slots::next(c, rows);
         i += 1;
     }
     first + i

@@ -4,8 +4,8 @@ ghost use Prim.Native.Nat.{ℕ, _+_, _*_, _%_, _^_, _≤_, _<_};
 ghost use mathlib.Core.List.{List};
 ghost use lib.ListN.{length};
 ghost use Rattle.bits.specs.Pack.{val, bitAt};
-ghost use Rattle.slots.specs.Plan.{Fine, unit, total, symbolCount, slotBytes};
-ghost use Rattle.slots.specs.Slots.{dataAt, hitBy, placed, symbolAt, slotsOf, wordIn};
+ghost use Rattle.slots.specs.Plan.{Fine, unit, total, slotBytes};
+ghost use Rattle.slots.specs.Slots.{dataAt, hitBy, placed, slotsOf, wordIn};
 ghost use Rattle.slots.specs.Pulse.{putBit, Cleared};
 ghost use Rattle.slots.specs.Laws.{Given, Lent};
 ghost use Rattle.slots.specs.Writing.{Done, rowEnd};
@@ -54,7 +54,7 @@ pub fn put_pulse(slots: &mut [u8], x: usize)
 }
 
 // The symbol that goes to place x, which is r modulo N; C·S where none does.
-fn hit_from(p: Plan, x: usize, r: usize) -> usize
+pub fn hit_by(p: Plan, x: usize, r: usize) -> usize
     requires { ⌜ Fine p × (r ≡ x % p .rows) ⌝ }
     ensures { λ t. ⌜ t ≡ hitBy p x ⌝ }
 {
@@ -71,15 +71,6 @@ fn hit_from(p: Plan, x: usize, r: usize) -> usize
     all
 }
 
-// The symbol that goes to place x; C·S where none does.
-pub fn hit_by(p: Plan, x: usize) -> usize
-    requires { ⌜ Fine p ⌝ }
-    ensures { λ r. ⌜ r ≡ hitBy p x ⌝ }
-{
-    let rows = p.rows;
-    hit_from(p, x, x % rows)
-}
-
 // The number that n bits make, from bit `at` on: they lie in one byte or in two.
 fn field(packed: &[u8], at: usize, n: usize) -> usize
     requires { ⌜ (at + n ≤ 8 * length (now packed)) × (at < 2 ^ 32) × (1 ≤ n) × (n ≤ 8) ⌝ }
@@ -91,7 +82,7 @@ fn field(packed: &[u8], at: usize, n: usize) -> usize
 }
 
 // Step 8: symbol t of all words.
-pub fn data_at(p: Plan, words: &[u8], t: usize) -> usize
+fn data_at(p: Plan, words: &[u8], t: usize) -> usize
     requires { ⌜ Given p (now words) × (t < total p) ⌝ }
     ensures { λ r. ⌜ r ≡ dataAt p (wordIn (now (words .entry))) t ⌝ }
 {
@@ -104,7 +95,7 @@ fn placed_at(p: Plan, words: &[u8], x: usize, r: usize) -> usize
     requires { ⌜ Given p (now words) × (r ≡ x % p .rows) ⌝ }
     ensures { λ q. ⌜ q ≡ placed p (wordIn (now (words .entry))) x ⌝ }
 {
-    let t = hit_from(p, x, r);
+    let t = hit_by(p, x, r);
     let all = p.words * p.symbols;
     if t < all {
         return data_at(p, words, t);
@@ -112,25 +103,8 @@ fn placed_at(p: Plan, words: &[u8], x: usize, r: usize) -> usize
     0
 }
 
-// Step 10: symbol s, markers counted.
-pub fn symbol_at(p: Plan, words: &[u8], s: usize) -> usize
-    requires { ⌜ Given p (now words) × (s < symbolCount p) ⌝ }
-    ensures { λ r. ⌜ r ≡ symbolAt p (wordIn (now (words .entry))) s ⌝ }
-{
-    let symbols = p.symbols;
-    let count = p.count;
-    let rows = p.rows;
-    let row = s / (symbols + count);
-    let i = s % (symbols + count);
-    if i < count {
-        return p.marks[i] as usize;
-    }
-    let x = row * symbols + (i - count);
-    placed_at(p, words, x, x % rows)
-}
-
 // The remainder modulo N one place further on.
-fn next(r: usize, rows: usize) -> usize
+pub fn next(r: usize, rows: usize) -> usize
     requires { ⌜ (r < rows) × (rows ≤ 128) ⌝ }
     ensures { λ n. ⌜ n ≡ (r + 1) % rows ⌝ }
 {

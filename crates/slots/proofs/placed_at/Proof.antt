@@ -6,8 +6,8 @@ use Rattle.slots.specs.Laws.{placed-hit, placed-rest}
 use Rattle.slots.proofs.placed_at.Statement.{statement}
 use Rattle.slots.proofs.placed_at.Tie as tie
 
-hit-from-requires : tie.Need-hit-from-requires
-hit-from-requires c κs = (c .before .pre .0 .fine, c .before .pre .1)
+hit-by-requires : tie.Need-hit-by-requires
+hit-by-requires c κs = (c .before .pre .0 .fine, c .before .pre .1)
 
 mul-all : tie.Need-mul-all
 mul-all c = search needs
@@ -18,7 +18,7 @@ data-at-requires c κs = search needs
 returns : tie.Need-returns
 returns c =
     let a = c .before .before .before .before .before .args in
-    let t = c .before .before .before .hit-from in
+    let t = c .before .before .before .hit-by in
     c .data-at .ensures
     ∙ ap (dataAt (a .p) (wordIn (a .words .now))) (t .ensures)
     ∙ sym (placed-hit (a .p) (wordIn (a .words .now)) (a .x) (rw (t .ensures) at (c .before .if1 .taken)))
@@ -26,8 +26,8 @@ returns c =
 returns-2 : tie.Need-returns-2
 returns-2 c =
     let a = c .before .before .before .before .args in
-    let t = c .before .before .hit-from in
+    let t = c .before .before .hit-by in
     sym (placed-rest (a .p) (wordIn (a .words .now)) (a .x) (rw (t .ensures) at (c .if1 .left)))
 
 pub placed-at-spec : {M : Type 1} → statement M
-placed-at-spec = tie.close (tie.spec hit-from-requires mul-all data-at-requires returns returns-2)
+placed-at-spec = tie.close (tie.spec hit-by-requires mul-all data-at-requires returns returns-2)

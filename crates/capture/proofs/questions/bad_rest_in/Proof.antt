@@ -7,9 +7,10 @@ use native.Mathlib.Nat.{mod-lt}
 use borrow.Author.Needs.{needs}
 use Rattle.bits.specs.First.{upTo, first-on, first-here, first-end, first-skip}
 use Rattle.slots.specs.Plan.{unit, symbolCount}
+use Rattle.slots.specs.Writing.{remainder-on}
 use Rattle.capture.specs.Bounds.{bounds, Bounds}
 use Rattle.capture.specs.Capture.{restZero}
-use Rattle.capture.specs.Lines.{turned, turned-mod, line-in, rest-else}
+use Rattle.capture.specs.Lines.{line-in, rest-else}
 use Rattle.capture.specs.Scan.{bool-no, bool-yes}
 use Rattle.capture.proofs.questions.bad_rest_in.Statement.{statement}
 use Rattle.capture.proofs.questions.bad_rest_in.Tie as tie
@@ -76,12 +77,12 @@ returns c =
     let e : first + a .p .count + l .i ≡ s = omega arith in
     e ∙ sym (first-here t end s (omega arith) (bool-no (t s) (sym (c .before .rest-zero .ensures) ∙ c .if1 .taken))) ∙ l .inv .2
 
-turn-requires : tie.Need-turn-requires Inv-loop μ-loop
-turn-requires c κs =
+next-requires : tie.Need-next-requires Inv-loop μ-loop
+next-requires c κs =
     let a = c .before .before .before .before .before .before .before .args in
     let h = c .before .before .before .before .before .before .before .pre in
     let l = c .before .before .before .loop in
-    rw (l .inv .1) (mod-lt (a .line * a .p .symbols + l .i) (h .0 .fine .rows-least))
+    (rw (l .inv .1) (mod-lt (a .line * a .p .symbols + l .i) (h .0 .fine .rows-least)), h .0 .fine .rows-most)
 
 add-i : tie.Need-add-i Inv-loop μ-loop
 add-i c = search needs
@@ -103,7 +104,7 @@ loop-again c =
     let x : ℕ = a .line * a .p .symbols + l .i in
     let f : x + 1 ≡ a .line * a .p .symbols + (l .i + 1) = omega arith in (
       search needs,
-      c .turn .ensures ∙ ap (turned (a .p .rows)) (l .inv .1) ∙ turned-mod (a .p .rows) x (h .0 .fine .rows-least) ∙ ap (λ (y : ℕ). y % a .p .rows) f,
+      remainder-on x (a .p .rows) (l .c) (c .next .result) (l .inv .1) (c .next .ensures) ∙ ap (λ (y : ℕ). y % a .p .rows) f,
       ap (λ (y : ℕ). upTo t y end) e
           ∙ first-on t end s (omega arith) (bool-yes (t s) (λ z. c .before .if1 .left (c .before .before .rest-zero .ensures ∙ z)))
           ∙ l .inv .2,
@@ -139,7 +140,7 @@ bad-rest-in-spec =
     rest-zero-requires
     add-result
     returns
-    turn-requires
+    next-requires
     add-i
     loop-less
     loop-again

@@ -6,8 +6,8 @@ use borrow.Author.Needs.{needs}
 use borrow.Author.Tests.{lt-ltb, le-ltb}
 use Rattle.slots.specs.Channel.{source, hit-is}
 use Rattle.slots.specs.Laws.{spread-most, delay-most}
-use Rattle.slots.proofs.hit_from.Statement.{statement}
-use Rattle.slots.proofs.hit_from.Tie as tie
+use Rattle.slots.proofs.hit_by.Statement.{statement}
+use Rattle.slots.proofs.hit_by.Tie as tie
 
 mul-all : tie.Need-mul-all
 mul-all c = search needs
@@ -39,5 +39,5 @@ returns-3 c =
     let s = c .before .before .before in
     sym (hit-is (s .args .p) (s .args .x) ∙ rw (← s .pre .1, le-ltb _ _ (c .before .if1 .left), le-ltb _ _ (c .if2 .left)) refl)
 
-pub hit-from-spec : {M : Type 1} → statement M
-hit-from-spec = tie.close (tie.spec mul-all mul-delay mul-delay-2 returns returns-2 returns-3)
+pub hit-by-spec : {M : Type 1} → statement M
+hit-by-spec = tie.close (tie.spec mul-all mul-delay mul-delay-2 returns returns-2 returns-3)
