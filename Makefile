@@ -61,6 +61,8 @@ help:
 	@echo 'make soak       the four calls against the second implementation, on all cores for'
 	@echo '                SECONDS=n, with a fresh seed or SEED=n'
 	@echo 'make fuzz       the four calls under libFuzzer and the sanitizers, likewise'
+	@echo 'make mutants    COUNT=n small changes of the code of each crate, which the prover has to'
+	@echo '                refuse; CRATES=name for one crate'
 
 test:
 	@tests/run
@@ -192,7 +194,15 @@ soak: $(HOST)/soak
 fuzz: $(HOST)/fuzz_drive
 	@tests/fuzz/run $(SECONDS) $< $(LIBS)
 
-# A moment of each, within the tests, so that both stay fit to be run.
+# The crates of the product that have code.
+CRATES ?= bits rates crc convolution interleaver accumulator randomizer word header frames slots \
+    capture run sheet runsheet
+COUNT ?= 60
+.PHONY: mutants
+mutants:
+	@for crate in $(CRATES); do tests/mutate $$crate $(COUNT) $(SEED) || exit; done
+
+# A moment of soak and fuzz, within the tests, so that both stay fit to be run.
 host-test: evidence-test
 evidence-test: $(HOST)/soak $(HOST)/fuzz_drive
 	@SEED=$(SEED) $(HOST)/soak 2
