@@ -1,5 +1,6 @@
 pub mod Answer
 pub mod Run
+pub mod Steps
 pub mod Accepted
 pub mod Theorems
 pub mod Parts
