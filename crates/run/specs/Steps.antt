@@ -1,5 +1,5 @@
 -- The run's steps and questions under one roof, in document 01's order. Each is the definition of the crate that has it, for a header and its marker symbols; the two laws say that a run and the reader's answer are made of these and nothing else.
-use mathlib.Core.Path.{_≡_, refl, ap, ap₂, _∙_}
+use mathlib.Core.Path.{_≡_, refl, ap, _∙_}
 use mathlib.Core.Bool.{Bool, true, false}
 use mathlib.Core.List.{List}
 use Prim.Native.Nat.{ℕ, _*_}
@@ -13,7 +13,6 @@ use Rattle.header.specs.Quantities as quantities
 use Rattle.header.specs.declared.Fields.{Fields}
 use Rattle.frames.specs.Stream.{streamBit, blockAt, firstUnmarked, fillZero}
 use Rattle.frames.specs.Answer.{framesSay}
-use Rattle.frames.specs.declared.FramesAnswer.{FramesAnswer}
 use Rattle.frames.specs.declared.FramesAnswer.the-variants as F
 use Rattle.slots.specs.declared.Plan.{Plan}
 use Rattle.slots.specs.Plan.{symbolCount, slotBytes}
