@@ -46,65 +46,71 @@ first-skip p (suc d) n i h q =
     ∙ first-skip p d n (i + 1) (omega arith) (λ k a b. q k (omega arith) (omega arith))
     ∙ first-on p n i l (q i (omega arith) (omega arith))
 
-first-all : (p : ℕ → Bool) (n i : ℕ) → ((k : ℕ) → i ≤ k → k < i + n → p k ≡ true) → firstFrom p n i ≡ i + n
-unfolding firstFrom
-first-all p zero i h = omega arith
-first-all p (suc n) i h =
-    rw (h i (omega arith) (omega arith)) (first-all p n (suc i) (λ k a b. h k (omega arith) (omega arith)) ∙ omega arith)
+-- ---- from x on
 
-first-le : (p : ℕ → Bool) (n i : ℕ) → (i ≤ firstFrom p n i) × (firstFrom p n i ≤ i + n)
-unfolding firstFrom
-first-le p zero i = omega arith
-first-le p (suc n) i = cases (p i) (first-le p n (suc i))
-  where
-    cases : (b : Bool) → (suc i ≤ firstFrom p n (suc i)) × (firstFrom p n (suc i) ≤ suc i + n) → (i ≤ pick b (firstFrom p n (suc i)) i) × (pick b (firstFrom p n (suc i)) i ≤ i + suc n)
-    cases true r = omega arith
-    cases false r = omega arith
+-- r is the first from x on that fails, or the end
+pub record Found (p : ℕ → Bool) (x end r : ℕ) : Type 0 where
+  pub least : x ≤ r
+  pub most : r ≤ end
+  pub before : (k : ℕ) → x ≤ k → k < r → p k ≡ true
+  pub fails : r < end → p r ≡ false
 
-first-none : (p : ℕ → Bool) (n i : ℕ) → firstFrom p n i ≡ i + n → (k : ℕ) → i ≤ k → k < i + n → p k ≡ true
+found-from : (p : ℕ → Bool) (n i : ℕ) → Found p i (i + n) (firstFrom p n i)
 unfolding firstFrom
-first-none p zero i e k l g = absurd (omega arith)
-first-none p (suc n) i e k l g = cases (p i) (λ f s. first-none p n (suc i) f k s) refl e
+found-from p zero i =
+    record { least = omega arith; most = omega arith; before = λ k a b. absurd (omega arith); fails = λ h. absurd (omega arith) }
+found-from p (suc n) i = cases (p i) refl (found-from p n (suc i))
   where
-    cases : (b : Bool) → (firstFrom p n (suc i) ≡ suc i + n → suc i ≤ k → k < suc i + n → p k ≡ true) → p i ≡ b → pick b (firstFrom p n (suc i)) i ≡ i + suc n → p k ≡ true
-    cases true r q f =
-        ⊎-elim (λ (s : i ≡ k). ap p (sym s) ∙ q) (λ (s : i < k). r (f ∙ omega arith) s (omega arith)) (eq-or-lt-of-le l)
-    cases false r q f = absurd (omega arith)
+    cases : (t : Bool) → p i ≡ t → Found p (suc i) (suc i + n) (firstFrom p n (suc i)) → Found p i (i + suc n) (pick t (firstFrom p n (suc i)) i)
+    cases true e f =
+        record {
+          least = let a = f .least in omega arith;
+          most = let a = f .most in omega arith;
+          before = λ k a b. ⊎-elim (λ (s : i ≡ k). ap p (sym s) ∙ e) (λ (s : i < k). f .before k s b) (eq-or-lt-of-le a);
+          fails = λ h. f .fails (omega arith);
+        }
+    cases false e f =
+        record { least = omega arith; most = omega arith; before = λ k a b. absurd (omega arith); fails = λ h. e }
 
-first-fails : (p : ℕ → Bool) (n i : ℕ) → firstFrom p n i < i + n → p (firstFrom p n i) ≡ false
-unfolding firstFrom
-first-fails p zero i h = absurd (omega arith)
-first-fails p (suc n) i h = cases (p i) (first-fails p n (suc i)) refl h
-  where
-    cases : (b : Bool) → (firstFrom p n (suc i) < suc i + n → p (firstFrom p n (suc i)) ≡ false) → p i ≡ b → pick b (firstFrom p n (suc i)) i < i + suc n → p (pick b (firstFrom p n (suc i)) i) ≡ false
-    cases true r q f = r (omega arith)
-    cases false r q f = q
+pub found : (p : ℕ → Bool) (x end : ℕ) → x ≤ end → Found p x end (upTo p x end)
+found p x end h = let e : x + (end - x) ≡ end = omega arith in rw e at (found-from p (end - x) x)
 
-first-below : (p : ℕ → Bool) (n i k : ℕ) → i ≤ k → k < firstFrom p n i → p k ≡ true
-unfolding firstFrom
-first-below p zero i k a b = absurd (omega arith)
-first-below p (suc n) i k a b = cases (p i) (λ s t. first-below p n (suc i) k s t) refl b
-  where
-    cases : (b : Bool) → (suc i ≤ k → k < firstFrom p n (suc i) → p k ≡ true) → p i ≡ b → k < pick b (firstFrom p n (suc i)) i → p k ≡ true
-    cases true r q f = ⊎-elim (λ (s : i ≡ k). ap p (sym s) ∙ q) (λ (s : i < k). r s f) (eq-or-lt-of-le a)
-    cases false r q f = absurd (omega arith)
+-- it is the number that fails with all before it passing
+pub found-at : (p : ℕ → Bool) (x end k : ℕ) → x ≤ k → k < end → ((i : ℕ) → x ≤ i → i < k → p i ≡ true) → p k ≡ false → upTo p x end ≡ k
+found-at p x end k a l h e =
+    let s : x + (k - x) ≡ k = omega arith in
+    sym (first-skip p (k - x) end x (omega arith) (λ i c d. h i c (omega arith)))
+    ∙ ap (λ (i : ℕ). upTo p i end) s
+    ∙ first-here p end k l e
+
+-- none fails
+pub found-none : (p : ℕ → Bool) (x end : ℕ) → x ≤ end → ((i : ℕ) → x ≤ i → i < end → p i ≡ true) → upTo p x end ≡ end
+found-none p x end a h =
+    let s : x + (end - x) ≡ end = omega arith in
+    let l : end ≤ end = omega arith in
+    sym (first-skip p (end - x) end x (omega arith) (λ i c d. h i c (omega arith)))
+    ∙ ap (λ (i : ℕ). upTo p i end) s
+    ∙ first-end p end end l l
+
+pub none-found : (p : ℕ → Bool) (x end : ℕ) → x ≤ end → upTo p x end ≡ end → (k : ℕ) → x ≤ k → k < end → p k ≡ true
+none-found p x end a e k b c = found p x end a .before k b (omega arith)
 
 -- of the numbers below n
 pub up-to-le : (p : ℕ → Bool) (n : ℕ) → upTo p 0 n ≤ n
-up-to-le p n = let b = first-le p (n - 0) 0 in omega arith
+up-to-le p n = found p 0 n (omega arith) .most
 
 pub all-pass : (p : ℕ → Bool) (n : ℕ) → ((k : ℕ) → k < n → p k ≡ true) → upTo p 0 n ≡ n
-all-pass p n h = first-all p (n - 0) 0 (λ k a b. h k (omega arith)) ∙ omega arith
+all-pass p n h = found-none p 0 n (omega arith) (λ k a b. h k b)
 
 pub none-fails : (p : ℕ → Bool) (n : ℕ) → upTo p 0 n ≡ n → (k : ℕ) → k < n → p k ≡ true
-none-fails p n e k b = first-none p (n - 0) 0 (e ∙ omega arith) k (omega arith) (omega arith)
+none-fails p n e k b = none-found p 0 n (omega arith) e k (omega arith) b
 
 -- it fails, and all before it pass
 pub one-fails : (p : ℕ → Bool) (n : ℕ) → upTo p 0 n < n → p (upTo p 0 n) ≡ false
-one-fails p n h = first-fails p (n - 0) 0 (omega arith)
+one-fails p n h = found p 0 n (omega arith) .fails h
 
 pub passes-before : (p : ℕ → Bool) (n k : ℕ) → k < upTo p 0 n → p k ≡ true
-passes-before p n k b = first-below p (n - 0) 0 k (omega arith) b
+passes-before p n k b = found p 0 n (omega arith) .before k (omega arith) b
 
 -- tests that agree find the same place
 pub same-from : (p q : ℕ → Bool) (m i : ℕ) → ((k : ℕ) → i ≤ k → k < i + m → p k ≡ q k) → firstFrom p m i ≡ firstFrom q m i

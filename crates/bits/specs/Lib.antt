@@ -4,6 +4,5 @@ pub mod Table
 pub mod Pack
 pub mod Parts
 pub mod First
-pub mod Range
 pub mod Loops
 pub mod Weight

@@ -1,11 +1,11 @@
 -- Sums of bits, modulo 2: `bitXor`, on single bits and, place by place, on whole numbers. Its laws ask nothing of the numbers.
 use mathlib.Core.Path.{_≡_, refl, sym, ap, ap₂, _∙_}
-use Prim.Native.Nat.{ℕ, _+_, _-_, _*_, _/_, _%_, _^_, _<_}
+use Prim.Native.Nat.{ℕ, _+_, _-_, _*_, _/_, _%_, _^_, _≤_, _<_}
 use native.Mathlib.Omega.{arith}
 use mathlib.Core.Logic.{⊎-elim}
 use lib.Arith.{bin-ind}
 use lib.Bits.{bitXor, bitOr, differ, xor-step, xor-zero-l, xor-zero-r, xor-comm, xor-self, xor-lt, xor-shr, xor-mod, or-add-and, and-le-l, and-le-r}
-use Rattle.bits.specs.Choice.{bit-cases}
+use Rattle.bits.specs.Choice.{lt-or-le, bit-cases}
 
 -- the sum of two digits, three ways
 differ-assoc : (a b c : ℕ) → a < 2 → b < 2 → c < 2 → differ (differ a b) c ≡ differ a (differ b c)
@@ -83,3 +83,12 @@ xor-digit a b k = ap (λ (x : ℕ). x % 2) (xor-shr a b k) ∙ xor-mod (a / 2 ^ 
 -- `bitOr` is 0 only of zeros
 pub or-zero : (a b : ℕ) → bitOr a b ≡ 0 → (a ≡ 0) × (b ≡ 0)
 or-zero a b e = omega (arith, or-add-and a b, and-le-l a b, and-le-r a b)
+
+-- differences joined by it: none so far, and none at n
+pub same-more : (f g : ℕ → ℕ) (n d : ℕ) → (d ≡ 0 → (k : ℕ) → k < n → f k ≡ g k) → bitOr d (bitXor (f n) (g n)) ≡ 0 → (k : ℕ) → k < n + 1 → f k ≡ g k
+same-more f g n d before e k l =
+    let z = or-zero d (bitXor (f n) (g n)) e in
+    ⊎-elim
+    (λ (h : k < n). before (z .0) k h)
+    (λ (h : n ≤ k). let q : k ≡ n = omega arith in rw q (same-xor (f n) (g n) (z .1)))
+    (lt-or-le k n)

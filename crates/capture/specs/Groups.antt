@@ -8,13 +8,12 @@ use native.Mathlib.Omega.{arith}
 use lib.Dec.{ltb, eqb}
 use borrow.Author.Tests.{ltb-true, lt-ltb, eqb-true, eqb-false, eq-eqb, ne-eqb}
 use Rattle.bits.specs.Choice.{pick, bool, lt-or-le, eq-or-ne, bit-cases}
-use Rattle.bits.specs.First.{upTo, none-fails}
+use Rattle.bits.specs.First.{upTo, none-fails, found, found-at, found-none, none-found}
 use Rattle.bits.specs.Pack.{bitAt, bit-lt}
 use Rattle.slots.specs.declared.Plan.{Plan}
 use Rattle.slots.specs.Plan.{Fine, symbolCount}
 use Rattle.slots.specs.Laws.{group-least}
 use Rattle.capture.specs.Capture.{empty, pulse, symbolIn, firstBadGroup}
-use Rattle.bits.specs.Range.{found, found-at, found-none, none-found}
 
 -- the g slots from x on hold one pulse, at q, among the first m
 pub record Group (b : List ℕ) (m g x q : ℕ) : Type 0 where

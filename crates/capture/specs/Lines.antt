@@ -11,29 +11,44 @@ use lib.Dec.{ltb, eqb}
 use lib.ListN.{getD}
 use borrow.Author.Tests.{lt-ltb, le-ltb}
 use Rattle.bits.specs.Choice.{pick, lt-or-le}
-use Rattle.bits.specs.First.{upTo, first-skip}
+use Rattle.bits.specs.First.{upTo, first-skip, first-end, found, found-at}
 use Rattle.slots.specs.declared.Plan.{Plan}
 use Rattle.slots.specs.Plan.{Fine, unit, total, symbolCount}
 use Rattle.slots.specs.Slots.{hitBy, placeOf}
 use Rattle.capture.specs.Capture.{symbolIn, markRight, restZero}
-use Rattle.bits.specs.Range.{found, found-at}
 
--- the first that fails in a part is the first of the whole
-pub part-fails : (t : ℕ → Bool) (x mid end : ℕ) → x ≤ mid → mid ≤ end → upTo t x mid < mid → upTo t x end ≡ upTo t x mid
-part-fails t x mid end a c l =
-    let f = found t x mid a in
-    found-at t x end (upTo t x mid) (f .least) (omega arith) (f .before) (f .fails l)
+-- a search part after part, of so many parts of this size: what is left finds what the whole finds
+pub record Sought (t : ℕ → Bool) (size end count c : ℕ) : Type 0 where
+  pub turn : c ≤ count
+  pub left : upTo t (c * size) end ≡ upTo t 0 end
 
--- where a part passes, and what follows it too, the rest tells
-pub part-passes : (t : ℕ → Bool) (x mid next end : ℕ) → x ≤ mid → mid ≤ next → next ≤ end → mid ≤ upTo t x mid → ((k : ℕ) → mid ≤ k → k < next → t k ≡ true) → upTo t next end ≡ upTo t x end
-part-passes t x mid next end a c d l h =
-    let f = found t x mid a in
-    let e : x + (next - x) ≡ next = omega arith in
-    ap (λ (i : ℕ). upTo t i end) (sym e)
-    ∙ first-skip t (next - x) end x (omega arith) (λ k g m. ⊎-elim
-    (λ (s : k < mid). f .before k g (omega arith))
-    (λ (s : mid ≤ k). h k s (omega arith))
-    (lt-or-le k mid))
+module _ (t : ℕ → Bool) (size end count : ℕ) where
+  pub sought-start : Sought t size end count 0
+  sought-start = record { turn = omega arith; left = ap (λ (x : ℕ). upTo t x end) (omega arith) }
+
+  module _ (c : ℕ) (sought : Sought t size end count c) (mid r : ℕ) (from : c * size ≤ mid) (to : mid ≤ c * size + size) (within : c * size + size ≤ end) (e : r ≡ upTo t (c * size) mid) where
+    -- the first that fails in a part is the first of the whole
+    pub sought-fails : r < mid → r ≡ upTo t 0 end
+    sought-fails l =
+        let f = found t (c * size) mid from in
+        e ∙ sym (found-at t (c * size) end (upTo t (c * size) mid) (f .least) (omega arith) (f .before) (f .fails (omega arith))) ∙ sought .left
+
+    -- where a part passes, and what follows it too, the next is asked
+    pub sought-more : c < count → mid ≤ r → ((k : ℕ) → mid ≤ k → k < c * size + size → t k ≡ true) → Sought t size end count (c + 1)
+    sought-more l g h =
+        let f = found t (c * size) mid from in
+        let next : (c + 1) * size ≡ c * size + size = omega arith in
+        record {
+          turn = omega arith;
+          left =
+              ap (λ (x : ℕ). upTo t x end) next
+              ∙ first-skip t size end (c * size) within (λ k a b. ⊎-elim (λ (s : k < mid). f .before k a (omega arith)) (λ (s : mid ≤ k). h k s b) (lt-or-le k mid))
+              ∙ sought .left;
+        }
+
+  -- all parts passed, with nothing behind them
+  pub sought-end : (c : ℕ) → Sought t size end count c → c * size ≡ end → c * size ≡ upTo t 0 end
+  sought-end c sought e = e ∙ sym (first-end t end (c * size) (omega arith) (omega arith)) ∙ sought .left
 
 module _ (p : Plan) (fine : Fine p) (line : ℕ) where
   pub line-in : line < p .lines → line * unit p + unit p ≤ symbolCount p

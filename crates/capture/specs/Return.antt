@@ -11,7 +11,7 @@ use lib.Dec.{ltb, eqb}
 use lib.ListN.{length, getD}
 use borrow.Author.Tests.{lt-ltb, le-ltb, eq-eqb, eqb-true}
 use Rattle.bits.specs.Choice.{pick, bool, pick-yes, lt-or-le}
-use Rattle.bits.specs.First.{upTo, all-pass, none-fails}
+use Rattle.bits.specs.First.{upTo, all-pass, none-fails, found-none, none-found}
 use Rattle.bits.specs.Pack.{val, bitAt, Bits, Bytes, bit-lt, bit-val, val-same, val-bits, length-bytes, bytes-are, bit-bytes, bytes-made}
 use Rattle.slots.specs.declared.Plan.{Plan}
 use Rattle.slots.specs.Plan.{Fine, unit, total, symbolCount, slotBytes}
@@ -21,7 +21,6 @@ use Rattle.slots.specs.Channel.{symbolOf, hit-place, place-hit, place-lt, symbo
 use Rattle.capture.specs.declared.SlotsAnswer.{SlotsAnswer}
 use Rattle.capture.specs.declared.SlotsAnswer.the-variants.{Good, SpareSlots, BadGroup, BadMark, BadRest}
 use Rattle.capture.specs.Capture.{empty, pulse, spareZero, symbolIn, firstBadGroup, markRight, firstBadMark, restZero, firstBadRest, wordBit, wordOut}
-use Rattle.bits.specs.Range.{found-none, none-found}
 use Rattle.capture.specs.Groups.{passed, group-made, tells}
 use Rattle.capture.specs.Answer.{slotsSay}
 

@@ -16,7 +16,7 @@ use Rattle.bits.specs.Loops.{Spread}
 use borrow.Author.Tests.{eq-eqb, ne-eqb}
 use Rattle.bits.specs.Choice.{bool, lt-or-le}
 use Rattle.capture.specs.Capture.{empty, pulse, symbolIn, wordBit, wordOut}
-use Rattle.bits.specs.Range.{found, found-at}
+use Rattle.bits.specs.First.{found, found-at}
 use Rattle.capture.specs.Groups.{group-got}
 use Rattle.capture.specs.Bounds.{bounds}
 use Rattle.capture.specs.Return.{word-bit-lt}

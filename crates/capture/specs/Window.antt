@@ -9,10 +9,9 @@ use lib.Dec.{ltb, leb}
 use lib.ListN.{getD}
 use borrow.Author.Tests.{lt-ltb, le-ltb, eq-eqb, ne-eqb}
 use Rattle.bits.specs.Choice.{pick, lt-or-le}
-use Rattle.bits.specs.First.{upTo, first-skip}
+use Rattle.bits.specs.First.{upTo, first-skip, found-at, found-none}
 use Rattle.bits.specs.Pack.{val, bitAt, cut, Bits, Bytes, bit-lt, val-same, cut-in, cut-past, cut-bits}
 use Rattle.bits.specs.Parts.{byte-val, val-cut, val-shift}
-use Rattle.bits.specs.Range.{found-at, found-none}
 use Rattle.capture.specs.Capture.{empty}
 use Rattle.capture.specs.Leading.{Leads, first-one, no-one}
 

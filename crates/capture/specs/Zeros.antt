@@ -7,13 +7,11 @@ use Prim.Native.Nat.{ℕ, _+_, _-_, _*_, _/_, _%_, _^_, _≤_, _<_}
 use native.Mathlib.Omega.{arith}
 use native.Mathlib.Nat.{le-refl, mul-le-mul, mul-assoc, div-add-mod', zero-div, le-div-iff-mul-le}
 use lib.Arith.{digits-lt, digits-mod}
-use lib.Bits.{bitOr, bitXor}
 use lib.Dec.{ltb, eqb, eqb→eq}
 use lib.ListN.{length, getD, length-set}
 use borrow.Author.Tests.{lt-ltb, le-ltb, eq-eqb, ne-eqb}
 use Rattle.bits.specs.Choice.{pick, bool, lt-or-le, eq-or-ne}
 use Rattle.bits.specs.Pack.{bitAt}
-use Rattle.bits.specs.Sum.{same-xor, or-zero}
 use Rattle.bits.specs.Table.{below-all}
 use Rattle.slots.specs.declared.Plan.{Plan}
 use Rattle.slots.specs.Plan.{Fine, symbolCount, slotBytes}
@@ -87,20 +85,9 @@ upto-more group x h l z u =
 pub upto-all : (group x : ℕ) (z : List ℕ) → 320 ≤ x → Upto group x z → Zeros group z
 upto-all group x z h u = record { long = u .long; slot = λ i l. u .slot i l ∙ ap (λ (t : Bool). pick t (bool (eqb (i % group) 0)) 0) (lt-ltb i x (omega arith)) }
 
--- ---- no difference so far, and none at the next byte
-
+-- the n bytes from byte `at` on are those given
 abbrev pub Same : List ℕ → ℕ → List ℕ → ℕ → Type 0
 Same b at given n = (k : ℕ) → k < n → getD b (at + k) 0 ≡ getD given k 0
-
-pub same-more : (b : List ℕ) (at : ℕ) (given : List ℕ) (n d : ℕ) → (d ≡ 0 → Same b at given n) → bitOr d (bitXor (getD b (at + n) 0) (getD given n 0)) ≡ 0 → Same b at given (n + 1)
-same-more b at given n d before e k l =
-    let z = or-zero d (bitXor (getD b (at + n) 0) (getD given n 0)) e in
-    ⊎-elim
-    (λ (h : k < n). before (z .0) k h)
-    (λ (h : n ≤ k).
-    let q : k ≡ n = omega arith in
-    rw q (same-xor (getD b (at + n) 0) (getD given n 0) (z .1)))
-    (lt-or-le k n)
 
 -- ---- forty bytes hold whole groups, at every pulse order: a test, which antt computes
 

@@ -2,16 +2,14 @@
 use mathlib.Core.Path.{_≡_, sym, ap, _∙_}
 use mathlib.Core.Bool.{Bool, true}
 use mathlib.Core.List.{List}
-use mathlib.Core.Logic.{⊎-elim}
-use Prim.Native.Nat.{ℕ, _+_, _≤_, _<_}
+use Prim.Native.Nat.{ℕ, _+_, _-_, _≤_, _<_}
 use native.Mathlib.Omega.{arith}
 use lib.Bits.{bitOr, bitXor}
 use lib.Dec.{eqb}
 use lib.ListN.{length, getD}
-use borrow.Author.Tests.{eq-eqb}
-use Rattle.bits.specs.Choice.{lt-or-le}
+use borrow.Author.Tests.{eq-eqb, eqb-true}
 use Rattle.bits.specs.First.{upTo, first-same}
-use Rattle.bits.specs.Sum.{same-xor, or-zero}
+use Rattle.bits.specs.Sum.{same-more}
 use Rattle.bits.specs.Table.{tab, getD-tab}
 
 -- place j holds the same in both
@@ -34,14 +32,9 @@ same-none made coded i k l h = absurd (omega arith)
 pub same-on : (made coded : List ℕ) (i n d : ℕ) → (d ≡ 0 → Same made coded i n)
     → bitOr d (bitXor (getD coded (i + n) 0) (getD made (i + n) 0)) ≡ 0 → Same made coded i (n + 1)
 same-on made coded i n d before e k l h =
-    let z = or-zero d (bitXor (getD coded (i + n) 0) (getD made (i + n) 0)) e in
-    ⊎-elim
-    (λ (b : k < i + n). before (z .0) k l b)
-    (λ (b : i + n ≤ k).
-    let q : i + n ≡ k = omega arith in
-    let s : getD coded (i + n) 0 ≡ getD made (i + n) 0 = same-xor (getD coded (i + n) 0) (getD made (i + n) 0) (z .1) in
-    ap (sameAt made coded) (sym q) ∙ eq-eqb (getD coded (i + n) 0) (getD made (i + n) 0) s)
-    (lt-or-le k (i + n))
+    let at : i + (k - i) ≡ k = omega arith in
+    let agree = same-more (λ t. getD coded (i + t) 0) (λ t. getD made (i + t) 0) n d (λ z t b. eqb-true (getD coded (i + t) 0) (getD made (i + t) 0) (before z (i + t) (omega arith) (omega arith))) e (k - i) (omega arith) in
+    ap (sameAt made coded) (sym at) ∙ eq-eqb (getD coded (i + (k - i)) 0) (getD made (i + (k - i)) 0) agree
 
 -- where one list is made by a function, the comparison is with its values
 pub same-made : (f : ℕ → ℕ) (made coded : List ℕ) → made ≡ tab 15120 f → upTo (sameAt made coded) 0 15120 ≡ upTo (λ j. eqb (getD coded j 0) (f j)) 0 15120

@@ -11,8 +11,7 @@ use lib.Dec.{eqb, ltb}
 use lib.ListN.{length}
 use borrow.Author.Tests.{lt-ltb, le-ltb, eq-eqb, eqb-true}
 use Rattle.bits.specs.Choice.{pick, lt-or-le}
-use Rattle.bits.specs.First.{upTo, all-pass, none-fails}
-use Rattle.bits.specs.Range.{found-none, none-found}
+use Rattle.bits.specs.First.{upTo, all-pass, none-fails, found-none, none-found}
 use Rattle.bits.specs.Pack.{Bits, Bytes, val, bitAt, bit-lt, val-same, val-bits, bit-val, bit-bytes, bytes-are, bytes-made, length-bytes}
 use Rattle.frames.specs.Stream.{frameMarker, markerBit, span, streamBit, marked, firstUnmarked, fillZero, framesIn}
 use Rattle.frames.specs.Answer.{framesSay, zeroAt}

@@ -3,7 +3,7 @@ use mathlib.Core.Path.{sym}
 use Prim.Native.Nat.{ℕ, _+_, _*_, _/_}
 use native.Mathlib.Omega.{arith}
 use borrow.Author.Needs.{needs}
-use Rattle.bits.specs.Range.{found-none}
+use Rattle.bits.specs.First.{found-none}
 use Rattle.capture.specs.Bounds.{bounds}
 use Rattle.capture.specs.Groups.{grouped}
 use Rattle.capture.specs.Zeros.{forty-in, forty-zeros}

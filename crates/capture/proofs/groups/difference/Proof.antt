@@ -1,9 +1,11 @@
 -- No difference in the bytes passed, where the differences joined are 0.
 use mathlib.Core.Path.{_≡_}
-use Prim.Native.Nat.{_-_, _≤_}
+use Prim.Native.Nat.{_+_, _-_, _≤_}
 use native.Mathlib.Omega.{arith}
+use lib.ListN.{getD}
 use borrow.Author.Needs.{needs}
-use Rattle.capture.specs.Zeros.{Same, same-more}
+use Rattle.bits.specs.Sum.{same-more}
+use Rattle.capture.specs.Zeros.{Same}
 use Rattle.capture.proofs.groups.difference.Statement.{statement}
 use Rattle.capture.proofs.groups.difference.Tie as tie
 
@@ -35,7 +37,7 @@ loop-again : tie.Need-loop-again Inv-loop μ-loop
 loop-again c =
     let a = c .before .before .before .before .args in
     let l = c .before .before .before .loop in
-    (omega arith, same-more (a .b .now) (a .at) (a .given .now) (l .k) (l .d) (l .inv .1))
+    (omega arith, same-more (λ i. getD (a .b .now) (a .at + i) 0) (λ i. getD (a .given .now) i 0) (l .k) (l .d) (l .inv .1))
 
 returns : tie.Need-returns Inv-loop μ-loop
 returns c e k h = c .before .loop .inv .1 e k (omega arith)

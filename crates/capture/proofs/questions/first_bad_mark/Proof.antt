@@ -1,70 +1,49 @@
 -- The first row with a failure has the first failure, and rows without one are passed.
-use mathlib.Core.Path.{_≡_, sym, ap, _∙_}
-use mathlib.Core.Bool.{Bool}
-use Prim.Native.Nat.{ℕ, _+_, _-_, _*_, _≤_}
+use mathlib.Core.Path.{_≡_, ap}
+use Prim.Native.Nat.{ℕ, _+_, _-_, _*_, _≤_, _<_}
 use native.Mathlib.Omega.{arith}
 use native.Mathlib.Nat.{le-refl, mul-le-mul}
 use borrow.Author.Needs.{needs}
-use Rattle.bits.specs.First.{upTo, first-end}
 use Rattle.slots.specs.Plan.{unit, symbolCount}
-use Rattle.capture.specs.Bounds.{bounds}
+use Rattle.capture.specs.Bounds.{Bounds, bounds}
 use Rattle.capture.specs.Capture.{markRight, firstBadMark}
-use Rattle.capture.specs.Lines.{part-fails, part-passes, line-in, mark-else}
+use Rattle.capture.specs.Lines.{Sought, sought-start, sought-fails, sought-more, sought-end, line-in, mark-else}
 use Rattle.capture.proofs.questions.first_bad_mark.Statement.{statement}
 use Rattle.capture.proofs.questions.first_bad_mark.Tie as tie
 
 abbrev Inv-loop : tie.InvT-loop
-Inv-loop p b unit count lines line₀ line = (line ≤ lines) × (upTo (markRight p b) (line * unit) (lines * unit) ≡ upTo (markRight p b) 0 (lines * unit))
+Inv-loop p b unit count lines line₀ line = Sought (markRight p b) unit (lines * unit) lines line
 
 abbrev μ-loop : tie.MeasureT-loop
 μ-loop p b unit count lines line₀ line = lines - line
 
+-- the sizes that the needs rest on
+known : (s : tie.Start Inv-loop μ-loop) (line : ℕ) → line < s .args .p .lines → Bounds (s .args .p) × (line * unit (s .args .p) + unit (s .args .p) ≤ symbolCount (s .args .p))
+known s line l = (bounds (s .args .p) (s .pre .fine), line-in (s .args .p) (s .pre .fine) line l)
+
 add-unit : tie.Need-add-unit Inv-loop μ-loop
-add-unit c =
-    let k = bounds (c .before .before .args .p) (c .before .before .pre .fine) in
-    omega arith
+add-unit c = let k = bounds (c .before .before .args .p) (c .before .before .pre .fine) in omega arith
 
 loop-holds : tie.Need-loop-holds Inv-loop μ-loop
-loop-holds c =
-    let e : 0 * unit (c .before .before .args .p) ≡ 0 = omega arith in
-    (search needs, ap (λ (x : ℕ). upTo (markRight (c .before .before .args .p) (c .before .before .args .b .now)) x (symbolCount (c .before .before .args .p))) e)
+loop-holds c = sought-start _ _ _ _
 
 bad-mark-in-requires : tie.Need-bad-mark-in-requires Inv-loop μ-loop
 bad-mark-in-requires c κs = (c .before .before .before .before .pre, omega arith)
 
 mul-if1 : tie.Need-mul-if1 Inv-loop μ-loop
-mul-if1 c =
-    let a = c .before .before .before .before .before .args in
-    let h = c .before .before .before .before .before .pre in
-    let k = bounds (a .p) (h .fine) in
-    let l = c .before .before .loop in
-    let u = line-in (a .p) (h .fine) (l .line) (omega arith) in
-    let x : ℕ = l .line * unit (a .p) in
-    omega arith
+mul-if1 c = let r = known (c .before .before .before .before .before) (c .before .before .loop .line) (omega arith) in omega arith
 
 add-if1 : tie.Need-add-if1 Inv-loop μ-loop
-add-if1 c =
-    let a = c .before .before .before .before .before .args in
-    let h = c .before .before .before .before .before .pre in
-    let k = bounds (a .p) (h .fine) in
-    let l = c .before .before .loop in
-    let u = line-in (a .p) (h .fine) (l .line) (omega arith) in
-    let x : ℕ = l .line * unit (a .p) in
-    omega arith
+add-if1 c = let r = known (c .before .before .before .before .before) (c .before .before .loop .line) (omega arith) in omega arith
 
 returns : tie.Need-returns Inv-loop μ-loop
 unfolding firstBadMark
 returns c =
-    let a = c .before .before .before .before .before .before .args in
-    let h = c .before .before .before .before .before .before .pre in
-    let k = bounds (a .p) (h .fine) in
+    let s = c .before .before .before .before .before .before in
     let l = c .before .before .before .loop in
-    let u = line-in (a .p) (h .fine) (l .line) (omega arith) in
-    let x : ℕ = l .line * unit (a .p) in
-    let t : ℕ → Bool = markRight (a .p) (a .b .now) in
-    let mid : ℕ = x + a .p .count in
-    let e : c .before .bad-mark-in .result ≡ upTo t x mid = c .before .bad-mark-in .ensures in
-    e ∙ sym (part-fails t x mid (symbolCount (a .p)) (omega arith) (omega arith) (omega arith)) ∙ l .inv .1
+    let p = s .args .p in
+    let r = known s (l .line) (omega arith) in
+    sought-fails _ _ _ _ (l .line) (l .inv) (l .line * unit p + p .count) _ (omega arith) (omega arith) (omega arith) (c .before .bad-mark-in .ensures) (omega arith)
 
 add-line : tie.Need-add-line Inv-loop μ-loop
 add-line c = search needs
@@ -74,38 +53,26 @@ loop-less c = search needs
 
 loop-again : tie.Need-loop-again Inv-loop μ-loop
 loop-again c =
-    let a = c .before .before .before .before .before .before .args in
-    let h = c .before .before .before .before .before .before .pre in
-    let k = bounds (a .p) (h .fine) in
+    let s = c .before .before .before .before .before .before in
     let l = c .before .before .before .loop in
-    let u = line-in (a .p) (h .fine) (l .line) (omega arith) in
-    let x : ℕ = l .line * unit (a .p) in
-    let t : ℕ → Bool = markRight (a .p) (a .b .now) in
-    let mid : ℕ = x + a .p .count in
-    let e : c .before .bad-mark-in .result ≡ upTo t x mid = c .before .bad-mark-in .ensures in
-    let d : (l .line + 1) * unit (a .p) ≡ x + unit (a .p) = omega arith in (
-      search needs,
-      ap (λ (y : ℕ). upTo t y (symbolCount (a .p))) d
-          ∙ part-passes t x mid (x + unit (a .p)) (symbolCount (a .p)) (omega arith) (omega arith) (omega arith) (omega arith) (mark-else (a .p) (h .fine) (l .line) (a .b .now))
-          ∙ l .inv .1,
-    )
+    let p = s .args .p in
+    let r = known s (l .line) (omega arith) in
+    sought-more _ _ _ _ (l .line) (l .inv) (l .line * unit p + p .count) _ (omega arith) (omega arith) (omega arith) (c .before .bad-mark-in .ensures) (omega arith) (omega arith)
+    (mark-else p (s .pre .fine) (l .line) (s .args .b .now))
 
 mul-result : tie.Need-mul-result Inv-loop μ-loop
 mul-result c =
     let a = c .before .before .before .before .args in
     let k = bounds (a .p) (c .before .before .before .before .pre .fine) in
-    let l = c .before .loop in
-    omega (arith, mul-le-mul (l .inv .0) (le-refl (unit (a .p))))
+    omega (arith, mul-le-mul (c .before .loop .inv .turn) (le-refl (unit (a .p))))
 
 returns-2 : tie.Need-returns-2 Inv-loop μ-loop
 unfolding firstBadMark
 returns-2 c =
-    let a = c .before .before .before .before .args in
-    let k = bounds (a .p) (c .before .before .before .before .pre .fine) in
     let l = c .before .loop in
-    let e : l .line ≡ a .p .lines = omega arith in
-    let d : l .line * unit (a .p) ≡ symbolCount (a .p) = ap (λ (i : ℕ). i * unit (a .p)) e in
-    d ∙ sym (first-end (markRight (a .p) (a .b .now)) (symbolCount (a .p)) (l .line * unit (a .p)) (omega arith) (omega arith)) ∙ l .inv .1
+    let p = c .before .before .before .before .args .p in
+    let e : l .line ≡ p .lines = let t = l .inv .turn in omega arith in
+    sought-end _ _ _ _ (l .line) (l .inv) (ap (λ (i : ℕ). i * unit p) e)
 
 pub first-bad-mark-spec : {M : Type 1} → statement M
 first-bad-mark-spec =
