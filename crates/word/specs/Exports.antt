@@ -4,8 +4,9 @@ use mathlib.Core.List.{List}
 use Prim.Native.Nat.{ℕ, _<_}
 use lib.ListN.{length}
 use Rattle.bits.specs.Pack.{Bytes}
-use Rattle.rates.specs.Rate.{blockBytes}
-use Rattle.word.specs.Word.{wordBytes, wordOf, blockIn, writeSays, readSays}
+use Rattle.sizes.specs.Rate.{blockBytes}
+use Rattle.sizes.specs.Sizes.{wordBytes}
+use Rattle.word.specs.Word.{wordOf, blockIn, writeSays, readSays}
 use Rattle.word.specs.Word.Laws.{Packed}
 use Rattle.word.specs.Word.Laws as Laws
 use Rattle.word.specs.Word.Answers as Answers

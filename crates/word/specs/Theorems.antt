@@ -12,14 +12,15 @@ use Rattle.bits.specs.Choice.{bool, bool-lt, bool-true, bit-cases, eq-or-ne}
 use Rattle.bits.specs.Sum.{sum3, xor-cancel, xor-bit, same-xor}
 use Rattle.bits.specs.Pack.{bitAt, bytesOf, Bytes, Bits, bit-lt, bit-bytes, length-bytes, plus, length-plus, bit-plus, bytes-plus}
 use Rattle.bits.specs.Weight.{differences, differences-weight, differences-same, weight, weight-same}
-use Rattle.rates.specs.Rate.{infoBits, blockBytes}
+use Rattle.sizes.specs.Rate.{infoBits, blockBytes}
+use Rattle.sizes.specs.Sizes.{wordBits, wordBytes}
 use Rattle.convolution.specs.Code.{encode, encode-bits, encode-plus}
 use Rattle.convolution.specs.Distance.{distance, weight-distance}
-use Rattle.interleaver.specs.Interleaver.{wordBits, deinterleave}
+use Rattle.interleaver.specs.Interleaver.{deinterleave}
 use Rattle.accumulator.specs.Accumulator.{differentiate}
 use Rattle.word.specs.Answer.{readNumber}
 use Rattle.word.specs.Bursts.{burst, no-code}
-use Rattle.word.specs.Word.{wordBytes, inputOf, codedOf, wordOf, blockIn, codedIn, inputIn, writeSays, readSays, firstWrong, endsInZeros}
+use Rattle.word.specs.Word.{inputOf, codedOf, wordOf, blockIn, codedIn, inputIn, writeSays, readSays, firstWrong, endsInZeros}
 use Rattle.word.specs.Word.Laws.{Packed}
 use Rattle.word.specs.Word.Laws as Laws
 use Rattle.word.specs.Word.Answers as Answers

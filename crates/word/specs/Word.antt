@@ -9,10 +9,11 @@ use Rattle.bits.specs.Choice.{pick}
 use Rattle.bits.specs.Table.{both}
 use Rattle.bits.specs.First.{upTo}
 use Rattle.bits.specs.Pack.{val, bitAt, bytesOf, cut}
-use Rattle.rates.specs.Rate.{infoBits, blockBytes}
+use Rattle.sizes.specs.Rate.{infoBits, blockBytes}
+use Rattle.sizes.specs.Sizes.{wordBits, wordBytes}
 use Rattle.crc.specs.Check.{register, checked}
 use Rattle.convolution.specs.Code.{terminated, encode, decode}
-use Rattle.interleaver.specs.Interleaver.{wordBits, interleave, deinterleave}
+use Rattle.interleaver.specs.Interleaver.{interleave, deinterleave}
 use Rattle.accumulator.specs.Accumulator.{accumulate, differentiate}
 use Rattle.randomizer.specs.Randomizer.{randomize}
 use Rattle.word.specs.declared.WriteAnswer.{WriteAnswer}
@@ -23,10 +24,6 @@ pub mod Laws
 pub mod Lists
 pub mod Answers
 pub mod Judging
-
--- the bytes of a word
-abbrev pub wordBytes : ℕ
-wordBytes = 1890
 
 -- ---- from a block to its word
 

@@ -6,6 +6,7 @@ mod writer;
 ghost use mathlib.Core.Path.{_≡_};
 ghost use Prim.Native.Nat.{_≤_};
 ghost use lib.ListN.{length};
+ghost use Rattle.sizes.specs.Sizes.{wordBits};
 ghost use Rattle.word.specs.Answer.{writeCode, readCode, readPlace, afterWrite, afterRead};
 ghost use Rattle.word.specs.Word.{wordOf, blockIn, writeSays, readSays};
 
@@ -54,10 +55,10 @@ pub fn read(rate: u64, word: &[u8], block: &mut [u8]) -> ReadAnswer
     if 2 < rate {
         return ReadAnswer::BadRate;
     }
-    if word.len() != 1890 {
+    if word.len() != sizes::WORD_BYTES {
         return ReadAnswer::BadLength;
     }
-    let size = rates::block_bytes(rate);
+    let size = sizes::block_bytes(rate);
     if block.len() != size {
         return ReadAnswer::BadLength;
     }
@@ -77,7 +78,7 @@ fn write_code(answer: WriteAnswer) -> u64
 }
 
 fn read_code(answer: ReadAnswer) -> u64
-    requires { ⌜ readPlace answer ≤ 15120 ⌝ }
+    requires { ⌜ readPlace answer ≤ wordBits ⌝ }
     ensures { λ r. ⌜ r ≡ readCode answer ⌝ }
 {
     match answer {

@@ -4,6 +4,7 @@ ghost use mathlib.Core.Path.{_≡_};
 ghost use Prim.Native.Nat.{_+_};
 ghost use lib.ListN.{getD};
 ghost use Rattle.bits.specs.Table.{tab};
+ghost use Rattle.sizes.specs.Sizes.{wordBits};
 ghost use Rattle.convolution.specs.Code as code;
 ghost use Rattle.word.specs.Answer.{afterRead};
 ghost use Rattle.word.specs.Word.{codedIn, inputIn, blockIn, packedBlock, judged};
@@ -12,7 +13,7 @@ ghost use Rattle.word.specs.Rooms.{Undoes, Reads, Settles, Judges, Words
 // The coded bits taken back out: steps 7, 6 and 5 undone.
 fn take_out(word: &[u8], work: &mut [u8], coded: &mut [u8])
     requires { ⌜ Undoes (now word) (now work) (now coded) ⌝ }
-    ensures { λ _. ⌜ now (coded .exit) ≡ tab 15120 (codedIn (now (word .entry))) ⌝ }
+    ensures { λ _. ⌜ now (coded .exit) ≡ tab wordBits (codedIn (now (word .entry))) ⌝ }
 {
     bytes::copy(word, work);
     randomizer::randomize(work);
@@ -26,10 +27,10 @@ fn judge(rate: u64, coded: &[u8], input: &[u8], block: &[u8]) -> ReadAnswer
     ensures { λ r. ⌜ r ≡ judged rate (λ j. getD (now (coded .entry)) j 0) (λ i. getD (now (input .entry)) i 0) ⌝ }
 {
     let at = convolution::first_wrong(rate, input, coded);
-    if at != 15120 {
+    if at != sizes::WORD_BITS {
         return ReadAnswer::Miscoded(at);
     }
-    let k = rates::info_bits(rate);
+    let k = sizes::info_bits(rate);
     if input[k + 32] != 0 {
         return ReadAnswer::Unterminated;
     }
@@ -50,7 +51,7 @@ fn settle(rate: u64, coded: &[u8], input: &[u8], packed: &mut [u8], block: &mut 
     ensures { λ r. ⌜ r ≡ judged rate (λ j. getD (now (coded .entry)) j 0) (λ i. getD (now (input .entry)) i 0) ⌝ }
     ensures { λ r. ⌜ now (block .exit) ≡ afterRead r (packedBlock rate (λ i. getD (now (input .entry)) i 0)) (now (block .entry)) ⌝ }
 {
-    let k = rates::info_bits(rate);
+    let k = sizes::info_bits(rate);
     bits::packing::pack(&input[..k], packed);
     let answer = judge(rate, coded, input, packed);
     let ReadAnswer::Block = answer else {
@@ -72,7 +73,7 @@ fn read_coded(
     ensures { λ r. ⌜ r ≡ judged rate (λ j. getD (now (coded .entry)) j 0) (code.decode rate (λ j. getD (now (coded .entry)) j 0)) ⌝ }
     ensures { λ r. ⌜ now (block .exit) ≡ afterRead r (packedBlock rate (code.decode rate (λ j. getD (now (coded .entry)) j 0))) (now (block .entry)) ⌝ }
 {
-    let n = rates::input_bits(rate);
+    let n = sizes::input_bits(rate);
     convolution::decode(rate, coded, &mut room[..n]);
     let size = block.len();
     settle(rate, coded, &room[..n], &mut packed[..size], block)

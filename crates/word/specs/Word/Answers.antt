@@ -13,9 +13,9 @@ use Rattle.bits.specs.Choice.{pick, lt-or-le, bit-cases, pick-yes}
 use Rattle.bits.specs.Table.{both, both-true}
 use Rattle.bits.specs.First.{up-to-le}
 use Rattle.bits.specs.Pack.{bitAt, Bytes}
-use Rattle.rates.specs.Rate.{infoBits, blockBytes, block-size}
-use Rattle.interleaver.specs.Interleaver.{wordBits}
-use Rattle.word.specs.Word.{wordBytes, codedIn, inputIn, spareZero, agrees, firstWrong, endsInZeros, checkRight, writeSays, judged, readSays}
+use Rattle.sizes.specs.Rate.{infoBits, blockBytes, block-size}
+use Rattle.sizes.specs.Sizes.{wordBits, wordBytes}
+use Rattle.word.specs.Word.{codedIn, inputIn, spareZero, agrees, firstWrong, endsInZeros, checkRight, writeSays, judged, readSays}
 use Rattle.word.specs.Word.Laws.{Packed, Sound, sound}
 use Rattle.word.specs.Answer.{writeNumber, readNumber, readPlace}
 use Rattle.word.specs.declared.WriteAnswer.{WriteAnswer}
@@ -197,7 +197,7 @@ read-accepted rate word n e =
     }
 
 -- a place is no more than the number of coded bits
-pub read-place : (rate : ℕ) (word : List ℕ) (n : ℕ) → readPlace (readSays rate word n) ≤ 15120
+pub read-place : (rate : ℕ) (word : List ℕ) (n : ℕ) → readPlace (readSays rate word n) ≤ wordBits
 unfolding readSays judged firstWrong
 read-place rate word n =
     cases (ltb rate 3) (both (eqb (length word) wordBytes) (eqb n (blockBytes rate))) (eqb (firstWrong rate c x) wordBits) (endsInZeros rate x) (checkRight rate x)
@@ -208,7 +208,7 @@ read-place rate word n =
     x : ℕ → ℕ
     x = inputIn rate word
 
-    cases : (a b d e f : Bool) → readPlace (pick a (pick b (pick d (pick e (pick f R.Block R.BadCheck) R.Unterminated) (R.Miscoded (firstWrong rate c x))) R.BadLength) R.BadRate) ≤ 15120
+    cases : (a b d e f : Bool) → readPlace (pick a (pick b (pick d (pick e (pick f R.Block R.BadCheck) R.Unterminated) (R.Miscoded (firstWrong rate c x))) R.BadLength) R.BadRate) ≤ wordBits
     cases false b d e f = omega arith
     cases true false d e f = omega arith
     cases true true false e f = up-to-le (agrees rate c x) wordBits

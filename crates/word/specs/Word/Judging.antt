@@ -9,7 +9,8 @@ use lib.ListN.{getD}
 use borrow.Author.Tests.{eq-eqb, ne-eqb}
 use Rattle.bits.specs.First.{upTo}
 use Rattle.bits.specs.Pack.{val, bitAt, cut, Bits, bit-bytes, cut-in, cut-bits}
-use Rattle.rates.specs.Rate.{infoBits, blockBytes, block-size}
+use Rattle.sizes.specs.Rate.{infoBits, blockBytes, block-size}
+use Rattle.sizes.specs.Sizes.{wordBits}
 use Rattle.crc.specs.Check.{register, register-same}
 use Rattle.convolution.specs.Code.{encode}
 use Rattle.word.specs.Word.{packedBlock, agrees, firstWrong, endsInZeros, checkRight, judged}
@@ -24,7 +25,7 @@ packed-bit rate x h b i l =
     bit-bytes (blockBytes rate) (cut (infoBits rate) x) (cut-bits (infoBits rate) x b) i (omega arith) ∙ cut-in (infoBits rate) x i l
 
 -- the place that a scan found, and where the block ends
-module _ (rate : ℕ) (coded input : List ℕ) (at k : ℕ) (found : at ≡ upTo (λ j. eqb (getD coded j 0) (encode rate (λ i. getD input i 0) j)) 0 15120) (ek : k ≡ infoBits rate) where
+module _ (rate : ℕ) (coded input : List ℕ) (at k : ℕ) (found : at ≡ upTo (λ j. eqb (getD coded j 0) (encode rate (λ i. getD input i 0) j)) 0 wordBits) (ek : k ≡ infoBits rate) where
   c : ℕ → ℕ
   c j = getD coded j 0
 
@@ -35,11 +36,11 @@ module _ (rate : ℕ) (coded input : List ℕ) (at k : ℕ) (found : at ≡ upTo
   unfolding firstWrong agrees c x
   wrong = found
 
-  pub says-13 : (at ≡ 15120 → ⊥) → R.Miscoded at ≡ judged rate (λ j. getD coded j 0) (λ i. getD input i 0)
+  pub says-13 : (at ≡ wordBits → ⊥) → R.Miscoded at ≡ judged rate (λ j. getD coded j 0) (λ i. getD input i 0)
   unfolding c x
   says-13 ne = ap R.Miscoded wrong ∙ sym (Answers.judged-miscoded rate c x (λ e. ne (wrong ∙ e)))
 
-  module _ (all : at ≡ 15120) where
+  module _ (all : at ≡ wordBits) where
     pub says-14 : (getD input (k + 32) 0 ≡ 0 → ⊥) → R.Unterminated ≡ judged rate (λ j. getD coded j 0) (λ i. getD input i 0)
     unfolding c x endsInZeros
     says-14 ne =

@@ -4,6 +4,7 @@ use mathlib.Core.List.{List}
 use Prim.Native.Nat.{ℕ}
 use lib.ListN.{length}
 use Rattle.bits.specs.Table.{length-tab, tab-bits}
+use Rattle.sizes.specs.Sizes.{wordBits}
 use Rattle.word.specs.Answer.{afterRead}
 use Rattle.word.specs.Word.{codedIn}
 use Rattle.word.specs.Word.Laws.{coded-in-bits}
@@ -36,8 +37,8 @@ read-coded-requires c κs =
     let e = c .before .before .before .before .before .before .take-out .ensures in
     record {
       rate-is = s .pre .rate-is;
-      coded-is = ap length e ∙ length-tab 15120 (codedIn (s .args .word .now));
-      bits-are = λ i. rw e (tab-bits 15120 (codedIn (s .args .word .now)) (coded-in-bits (s .args .word .now)) i);
+      coded-is = ap length e ∙ length-tab wordBits (codedIn (s .args .word .now));
+      bits-are = λ i. rw e (tab-bits wordBits (codedIn (s .args .word .now)) (coded-in-bits (s .args .word .now)) i);
       room-is = refl;
       packed-is = refl;
       block-is = s .pre .block-is;

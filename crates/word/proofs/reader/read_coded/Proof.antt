@@ -6,7 +6,7 @@ use native.Mathlib.Omega.{arith}
 use lib.ListN.{length, take, drop, getD}
 use lib.Seq.{length-take-le, take-at, length-front}
 use Rattle.bits.specs.Table.{tab, length-tab, tab-bits}
-use Rattle.rates.specs.Rate.{inputBits, input-room, block-room}
+use Rattle.sizes.specs.Rate.{inputBits, input-room, block-room}
 use Rattle.convolution.specs.Code.{decode, decode-bits}
 use Rattle.word.specs.Answer.{afterRead}
 use Rattle.word.specs.Word.Lists.{judged-list, packed-list}

@@ -5,7 +5,7 @@ use native.Mathlib.Omega.{arith}
 use lib.ListN.{length, getD}
 use lib.Seq.{length-take-le}
 use Rattle.bits.specs.Table.{copied}
-use Rattle.rates.specs.Rate.{inputBits, block-room}
+use Rattle.sizes.specs.Rate.{inputBits, block-room}
 use Rattle.word.specs.Answer.{afterRead}
 use Rattle.word.specs.Word.{packedBlock}
 use Rattle.word.specs.Word.Lists.{packed-made, front-bits}
