@@ -38,7 +38,11 @@ fn wrapped(p: usize) -> usize
     requires { ⌜ p < 30240 ⌝ }
     ensures { λ r. ⌜ r ≡ p % wordBits ⌝ }
 {
-    if p < sizes::WORD_BITS { p } else { p - sizes::WORD_BITS }
+    if p < sizes::WORD_BITS {
+        p
+    } else {
+        p - sizes::WORD_BITS
+    }
 }
 
 // The coded bits twice in a row, so that a place past the end needs no reduction.

@@ -1,5 +1,5 @@
 // Steps 2 to 7: a block to its word.
-use crate::WriteAnswer;
+use answers::Answer;
 ghost use mathlib.Core.Path.{_≡_};
 ghost use Prim.Native.Nat.{ℕ, _+_, _<_};
 ghost use lib.ListN.{length, getD};
@@ -9,26 +9,26 @@ ghost use Rattle.sizes.specs.Rate.{inputBits};
 ghost use Rattle.sizes.specs.Sizes.{wordBits, wordBytes};
 ghost use Rattle.word.specs.Word.{inputOf, codedOf, shuffled, wordOf, writeSays};
 ghost use Rattle.word.specs.Word.Answers.{WriteAccepted};
-ghost use Rattle.word.specs.Rooms.{Inputs, Codes, Shuffles};
+ghost use Rattle.word.specs.Needs.{Inputs, Codes, Shuffles};
 
 // Questions 2, 8 and 9.
-pub fn judge(rate: u64, block: &[u8], word_length: usize) -> WriteAnswer
+pub fn judge(rate: u64, block: &[u8], word_length: usize) -> Answer
     ensures { λ r. ⌜ r ≡ writeSays rate (now (block .entry)) «word_length» ⌝ }
 {
     if 2 < rate {
-        return WriteAnswer::BadRate;
+        return Answer::No(2, 0);
     }
     let size = sizes::block_bytes(rate);
     if block.len() != size {
-        return WriteAnswer::BadLength;
+        return Answer::No(8, 0);
     }
     if word_length != sizes::WORD_BYTES {
-        return WriteAnswer::BadLength;
+        return Answer::No(8, 0);
     }
     if block[size - 1] & 3 != 0 {
-        return WriteAnswer::SpareBits;
+        return Answer::No(9, 0);
     }
-    WriteAnswer::Written
+    Answer::Done
 }
 
 // Steps 2 and 3: the block's bits, its check and two zeros, one bit to a place.

@@ -15,7 +15,7 @@ use Rattle.crc.specs.Check.{register, register-same}
 use Rattle.convolution.specs.Code.{encode}
 use Rattle.word.specs.Word.{packedBlock, agrees, firstWrong, endsInZeros, checkRight, judged}
 use Rattle.word.specs.Word.Answers as Answers
-use Rattle.word.specs.declared.ReadAnswer.the-variants as R
+use Rattle.answers.specs.declared.Answer.the-variants.{Done, No}
 
 -- the bits of a packed block
 pub packed-bit : (rate : ℕ) (x : ℕ → ℕ) → rate < 3 → Bits x → (i : ℕ) → i < infoBits rate → bitAt (packedBlock rate x) i ≡ x i
@@ -36,19 +36,19 @@ module _ (rate : ℕ) (coded input : List ℕ) (at k : ℕ) (found : at ≡ upTo
   unfolding firstWrong agrees c x
   wrong = found
 
-  pub says-13 : (at ≡ wordBits → ⊥) → R.Miscoded at ≡ judged rate (λ j. getD coded j 0) (λ i. getD input i 0)
+  pub says-13 : (at ≡ wordBits → ⊥) → No 13 at ≡ judged rate (λ j. getD coded j 0) (λ i. getD input i 0)
   unfolding c x
-  says-13 ne = ap R.Miscoded wrong ∙ sym (Answers.judged-miscoded rate c x (λ e. ne (wrong ∙ e)))
+  says-13 ne = ap (λ (q : ℕ). No 13 q) wrong ∙ sym (Answers.judged-miscoded rate c x (λ e. ne (wrong ∙ e)))
 
   module _ (all : at ≡ wordBits) where
-    pub says-14 : (getD input (k + 32) 0 ≡ 0 → ⊥) → R.Unterminated ≡ judged rate (λ j. getD coded j 0) (λ i. getD input i 0)
+    pub says-14 : (getD input (k + 32) 0 ≡ 0 → ⊥) → No 14 0 ≡ judged rate (λ j. getD coded j 0) (λ i. getD input i 0)
     unfolding c x endsInZeros
     says-14 ne =
         sym (Answers.judged-unterminated rate c x (sym wrong ∙ all)
         (rw (← ek, ne-eqb (getD input (k + 32) 0) 0 ne) refl))
 
     module _ (end0 : getD input (k + 32) 0 ≡ 0) where
-      pub says-14-last : (getD input (k + 33) 0 ≡ 0 → ⊥) → R.Unterminated ≡ judged rate (λ j. getD coded j 0) (λ i. getD input i 0)
+      pub says-14-last : (getD input (k + 33) 0 ≡ 0 → ⊥) → No 14 0 ≡ judged rate (λ j. getD coded j 0) (λ i. getD input i 0)
       unfolding c x endsInZeros
       says-14-last ne =
           sym (Answers.judged-unterminated rate c x (sym wrong ∙ all)
@@ -72,13 +72,13 @@ module _ (rate : ℕ) (coded input : List ℕ) (at k : ℕ) (found : at ≡ upTo
           unfolding x
           field-is = ef ∙ ap (λ (n : ℕ). val (λ t. getD input (n + t) 0) 32) ek
 
-          pub says-15 : (field ≡ check → ⊥) → R.BadCheck ≡ judged rate (λ j. getD coded j 0) (λ i. getD input i 0)
+          pub says-15 : (field ≡ check → ⊥) → No 15 0 ≡ judged rate (λ j. getD coded j 0) (λ i. getD input i 0)
           unfolding c x checkRight
           says-15 ne =
               sym (Answers.judged-check rate c x (sym wrong ∙ all) ends
               (ne-eqb (val (λ t. x (infoBits rate + t)) 32) (register x (infoBits rate)) (λ e. ne (field-is ∙ e ∙ sym register-is))))
 
-          pub says-0 : field ≡ check → R.Block ≡ judged rate (λ j. getD coded j 0) (λ i. getD input i 0)
+          pub says-0 : field ≡ check → Done ≡ judged rate (λ j. getD coded j 0) (λ i. getD input i 0)
           unfolding c x checkRight
           says-0 e =
               sym (Answers.judged-done rate c x (sym wrong ∙ all) ends
