@@ -10,17 +10,11 @@ ghost use Rattle.frames.specs.Blocks.{blockIn, blockBit};
 ghost use Rattle.frames.specs.Back.{framePlace};
 ghost use Rattle.frames.specs.Answer.{framesSay, zeroAt};
 ghost use Rattle.frames.specs.Ranges.{Frames, Held, Stretch, Judged};
+use answers::Answer;
 use bits::packing;
 
 // The frame marker.
 const MARKER: u64 = 0x034776C7272895B0;
-
-// What questions 16 and 18 say: all is well; the marker before this frame is wrong; a fill bit is not zero.
-pub enum FramesAnswer {
-    Good,
-    Unmarked(usize),
-    BadFill,
-}
 
 // Bit r of the frame marker.
 fn marker_bit(r: usize) -> u8
@@ -173,19 +167,19 @@ fn first_fill(rate: u64, blocks: &[u8], total: usize, from: usize, end: usize) -
 }
 
 // Questions 16 and 18, put to the first `total` blocks.
-pub fn judge(rate: u64, blocks: &[u8], total: usize, size: usize, count: usize) -> FramesAnswer
+pub fn judge(rate: u64, blocks: &[u8], total: usize, size: usize, count: usize) -> Answer
     requires { ⌜ Judged rate total size count (now blocks) ⌝ }
     ensures { λ a. ⌜ a ≡ framesSay size count (total * infoBits rate) (joined rate (blockIn (blockBytes rate) (now (blocks .entry)))) ⌝ }
 {
     let j = first_unmarked(rate, blocks, total, size, count);
     if j != count {
-        return FramesAnswer::Unmarked(j);
+        return Answer::No(16, j);
     }
     let end = total * sizes::info_bits(rate);
     if first_fill(rate, blocks, total, count * (64 + 8 * size), end) != end {
-        return FramesAnswer::BadFill;
+        return Answer::No(18, 0);
     }
-    FramesAnswer::Good
+    Answer::Done
 }
 
 // The eight bits from bit y on, of packed bytes.

@@ -17,14 +17,14 @@ use Rattle.bits.specs.Table.{tab, length-tab, getD-tab, getD-tab-past, tab-made
 use Rattle.header.specs.Header.{fieldsOf, headerOf}
 use Rattle.header.specs.Layout.{made-read}
 use Rattle.header.specs.Quantities.{pulseOrder}
-use Rattle.header.specs.Questions.{headerSays}
+use Rattle.header.specs.Questions.{question1, question2, question3, question4, question5, question6, question7, fieldsSay, headerSays}
 use Rattle.header.specs.Valid.{Valid, GoodHeader, header-good}
 use Rattle.header.specs.Shape.{order-least}
 use Rattle.header.specs.Marks.{lentMarks, below, allUnder, marksGood, runSays, parametersOf, noParameters, checkedOf, checked}
 use Rattle.header.specs.declared.Fields.{Fields}
 use Rattle.header.specs.declared.Parameters.{Parameters}
 use Rattle.header.specs.declared.Checked.{Checked}
-use Rattle.answers.specs.Answer.{ask, then, then-done, ask-done}
+use Rattle.answers.specs.Answer.{ask, then, then-done, ask-done, Fits, fits-ask, fits-then}
 use Rattle.answers.specs.declared.Answer.{Answer}
 use Rattle.answers.specs.declared.Answer.the-variants.{Done, No}
 
@@ -188,6 +188,32 @@ pub check-answer : (header marker : List ℕ) → checked header marker .answer 
 unfolding checked checkedOf
 check-answer header marker = refl
 
+-- and acceptance hands the parameters on
+pub check-parameters : (header marker : List ℕ) (c : Checked) → c ≡ checked header marker → c .answer ≡ Done → c .parameters ≡ parametersOf (fieldsOf header) marker
+unfolding checked checkedOf
+check-parameters header marker c e g =
+    let a : runSays header marker ≡ Done = sym (check-answer header marker) ∙ ap (λ (x : Checked). x .answer) (sym e) ∙ g in
+    ap (λ (x : Checked). x .parameters) e ∙ rw a refl
+
 -- a good header is the one that its fields make
 pub good-made : (header : List ℕ) → Bytes header → headerSays header ≡ Done → headerOf (fieldsOf header) ≡ header
 good-made header b e = let g = header-good header e in made-read header (g .long) b (g .spare)
+
+-- ---- the answers fit the number that C gets
+
+fields-fit : (f : Fields) → Fits (fieldsSay f)
+unfolding fieldsSay
+fields-fit f =
+    fits-then (ask (question2 f) 2 0) _ (fits-ask (question2 f) 2 0 (omega arith) (omega arith))
+    (λ a. fits-then (ask (question3 f) 3 0) _ (fits-ask (question3 f) 3 0 (omega arith) (omega arith))
+    (λ b. fits-then (ask (question4 f) 4 0) _ (fits-ask (question4 f) 4 0 (omega arith) (omega arith))
+    (λ c. fits-then (ask (question5 f) 5 0) _ (fits-ask (question5 f) 5 0 (omega arith) (omega arith))
+    (λ d. fits-then (ask (question6 f) 6 0) (ask (question7 f) 7 0) (fits-ask (question6 f) 6 0 (omega arith) (omega arith))
+    (λ e. fits-ask (question7 f) 7 0 (omega arith) (omega arith))))))
+
+pub run-fits : (header marker : List ℕ) → Fits (runSays header marker)
+unfolding runSays headerSays
+run-fits header marker =
+    fits-then (headerSays header) (ask (marksGood (fieldsOf header) marker) 7 0)
+    (fits-then (ask (question1 header) 1 0) (fieldsSay (fieldsOf header)) (fits-ask (question1 header) 1 0 (omega arith) (omega arith)) (λ e. fields-fit (fieldsOf header)))
+    (λ e. fits-ask (marksGood (fieldsOf header) marker) 7 0 (omega arith) (omega arith))
