@@ -1,11 +1,11 @@
 // The checked parameters of a run: the header's fields and the marker symbols that are lent beside it.
 use crate::Checked;
 use crate::Fields;
-use answers::Answer;
 use crate::Parameters;
 use crate::layout;
 use crate::quantities;
 use crate::questions;
+use answers::Answer;
 ghost use mathlib.Core.Path.{_≡_};
 ghost use Rattle.header.specs.Marks.{lentMarks, marksGood, parametersOf, noParameters};
 ghost use Rattle.header.specs.Marks.{checked as Marks·checked};

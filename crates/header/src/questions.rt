@@ -1,8 +1,8 @@
 // Questions 1 to 7, in order; the first no gives the answer. `header_says` puts those that `runsheet` puts.
 use crate::Fields;
-use answers::Answer;
 use crate::layout;
 use crate::quantities;
+use answers::Answer;
 ghost use mathlib.Core.Path.{_≡_};
 ghost use Rattle.header.specs.Questions as asked;
 ghost use Rattle.header.specs.Questions.{fieldsSay, headerSays};

@@ -62,12 +62,7 @@ pub fn plan_of(q: Parameters) -> Plan
 }
 
 // Question 8: whether each slice has the length that the header implies.
-fn lengths_right(
-    f: Fields,
-    marker_length: usize,
-    frames_length: usize,
-    slots_length: usize,
-) -> bool
+fn lengths_right(f: Fields, marker_length: usize, frames_length: usize, slots_length: usize) -> bool
     requires { ⌜ Valid f ⌝ }
     ensures { λ r. ⌜ r ≡ lengthsRight f «marker_length» «frames_length» «slots_length» ⌝ }
 {
@@ -81,12 +76,7 @@ fn lengths_right(
 }
 
 // Questions 1 to 8 of a call that is lent frames and slots; the parameters count where all are answered yes.
-pub fn check(
-    header: &[u8],
-    marker: &[u8],
-    frames_length: usize,
-    slots_length: usize,
-) -> Checked
+pub fn check(header: &[u8], marker: &[u8], frames_length: usize, slots_length: usize) -> Checked
     ensures { λ r. ⌜ r .answer ≡ callSays (now (header .entry)) (now (marker .entry)) «frames_length» «slots_length» ⌝ }
     ensures { λ r. ⌜ (r .answer ≡ Done → r .parameters ≡ parametersOf (fieldsOf (now (header .entry))) (now (marker .entry))) ⌝ }
 {
