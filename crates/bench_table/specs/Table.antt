@@ -5,7 +5,7 @@ use mathlib.Core.List.{List, [], _∷_, map}
 use Prim.Native.Nat.{ℕ, _+_, _/_, _^_}
 use lib.ListN.{getD, replicate}
 use Rattle.bits.specs.Pack.{val, bitAt}
-use Rattle.rates.specs.Rate.{inputsPer, codedPer}
+use Rattle.sizes.specs.Rate.{inputsPer, codedPer}
 use Rattle.crc.specs.Check.{register, advance}
 use Rattle.convolution.specs.Code.{encode, stepOf, first, second, delay}
 use Rattle.interleaver.specs.Interleaver.{place}

@@ -6,7 +6,7 @@ use Prim.Native.Nat.{ℕ}
 use Rattle.bits.specs.First.{firstFrom}
 use Rattle.bits.specs.Pack.{val, bitAt, bytesOf}
 use Rattle.bits.specs.Table.{tab}
-use Rattle.rates.specs.Rate.{infoBits}
+use Rattle.sizes.specs.Rate.{infoBits}
 use Rattle.header.specs.Header.{field, fieldsOf, packed, headerOf}
 use Rattle.header.specs.Quantities.{pulseOrder, symbolsPerWord, markedBits, blockCount, spread, sequenceLength, sequenceRows, symbolCount}
 use Rattle.header.specs.Questions.{question2, question3, question4, question5, question6, question7, fieldsSay}

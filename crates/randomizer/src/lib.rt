@@ -3,6 +3,7 @@ ghost use mathlib.Core.Path.{_≡_};
 ghost use Prim.Native.Nat.{_+_, _%_, _≤_};
 ghost use lib.ListN.{length};
 ghost use Rattle.bits.specs.Pack.{bitAt, bytesOf};
+ghost use Rattle.sizes.specs.Sizes.{wordBytes};
 ghost use Rattle.randomizer.specs.Randomizer.{randomize};
 ghost use Rattle.randomizer.specs.Bytes.{Added};
 
@@ -26,8 +27,8 @@ fn add_period(word: &mut [u8], start: usize, n: usize)
 
 // Step 7, which undoes itself. Adds the sequence to the bits of a word.
 pub fn randomize(word: &mut [u8])
-    requires { ⌜ length (now word) ≡ 1890 ⌝ }
-    ensures { λ _. ⌜ now (word .exit) ≡ bytesOf 1890 (randomize (bitAt (now (word .entry)))) ⌝ }
+    requires { ⌜ length (now word) ≡ wordBytes ⌝ }
+    ensures { λ _. ⌜ now (word .exit) ≡ bytesOf wordBytes (randomize (bitAt (now (word .entry)))) ⌝ }
 {
     // seven whole periods, and the last 105 bytes
     let mut start = 0;

@@ -27,7 +27,7 @@ use Rattle.header.specs.declared.Fields.{Fields}
 use Rattle.run.specs.Run.{planOf, streamOf, wordAt}
 use Rattle.run.specs.Rooms.{wordsRoom, blocksRoom}
 use Rattle.run.specs.Theorems.{fit}
-use Rattle.rates.specs.Rate.{infoBits, blockBytes, by-rate}
+use Rattle.sizes.specs.Rate.{infoBits, blockBytes, by-rate}
 
 -- a packed block is always written
 pub coded : (f : Fields) → Valid f → (frames : List ℕ) (j n : ℕ) (block old new : List ℕ) → block ≡ blockAt (f .rate) (streamBit (f .size) (f .frames) frames) j → n ≡ wordBytes

@@ -3,7 +3,7 @@ use mathlib.Core.Path.{_≡_, refl, sym, ap, _∙_}
 use mathlib.Core.List.{List}
 use Prim.Native.Nat.{ℕ, _*_, _<_}
 use lib.ListN.{length}
-use Rattle.rates.specs.Rate.{infoBits, blockBytes}
+use Rattle.sizes.specs.Rate.{infoBits, blockBytes}
 use Rattle.word.specs.Word.{blockIn}
 use Rattle.header.specs.Quantities.{blockCount, slotBytes}
 use Rattle.header.specs.Valid.{Valid}

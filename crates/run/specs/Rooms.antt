@@ -7,7 +7,7 @@ use Rattle.header.specs.Quantities.{blockCount, frameBytes, slotBytes}
 use Rattle.header.specs.Valid.{Valid}
 use Rattle.header.specs.declared.Fields.{Fields}
 use Rattle.header.specs.declared.Parameters.{Parameters}
-use Rattle.rates.specs.Rate.{blockBytes}
+use Rattle.sizes.specs.Rate.{blockBytes}
 use Rattle.slots.specs.declared.Plan.{Plan}
 use Rattle.slots.specs.Plan.{Fine}
 use Rattle.slots.specs.Plan as Slots

@@ -7,7 +7,7 @@ use lib.Dec.{eqb}
 use lib.ListN.{length}
 use Rattle.bits.specs.Table.{both}
 use Rattle.bits.specs.First.{upTo}
-use Rattle.rates.specs.Rate.{infoBits, blockBytes}
+use Rattle.sizes.specs.Rate.{infoBits, blockBytes}
 use Rattle.word.specs.Word.{wordOf, blockIn}
 use Rattle.word.specs.Word.{readSays as wordReads}
 use Rattle.word.specs.Answer.{readNumber}

@@ -8,7 +8,7 @@ use lib.Dec.{eqb}
 use lib.ListN.{length}
 use Rattle.bits.specs.Choice.{pick}
 use Rattle.bits.specs.First.{up-to-le}
-use Rattle.rates.specs.Rate.{infoBits}
+use Rattle.sizes.specs.Rate.{infoBits}
 use Rattle.word.specs.Answer.{readNumber}
 use Rattle.word.specs.declared.ReadAnswer.{ReadAnswer}
 use Rattle.word.specs.declared.ReadAnswer.the-variants as R

@@ -6,7 +6,7 @@ use Prim.Native.Nat.{ℕ, _*_}
 use lib.Dec.{eqb}
 use Rattle.bits.specs.Choice.{pick}
 use Rattle.bits.specs.Pack.{bytesOf}
-use Rattle.rates.specs.Rate.{infoBits}
+use Rattle.sizes.specs.Rate.{infoBits}
 use Rattle.word.specs.Word.{wordOf}
 use Rattle.header.specs.Header.{fieldsOf}
 use Rattle.header.specs.Quantities as quantities

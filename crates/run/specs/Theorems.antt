@@ -9,7 +9,7 @@ use lib.ListN.{length}
 use borrow.Author.Tests.{eq-eqb, eqb-true}
 use Rattle.bits.specs.First.{all-pass, none-fails}
 use Rattle.bits.specs.Pack.{Bytes, Bits}
-use Rattle.rates.specs.Rate.{infoBits, blockBytes}
+use Rattle.sizes.specs.Rate.{infoBits, blockBytes}
 use Rattle.word.specs.Word.{wordOf, blockIn}
 use Rattle.word.specs.Word.{readSays as wordReads}
 use Rattle.word.specs.Word.Laws.{Packed}

@@ -10,7 +10,7 @@ use slots::Plan;
 use word::ReadAnswer;
 ghost use mathlib.Core.Path.{_≡_};
 ghost use Prim.Native.Nat.{ℕ, _*_, _<_};
-ghost use Rattle.rates.specs.Rate.{infoBits, blockBytes};
+ghost use Rattle.sizes.specs.Rate.{infoBits, blockBytes};
 ghost use Rattle.frames.specs.Stream.{joined, framesIn};
 ghost use Rattle.frames.specs.Answer.{framesSay};
 ghost use Rattle.word.specs.Answer.{readNumber, afterRead};
@@ -84,7 +84,7 @@ fn read_words(f: Fields, p: Plan, slots: &[u8], word: &mut [u8], blocks: &mut [u
     ensures { λ r. ⌜ (r ≡ RunT.Done → (j : ℕ) → j < blockCount f → part (blockBytes (f .rate)) (now (blocks .exit)) j ≡ blockIn (f .rate) (wordOut p (now (slots .entry)) j)) ⌝ }
 {
     let n = quantities::block_count(f);
-    let h = rates::block_bytes(f.rate);
+    let h = sizes::block_bytes(f.rate);
     let mut j = 0;
     while j < n {
         let at = j * h;

@@ -18,7 +18,7 @@ fn code_word(f: Fields, frames: &[u8], j: usize, space: &mut [u8], word: &mut [u
     let rate = f.rate;
     let size = f.size;
     let count = f.frames;
-    let h = rates::block_bytes(rate);
+    let h = sizes::block_bytes(rate);
     frames::fill_block(rate, frames, size, count, j, &mut space[..h]);
     word::write(rate, &space[..h], word);
 }

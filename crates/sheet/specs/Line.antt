@@ -4,7 +4,7 @@ use mathlib.Core.List.{List, [], _∷_, _++_}
 use Prim.Native.Nat.{ℕ}
 use native.Mathlib.Omega.{arith}
 use lib.ListN.{length, take}
-use Rattle.rates.specs.Rate.{inputsPer, codedPer}
+use Rattle.sizes.specs.Rate.{inputsPer, codedPer}
 use Rattle.header.specs.Header.{fieldsOf}
 use Rattle.header.specs.Quantities.{pulseOrder, blockCount, symbolCount, slotCount}
 use Rattle.header.specs.Questions.{headerNumber, headerSays}

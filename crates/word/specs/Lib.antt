@@ -1,6 +1,5 @@
-pub mod Answer
 pub mod Word
-pub mod Rooms
+pub mod Needs
 pub mod Bursts
 pub mod Theorems
 pub mod Exports

@@ -12,25 +12,25 @@ use Rattle.bits.specs.Choice.{bool, bool-lt, bool-true, bit-cases, eq-or-ne}
 use Rattle.bits.specs.Sum.{sum3, xor-cancel, xor-bit, same-xor}
 use Rattle.bits.specs.Pack.{bitAt, bytesOf, Bytes, Bits, bit-lt, bit-bytes, length-bytes, plus, length-plus, bit-plus, bytes-plus}
 use Rattle.bits.specs.Weight.{differences, differences-weight, differences-same, weight, weight-same}
-use Rattle.rates.specs.Rate.{infoBits, blockBytes}
+use Rattle.sizes.specs.Rate.{infoBits, blockBytes}
+use Rattle.sizes.specs.Sizes.{wordBits, wordBytes}
 use Rattle.convolution.specs.Code.{encode, encode-bits, encode-plus}
 use Rattle.convolution.specs.Distance.{distance, weight-distance}
-use Rattle.interleaver.specs.Interleaver.{wordBits, deinterleave}
+use Rattle.interleaver.specs.Interleaver.{deinterleave}
 use Rattle.accumulator.specs.Accumulator.{differentiate}
-use Rattle.word.specs.Answer.{readNumber}
+use Rattle.answers.specs.Answer.{numberOf}
 use Rattle.word.specs.Bursts.{burst, no-code}
-use Rattle.word.specs.Word.{wordBytes, inputOf, codedOf, wordOf, blockIn, codedIn, inputIn, writeSays, readSays, firstWrong, endsInZeros}
+use Rattle.word.specs.Word.{inputOf, codedOf, wordOf, blockIn, codedIn, inputIn, writeSays, readSays, firstWrong, endsInZeros}
 use Rattle.word.specs.Word.Laws.{Packed}
 use Rattle.word.specs.Word.Laws as Laws
 use Rattle.word.specs.Word.Answers as Answers
-use Rattle.word.specs.declared.WriteAnswer.the-variants as W
-use Rattle.word.specs.declared.ReadAnswer.the-variants as R
+use Rattle.answers.specs.declared.Answer.the-variants.{Done, No}
 
 -- ---- Demand 2, for words: the reader accepts exactly the written words.
 
 -- Reading what was written gives the block back.
-pub written-read : (rate : ℕ) (block : List ℕ) → Bytes block → writeSays rate block wordBytes ≡ W.Written
-    → (readSays rate (wordOf rate block) (length block) ≡ R.Block) × (blockIn rate (wordOf rate block) ≡ block)
+pub written-read : (rate : ℕ) (block : List ℕ) → Bytes block → writeSays rate block wordBytes ≡ Done
+    → (readSays rate (wordOf rate block) (length block) ≡ Done) × (blockIn rate (wordOf rate block) ≡ block)
 written-read rate block b e =
     let a = Answers.write-accepted rate block wordBytes e in
     let h : rate < 3 = a .rate-is in
@@ -41,8 +41,8 @@ written-read rate block b e =
     )
 
 -- Whatever is accepted was written from the block that is returned.
-pub read-written : (rate : ℕ) (word : List ℕ) (n : ℕ) → Bytes word → readSays rate word n ≡ R.Block
-    → (writeSays rate (blockIn rate word) (length word) ≡ W.Written) × (wordOf rate (blockIn rate word) ≡ word)
+pub read-written : (rate : ℕ) (word : List ℕ) (n : ℕ) → Bytes word → readSays rate word n ≡ Done
+    → (writeSays rate (blockIn rate word) (length word) ≡ Done) × (wordOf rate (blockIn rate word) ≡ word)
 read-written rate word n b e =
     let a = Answers.read-accepted rate word n e in
     let h : rate < 3 = a .rate-is in (
@@ -57,8 +57,8 @@ plus3-bit a b c e f j = bit-plus (plus a b) c f j ∙ ap (λ (v : ℕ). bitXor v
 -- ---- Demand 3, sums: the word of the sum of three blocks is the sum of their words.
 
 pub sums : (rate : ℕ) (a b c : List ℕ) → Bytes a → Bytes b → Bytes c
-    → writeSays rate a wordBytes ≡ W.Written → writeSays rate b wordBytes ≡ W.Written → writeSays rate c wordBytes ≡ W.Written
-    → (writeSays rate (plus (plus a b) c) wordBytes ≡ W.Written)
+    → writeSays rate a wordBytes ≡ Done → writeSays rate b wordBytes ≡ Done → writeSays rate c wordBytes ≡ Done
+    → (writeSays rate (plus (plus a b) c) wordBytes ≡ Done)
     × (wordOf rate (plus (plus a b) c) ≡ plus (plus (wordOf rate a) (wordOf rate b)) (wordOf rate c))
 sums rate a b c ha hb hc ea eb ec =
     let h : rate < 3 = Answers.write-accepted rate a wordBytes ea .rate-is in
@@ -93,7 +93,7 @@ sums rate a b c ha hb hc ea eb ec =
 
 -- ---- Demand 3, distances: the coded bits of blocks that differ differ in at least 8, 5 or 3 places.
 
-pub distances : (rate : ℕ) (a b : List ℕ) → Bytes a → Bytes b → writeSays rate a wordBytes ≡ W.Written → writeSays rate b wordBytes ≡ W.Written
+pub distances : (rate : ℕ) (a b : List ℕ) → Bytes a → Bytes b → writeSays rate a wordBytes ≡ Done → writeSays rate b wordBytes ≡ Done
     → (i : ℕ) → i < infoBits rate → (bitAt a i ≡ bitAt b i → ⊥)
     → distance rate ≤ differences (codedIn (wordOf rate a)) (codedIn (wordOf rate b)) wordBits
 distances rate a b ha hb ea eb i l ne =
@@ -127,14 +127,14 @@ abbrev pub WithinBurst : (ℕ → Bool) → ℕ → Type 0
 WithinBurst flips start = (j : ℕ) → j < wordBits → flips j ≡ true → (start ≤ j) × (j < start + burst)
 
 -- One or more flipped bits within 18 consecutive ones: the reader says 13 or 14, or 8 where the slice for the block has another length.
-pub flips-found : (rate : ℕ) (block : List ℕ) → Bytes block → writeSays rate block wordBytes ≡ W.Written
+pub flips-found : (rate : ℕ) (block : List ℕ) → Bytes block → writeSays rate block wordBytes ≡ Done
     → (flips : ℕ → Bool) (start : ℕ) → WithinBurst flips start → (i : ℕ) → i < wordBits → flips i ≡ true
     → (n : ℕ)
-    → (n ≡ blockBytes rate → (readNumber (readSays rate (flipped flips (wordOf rate block)) n) ≡ 13) ⊎ (readNumber (readSays rate (flipped flips (wordOf rate block)) n) ≡ 14))
-    × ((n ≡ blockBytes rate → ⊥) → readNumber (readSays rate (flipped flips (wordOf rate block)) n) ≡ 8)
+    → (n ≡ blockBytes rate → (numberOf (readSays rate (flipped flips (wordOf rate block)) n) ≡ 13) ⊎ (numberOf (readSays rate (flipped flips (wordOf rate block)) n) ≡ 14))
+    × ((n ≡ blockBytes rate → ⊥) → numberOf (readSays rate (flipped flips (wordOf rate block)) n) ≡ 8)
 flips-found rate block b e flips start within i l f n = (
   λ q. cases (eq-or-ne (firstWrong rate (codedIn other) (inputIn rate other)) wordBits) q,
-  λ q. ap readNumber (Answers.read-block-length rate other n h size q),
+  λ q. ap numberOf (Answers.read-block-length rate other n h size q),
 )
   where
     h : rate < 3
@@ -168,12 +168,12 @@ flips-found rate block b e flips start within i l f n = (
             (λ j. xor-bit (bitAt (wordOf rate block) j) (bool (flips j)) (bit-lt (wordOf rate block) j) (bool-lt (flips j))) j (omega arith)
 
     terminated : (t : Bool) → endsInZeros rate (inputIn rate other) ≡ t → firstWrong rate (codedIn other) (inputIn rate other) ≡ wordBits → n ≡ blockBytes rate
-        → (readNumber (readSays rate other n) ≡ 13) ⊎ (readNumber (readSays rate other n) ≡ 14)
+        → (numberOf (readSays rate other n) ≡ 13) ⊎ (numberOf (readSays rate other n) ≡ 14)
     terminated true z c q = absurd (passed c z)
-    terminated false z c q = inr (ap readNumber (Answers.read-judged rate other n h size q ∙ Answers.judged-unterminated rate (codedIn other) (inputIn rate other) c z))
+    terminated false z c q = inr (ap numberOf (Answers.read-judged rate other n h size q ∙ Answers.judged-unterminated rate (codedIn other) (inputIn rate other) c z))
 
     cases : (firstWrong rate (codedIn other) (inputIn rate other) ≡ wordBits) ⊎ (firstWrong rate (codedIn other) (inputIn rate other) ≡ wordBits → ⊥) → n ≡ blockBytes rate
-        → (readNumber (readSays rate other n) ≡ 13) ⊎ (readNumber (readSays rate other n) ≡ 14)
+        → (numberOf (readSays rate other n) ≡ 13) ⊎ (numberOf (readSays rate other n) ≡ 14)
     cases c q =
         ⊎-elim (λ (y : firstWrong rate (codedIn other) (inputIn rate other) ≡ wordBits). terminated (endsInZeros rate (inputIn rate other)) refl y q)
-        (λ (no : firstWrong rate (codedIn other) (inputIn rate other) ≡ wordBits → ⊥). inl (ap readNumber (Answers.read-judged rate other n h size q ∙ Answers.judged-miscoded rate (codedIn other) (inputIn rate other) no))) c
+        (λ (no : firstWrong rate (codedIn other) (inputIn rate other) ≡ wordBits → ⊥). inl (ap numberOf (Answers.read-judged rate other n h size q ∙ Answers.judged-miscoded rate (codedIn other) (inputIn rate other) no))) c

@@ -3,6 +3,7 @@ use mathlib.Core.Path.{_≡_}
 use Prim.Native.Nat.{_+_, _-_, _%_, _≤_}
 use native.Mathlib.Omega.{arith}
 use borrow.Author.Needs.{needs}
+use Rattle.sizes.specs.Sizes.{wordBytes}
 use Rattle.randomizer.specs.Bytes.{Added, added-none, added-part, added-all}
 use Rattle.randomizer.proofs.randomize.Statement.{statement}
 use Rattle.randomizer.proofs.randomize.Tie as tie
@@ -43,8 +44,8 @@ returns c =
     let l = c .before .before .before .before .before .loop in
     let s = c .before .before .before .before .before .before .before in
     let part = c .before .before .add-period2 in
-    let done : l .start + 105 ≡ 1890 = omega arith in
-    added-all 1890 (s .args .word .now) (part .last .0) (s .pre)
+    let done : l .start + 105 ≡ wordBytes = omega arith in
+    added-all wordBytes (s .args .word .now) (part .last .0) (s .pre)
     (rw done at (added-part (s .args .word .now) (l .word) (part .last .0) (l .start) (l .start + 105) (omega arith) (l .inv .2) (part .ensures)))
 
 pub randomize-spec : {M : Type 1} → statement M

@@ -14,13 +14,14 @@ use Rattle.bits.specs.Sum.{sum3}
 use Rattle.bits.specs.Table.{both-true, tab, getD-tab, tab-same}
 use Rattle.bits.specs.First.{none-fails, all-pass}
 use Rattle.bits.specs.Pack.{val, bitAt, bytesOf, cut, Bytes, Bits, bit-lt, bit-bytes, bit-val, val-bits, val-same, bytes-made, bytes-same, bytes-are, length-bytes, cut-in, cut-past, cut-bits, cut-same, cut-sum3}
-use Rattle.rates.specs.Rate.{infoBits, inputBits, blockBytes, block-size}
+use Rattle.sizes.specs.Rate.{infoBits, inputBits, blockBytes, block-size}
+use Rattle.sizes.specs.Sizes.{wordBits, wordBytes}
 use Rattle.crc.specs.Check.{register, register-same, register-lt, checkBit, checked, checked-block, checked-check, checked-bits, checked-same, checked-sum3}
 use Rattle.convolution.specs.Code.{encode, encode-bits, encode-same, encode-plus, decode-bits, decode-same, decode-encode}
-use Rattle.interleaver.specs.Interleaver.{wordBits, interleave, deinterleave, interleave-bits, deinterleave-bits, interleave-same, deinterleave-same, deinterleave-interleave, interleave-deinterleave, interleave-plus, deinterleave-plus}
+use Rattle.interleaver.specs.Interleaver.{interleave, deinterleave, interleave-bits, deinterleave-bits, interleave-same, deinterleave-same, deinterleave-interleave, interleave-deinterleave, interleave-plus, deinterleave-plus}
 use Rattle.accumulator.specs.Accumulator.{accumulate, differentiate, accumulate-bits, differentiate-bits, accumulate-same, differentiate-same, accumulate-plus, differentiate-plus, differentiate-accumulate, accumulate-differentiate}
 use Rattle.randomizer.specs.Randomizer.{randomize, randomize-bits, randomize-same, randomize-twice, randomize-plus, randomize-sum3}
-use Rattle.word.specs.Word.{wordBytes, inputOf, codedOf, shuffled, wordOf, codedIn, inputIn, packedBlock, blockIn, agrees, firstWrong, endsInZeros, checkRight}
+use Rattle.word.specs.Word.{inputOf, codedOf, shuffled, wordOf, codedIn, inputIn, packedBlock, blockIn, agrees, firstWrong, endsInZeros, checkRight}
 
 -- ---- bits all the way
 

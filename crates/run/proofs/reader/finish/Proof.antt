@@ -1,7 +1,7 @@
 -- The frames are judged before a byte of them is written.
 use mathlib.Core.Path.{sym, ap, _∙_}
 use Prim.Native.Nat.{ℕ, _*_}
-use Rattle.rates.specs.Rate.{infoBits, blockBytes}
+use Rattle.sizes.specs.Rate.{infoBits, blockBytes}
 use Rattle.header.specs.Quantities.{frameBytes}
 use Rattle.frames.specs.Stream.{joined, framesIn}
 use Rattle.frames.specs.Answer.{framesSay}

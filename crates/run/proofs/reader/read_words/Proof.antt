@@ -8,7 +8,7 @@ use native.Mathlib.Nat.{mul-le-mul, le-refl}
 use lib.ListN.{length, take, drop}
 use borrow.Rule.Slice.PartMut.{putMid, mid-len, same-len-mid}
 use Rattle.bits.specs.First.{upTo, first-on}
-use Rattle.rates.specs.Rate.{blockBytes}
+use Rattle.sizes.specs.Rate.{blockBytes}
 use Rattle.word.specs.Word.{blockIn}
 use Rattle.word.specs.Answer.{afterRead}
 use Rattle.word.specs.declared.ReadAnswer.{ReadAnswer}

@@ -5,7 +5,7 @@ use Prim.Native.Nat.{ℕ, _≤_}
 use native.Mathlib.Omega.{arith}
 use lib.ListN.{length, take, drop}
 use lib.Seq.{length-take-le, take-at, length-front}
-use Rattle.rates.specs.Rate.{blockBytes, block-room}
+use Rattle.sizes.specs.Rate.{blockBytes, block-room}
 use Rattle.header.specs.Bounds.{blocks-most}
 use Rattle.run.specs.Coding.{coded, frames-lent}
 use borrow.Author.Needs.{needs}

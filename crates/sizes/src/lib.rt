@@ -1,7 +1,17 @@
-// The sizes of a block at each code rate: 0 for 1/3, 1 for 1/2, 2 for 2/3.
+// The sizes that several crates share: those of a word, of a marked frame, and of a block at each code rate (0 for 1/3, 1 for 1/2, 2 for 2/3).
 ghost use mathlib.Core.Path.{_≡_};
 ghost use Prim.Native.Nat.{_<_};
-ghost use Rattle.rates.specs.Rate.{infoBits, inputBits, blockBytes};
+ghost use Rattle.sizes.specs.Rate.{infoBits, inputBits, blockBytes};
+
+// The coded bits of a word, and its bytes.
+pub const WORD_BITS: usize = 15120;
+
+pub const WORD_BYTES: usize = 1890;
+
+// The frame marker, and its bits.
+pub const FRAME_MARKER: u64 = 0x034776C7272895B0;
+
+pub const MARKER_BITS: usize = 64;
 
 const THIRD: usize = 5006;
 

@@ -1,9 +1,9 @@
 -- `block_bytes` meets its contract: it computes `blockBytes` from what `info_bits` answers, and no sum wraps, since a block is at most 10,046 bits long.
 use native.Mathlib.Omega.{arith}
 use borrow.Author.Needs.{needs}
-use Rattle.rates.specs.Rate.{blockBytes, info-le}
-use Rattle.rates.proofs.block_bytes.Statement.{statement}
-use Rattle.rates.proofs.block_bytes.Tie as tie
+use Rattle.sizes.specs.Rate.{blockBytes, info-le}
+use Rattle.sizes.proofs.block_bytes.Statement.{statement}
+use Rattle.sizes.proofs.block_bytes.Tie as tie
 
 info-bits-requires : tie.Need-info-bits-requires
 info-bits-requires c κs = search needs
