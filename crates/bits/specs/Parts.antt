@@ -53,7 +53,7 @@ push-byte xs b at i l =
 
 -- ---- zeros behind
 
-val-none : (f : ℕ → ℕ) (n : ℕ) → ((i : ℕ) → i < n → f i ≡ 0) → val f n ≡ 0
+pub val-none : (f : ℕ → ℕ) (n : ℕ) → ((i : ℕ) → i < n → f i ≡ 0) → val f n ≡ 0
 unfolding val
 val-none f zero h = refl
 val-none f (suc n) h = let a = val-none f n (λ i l. h i (omega arith)) in let b = h n (omega arith) in omega arith
