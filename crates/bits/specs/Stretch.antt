@@ -36,6 +36,15 @@ laid-on before middle after at m n f g p q same =
           (lt-or-le t m);
     }
 
+-- the same bits
+pub laid-same : (before after : List ℕ) (at n : ℕ) (f g : ℕ → ℕ) → ((u : ℕ) → u < 8 * n → f u ≡ g u) → Laid before at n f after → Laid before at n g after
+laid-same before after at n f g same l =
+    record {
+      long = l .long;
+      earlier = l .earlier;
+      here = λ t h. l .here t h ∙ val-same (λ u. f (8 * t + u)) (λ u. g (8 * t + u)) 8 (λ u k. same (8 * t + u) (omega arith));
+    }
+
 -- one byte
 pub laid-one : (before : List ℕ) (at v : ℕ) (f : ℕ → ℕ) → at < length before → v ≡ val f 8 → Laid before at 1 f (set before at v)
 laid-one before at v f l e =
@@ -46,6 +55,13 @@ laid-one before at v f l e =
           let z : at + t ≡ at = omega arith in
           ap (λ (i : ℕ). getD (set before at v) i 0) z ∙ getD-set-same before at v 0 l ∙ e ∙ val-same f (λ u. f (8 * t + u)) 8 (λ u k. ap f (omega arith));
     }
+
+-- n bytes, at least one, were laid from `at` on: no more than `bits` bits and `room` bytes
+pub record Made (bits room : ℕ) (before : List ℕ) (at n : ℕ) (f : ℕ → ℕ) (after : List ℕ) : Type 0 where
+  pub some : 1 ≤ n
+  pub few : 8 * n ≤ bits
+  pub fit : n ≤ room
+  pub laid : Laid before at n f after
 
 -- ---- out of packed bytes
 

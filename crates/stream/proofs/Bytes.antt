@@ -7,13 +7,13 @@ use native.Mathlib.Nat.{mul-left-comm, mul-le-mul, le-refl}
 use lib.ListN.{length, set}
 use Rattle.bits.specs.Pack.{val, bitAt, val-same}
 use Rattle.bits.specs.Parts.{val-none}
-use Rattle.bits.specs.Stretch.{Laid, laid-one, laid-on}
+use Rattle.bits.specs.Stretch.{Laid, Made, laid-same, laid-one, laid-on}
 use Rattle.bits.specs.Places.{At}
 use Rattle.bits.specs.declared.places.Place.{Place}
 use Rattle.sizes.specs.Sizes.{markerBits, span}
 use Rattle.stream.specs.Stream.{markerBit, streamBit}
 use Rattle.stream.specs.Laws.{stream-mark, stream-frame, stream-fill}
-use Rattle.stream.specs.Needs.{Frames, Together, Made}
+use Rattle.stream.specs.Needs.{Frames, Together}
 
 module _ (size count : ℕ) (frames : List ℕ) where
   -- the stream from bit r of marked frame j on
@@ -52,12 +52,12 @@ module _ (size count : ℕ) (frames : List ℕ) where
 
   -- one byte, or n that lie together
   pub made-one : (at : Place) (block : List ℕ) (i v : ℕ) → i < length block → v ≡ val (streamFrom (at .piece) (at .bit)) 8
-      → Made (span size) block i 1 (streamFrom (at .piece) (at .bit)) (set block i v)
+      → Made (span size) (length block - i) block i 1 (streamFrom (at .piece) (at .bit)) (set block i v)
   made-one at block i v l e =
       record { some = omega arith; few = omega arith; fit = omega arith; laid = laid-one block i v (streamFrom (at .piece) (at .bit)) l e }
 
   pub made-together : (at : Place) (before after : List ℕ) (i n : ℕ) → i ≤ length before → Together size count at (length before - i) n → 1 ≤ n
-      → Laid before i n (λ t. bitAt frames (at .piece * (8 * size) + (at .bit - markerBits) + t)) after → Made (span size) before i n (streamFrom (at .piece) (at .bit)) after
+      → Laid before i n (λ t. bitAt frames (at .piece * (8 * size) + (at .bit - markerBits) + t)) after → Made (span size) (length before - i) before i n (streamFrom (at .piece) (at .bit)) after
   made-together at before after i n l t h laid =
       let few = t .few in
       let end = t .end h in
@@ -65,17 +65,13 @@ module _ (size count : ℕ) (frames : List ℕ) where
         some = h;
         few = omega arith;
         fit = omega arith;
-        laid = record {
-          long = laid .long;
-          earlier = laid .earlier;
-          here = λ k m. laid .here k m ∙ val-same (λ u. bitAt frames (at .piece * (8 * size) + (at .bit - markerBits) + (8 * k + u))) (λ u. streamFrom (at .piece) (at .bit) (8 * k + u)) 8 (λ u w.
-              frame-bit (at .piece) (at .bit) (8 * k + u) (t .frame h) (t .start h) (omega arith));
-        };
+        laid = laid-same before after i n (λ t. bitAt frames (at .piece * (8 * size) + (at .bit - markerBits) + t)) (streamFrom (at .piece) (at .bit)) (λ u w.
+            frame-bit (at .piece) (at .bit) u (t .frame h) (t .start h) (omega arith)) laid;
       }
 
   -- a turn of the loop that fills a block with the stream from bit x on
   pub made-more : (x i n k : ℕ) (at : Place) (first block after : List ℕ) → k ≡ span size → At k (x + 8 * i) at → Laid first 0 i (λ t. streamBit size count frames (x + t)) block
-      → Made (span size) block i n (streamFrom (at .piece) (at .bit)) after → Laid first 0 (i + n) (λ t. streamBit size count frames (x + t)) after
+      → Made (span size) (length block - i) block i n (streamFrom (at .piece) (at .bit)) after → Laid first 0 (i + n) (λ t. streamBit size count frames (x + t)) after
   made-more x i n k at first block after e a l m =
       let z : i ≡ 0 + i = omega arith in
       let w : at .piece * span size + at .bit ≡ x + 8 * i = ap (λ (j : ℕ). at .piece * j + at .bit) (sym e) ∙ a .place in

@@ -1,9 +1,8 @@
 -- What the functions ask of their arguments, and what the private ones say of what they did.
 use mathlib.Core.Path.{_≡_}
 use mathlib.Core.List.{List}
-use Prim.Native.Nat.{ℕ, _+_, _-_, _*_, _/_, _%_, _^_, _≤_, _<_}
+use Prim.Native.Nat.{ℕ, _+_, _*_, _^_, _≤_, _<_}
 use lib.ListN.{length}
-use Rattle.bits.specs.Stretch.{Laid}
 use Rattle.bits.specs.declared.places.Place.{Place}
 use Rattle.sizes.specs.Sizes.{markerBits, span}
 
@@ -26,10 +25,3 @@ pub record Together (size count : ℕ) (at : Place) (most n : ℕ) : Type 0 wher
   pub frame : 1 ≤ n → at .piece < count
   pub start : 1 ≤ n → markerBits ≤ at .bit
   pub end : 1 ≤ n → at .bit + 8 * n + 8 ≤ span size
-
--- n bytes, at least one, were laid from byte i on, no more than `most` bits
-pub record Made (most : ℕ) (before : List ℕ) (i n : ℕ) (f : ℕ → ℕ) (after : List ℕ) : Type 0 where
-  pub some : 1 ≤ n
-  pub few : 8 * n ≤ most
-  pub fit : i + n ≤ length before
-  pub laid : Laid before i n f after

@@ -5,13 +5,14 @@ use bits::places;
 use bits::places::Place;
 use bits::stretch;
 ghost use mathlib.Core.Path.{_≡_};
-ghost use Prim.Native.Nat.{_+_, _*_, _^_, _≤_, _<_};
+ghost use Prim.Native.Nat.{_+_, _-_, _*_, _^_, _≤_, _<_};
 ghost use lib.ListN.{length};
 ghost use Rattle.bits.specs.Pack.{val, bytesOf};
+ghost use Rattle.bits.specs.Stretch.{Made};
 ghost use Rattle.sizes.specs.Sizes.{span};
 ghost use Rattle.sizes.specs.Rate.{blockBytes};
 ghost use Rattle.stream.specs.Stream.{streamBit, blockAt};
-ghost use Rattle.stream.specs.Needs.{Frames, Placed, Together, Made};
+ghost use Rattle.stream.specs.Needs.{Frames, Placed, Together};
 
 // How many bytes lie together in a frame from a place of the stream on, at most `most`; the byte behind them lies in the frame too.
 fn together(size: usize, count: usize, at: Place, most: usize) -> usize
@@ -63,7 +64,7 @@ fn some_bytes(
     i: usize,
 ) -> usize
     requires { ⌜ Frames size count (now frames) × Placed size at × (i < length (now block)) ⌝ }
-    ensures { λ n. ⌜ Made (span size) (now (block .entry)) i n (λ t. streamBit size count (now (frames .entry)) (at .piece * span size + at .bit + t)) (now (block .exit)) ⌝ }
+    ensures { λ n. ⌜ Made (span size) (length (now (block .entry)) - i) (now (block .entry)) i n (λ t. streamBit size count (now (frames .entry)) (at .piece * span size + at .bit + t)) (now (block .exit)) ⌝ }
 {
     let frame = at.piece;
     let bit = at.bit;
