@@ -5,7 +5,6 @@ use mathlib.Core.Bool.{Bool, true, false}
 use mathlib.Core.List.{List}
 use Prim.Native.Nat.{ℕ, _+_, _*_, _^_, _<_}
 use native.Mathlib.Omega.{arith}
-use lib.Dec.{eqb}
 use Rattle.answers.specs.declared.Answer.{Answer}
 use Rattle.answers.specs.declared.Answer.the-variants.{Done, No}
 
@@ -61,6 +60,11 @@ no-done e = let z : _≡_ {A = ℕ} 0 1 = cc in omega arith
 pub then-done : (a b : Answer) → then a b ≡ Done → (a ≡ Done) × (b ≡ Done)
 then-done Done b e = (refl, e)
 then-done (No number place) b e = absurd (no-done e)
+
+-- questions in order need no brackets
+pub then-then : (a b c : Answer) → then (then a b) c ≡ then a (then b c)
+then-then Done b c = refl
+then-then (No number place) b c = refl
 
 pub ask-done : (t : Bool) (number place : ℕ) → ask t number place ≡ Done → t ≡ true
 ask-done true number place e = refl

@@ -6,8 +6,8 @@ use native.Mathlib.Omega.{arith}
 use native.Mathlib.Nat.{le-refl, mul-le-mul}
 use lib.ListN.{length}
 use lib.Pow.{pow-mono}
-use Rattle.slots.specs.declared.Plan.{Plan}
-use Rattle.slots.specs.Plan.{Fine, total, symbolCount, slotBytes}
+use Rattle.plan.specs.declared.Plan.{Plan}
+use Rattle.plan.specs.Plan.{Fine, total, symbolCount, slotBytes}
 use Rattle.slots.specs.Laws.{order-least, group-least, symbols-most, spread-most}
 use Rattle.slots.specs.Channel.{symbols-least}
 

@@ -7,8 +7,8 @@ use lib.ListN.{length, getD}
 use Rattle.bits.specs.Choice.{pick}
 use Rattle.bits.specs.First.{upTo}
 use Rattle.bits.specs.Pack.{bitAt, bytesOf}
-use Rattle.slots.specs.declared.Plan.{Plan}
-use Rattle.slots.specs.Plan.{unit, total, symbolCount}
+use Rattle.plan.specs.declared.Plan.{Plan}
+use Rattle.plan.specs.Plan.{unit, total, symbolCount}
 use Rattle.slots.specs.Slots.{place, hitBy, placeOf}
 use Rattle.slots.specs.Channel.{symbolOf}
 

@@ -10,8 +10,8 @@ use borrow.Author.Tests.{ltb-true, lt-ltb, eqb-true, eqb-false, eq-eqb, ne-eqb}
 use Rattle.bits.specs.Choice.{pick, bool, lt-or-le, eq-or-ne, bit-cases}
 use Rattle.bits.specs.First.{upTo, none-fails, found, found-at, found-none, none-found}
 use Rattle.bits.specs.Pack.{bitAt, bit-lt}
-use Rattle.slots.specs.declared.Plan.{Plan}
-use Rattle.slots.specs.Plan.{Fine, symbolCount}
+use Rattle.plan.specs.declared.Plan.{Plan}
+use Rattle.plan.specs.Plan.{Fine, symbolCount}
 use Rattle.slots.specs.Laws.{group-least}
 use Rattle.capture.specs.Capture.{empty, pulse, symbolIn, firstBadGroup}
 

@@ -12,8 +12,8 @@ use lib.ListN.{getD}
 use borrow.Author.Tests.{lt-ltb, le-ltb}
 use Rattle.bits.specs.Choice.{pick, lt-or-le}
 use Rattle.bits.specs.First.{upTo, first-skip, first-end, found, found-at}
-use Rattle.slots.specs.declared.Plan.{Plan}
-use Rattle.slots.specs.Plan.{Fine, unit, total, symbolCount}
+use Rattle.plan.specs.declared.Plan.{Plan}
+use Rattle.plan.specs.Plan.{Fine, unit, total, symbolCount}
 use Rattle.slots.specs.Slots.{hitBy, placeOf}
 use Rattle.capture.specs.Capture.{symbolIn, markRight, restZero}
 

@@ -10,16 +10,16 @@ use lib.Arith.{digits-lt, digits-div, digits-mod}
 use lib.Dec.{ltb, eqb}
 use lib.ListN.{length, getD}
 use borrow.Author.Tests.{lt-ltb, le-ltb, eq-eqb, eqb-true}
-use Rattle.bits.specs.Choice.{pick, bool, pick-yes, lt-or-le}
-use Rattle.bits.specs.First.{upTo, all-pass, none-fails, found-none, none-found}
+use Rattle.bits.specs.Choice.{pick, bool, lt-or-le}
+use Rattle.bits.specs.First.{upTo, all-pass, none-fails, found-none, none-found, up-to-le}
 use Rattle.bits.specs.Pack.{val, bitAt, Bits, Bytes, bit-lt, bit-val, val-same, val-bits, length-bytes, bytes-are, bit-bytes, bytes-made}
-use Rattle.slots.specs.declared.Plan.{Plan}
-use Rattle.slots.specs.Plan.{Fine, unit, total, symbolCount, slotBytes}
+use Rattle.plan.specs.declared.Plan.{Plan}
+use Rattle.plan.specs.Plan.{Fine, unit, total, symbolCount, slotBytes}
 use Rattle.slots.specs.Slots.{dataAt, place, hitBy, placed, placeOf, symbolAt, slotBit, slotsOf}
 use Rattle.slots.specs.Laws.{group-least, order-least, symbol-below, slot-in, slot-past, slot-bits}
 use Rattle.slots.specs.Channel.{symbolOf, hit-place, place-hit, place-lt, symbols-least, sym-mod, place-sym, sym-place, sym-lt}
-use Rattle.capture.specs.declared.SlotsAnswer.{SlotsAnswer}
-use Rattle.capture.specs.declared.SlotsAnswer.the-variants.{Good, SpareSlots, BadGroup, BadMark, BadRest}
+use Rattle.answers.specs.Answer.{ask, then-done, ask-done, Fits, fits-ask, fits-then}
+use Rattle.answers.specs.declared.Answer.the-variants.{Done}
 use Rattle.capture.specs.Capture.{empty, pulse, spareZero, symbolIn, firstBadGroup, markRight, firstBadMark, restZero, firstBadRest, wordBit, wordOut}
 use Rattle.capture.specs.Groups.{passed, group-made, tells}
 use Rattle.capture.specs.Answer.{slotsSay}
@@ -31,27 +31,23 @@ pub record Clean (p : Plan) (b : List ℕ) : Type 0 where
   pub marks : firstBadMark p b ≡ symbolCount p
   pub rest : firstBadRest p b ≡ symbolCount p
 
-pub clean-good : (p : Plan) (b : List ℕ) → Clean p b → slotsSay p b ≡ Good
+pub clean-good : (p : Plan) (b : List ℕ) → Clean p b → slotsSay p b ≡ Done
 unfolding slotsSay
 clean-good p b c =
     rw (c .spare, eq-eqb (firstBadGroup p b) (symbolCount p) (c .groups), eq-eqb (firstBadMark p b) (symbolCount p) (c .marks), eq-eqb (firstBadRest p b) (symbolCount p) (c .rest)) refl
 
-pub good-clean : (p : Plan) (b : List ℕ) → slotsSay p b ≡ Good → Clean p b
+pub good-clean : (p : Plan) (b : List ℕ) → slotsSay p b ≡ Done → Clean p b
 unfolding slotsSay
 good-clean p b e =
     let n : ℕ = symbolCount p in
-    let r12 : SlotsAnswer = pick (eqb (firstBadRest p b) n) Good (BadRest (firstBadRest p b)) in
-    let r11 : SlotsAnswer = pick (eqb (firstBadMark p b) n) r12 (BadMark (firstBadMark p b)) in
-    let r10 : SlotsAnswer = pick (eqb (firstBadGroup p b) n) r11 (BadGroup (firstBadGroup p b)) in
-    let y9 = pick-yes (spareZero p b) r10 SpareSlots Good e (λ z. let w : _≡_ {A = ℕ} 0 1 = cc in omega arith) in
-    let y10 = pick-yes (eqb (firstBadGroup p b) n) r11 (BadGroup (firstBadGroup p b)) Good (y9 .1) (λ z. let w : _≡_ {A = ℕ} 0 1 = cc in omega arith) in
-    let y11 = pick-yes (eqb (firstBadMark p b) n) r12 (BadMark (firstBadMark p b)) Good (y10 .1) (λ z. let w : _≡_ {A = ℕ} 0 1 = cc in omega arith) in
-    let y12 = pick-yes (eqb (firstBadRest p b) n) Good (BadRest (firstBadRest p b)) Good (y11 .1) (λ z. let w : _≡_ {A = ℕ} 0 1 = cc in omega arith) in
+    let y9 = then-done (ask (spareZero p b) 9 0) _ e in
+    let y10 = then-done (ask (eqb (firstBadGroup p b) n) 10 (firstBadGroup p b)) _ (y9 .1) in
+    let y11 = then-done (ask (eqb (firstBadMark p b) n) 11 (firstBadMark p b)) (ask (eqb (firstBadRest p b) n) 12 (firstBadRest p b)) (y10 .1) in
     record {
-      spare = y9 .0;
-      groups = eqb-true (firstBadGroup p b) n (y10 .0);
-      marks = eqb-true (firstBadMark p b) n (y11 .0);
-      rest = eqb-true (firstBadRest p b) n (y12 .0);
+      spare = ask-done (spareZero p b) 9 0 (y9 .0);
+      groups = eqb-true (firstBadGroup p b) n (ask-done (eqb (firstBadGroup p b) n) 10 (firstBadGroup p b) (y10 .0));
+      marks = eqb-true (firstBadMark p b) n (ask-done (eqb (firstBadMark p b) n) 11 (firstBadMark p b) (y11 .0));
+      rest = eqb-true (firstBadRest p b) n (ask-done (eqb (firstBadRest p b) n) 12 (firstBadRest p b) (y11 .1));
     }
 
 -- ---- the words that are taken out
@@ -230,7 +226,7 @@ module _ (p : Plan) (fine : Fine p) where
 
 -- what was written is good, and its words come back
 pub captured-good : (p : Plan) (word : ℕ → List ℕ) → Fine p → ((j : ℕ) → j < p .words → length (word j) ≡ 1890) → ((j : ℕ) → j < p .words → Bytes (word j))
-    → (slotsSay p (slotsOf p word) ≡ Good) × ((j : ℕ) → j < p .words → wordOut p (slotsOf p word) j ≡ word j)
+    → (slotsSay p (slotsOf p word) ≡ Done) × ((j : ℕ) → j < p .words → wordOut p (slotsOf p word) j ≡ word j)
 unfolding wordOut
 captured-good p word fine long bytes = (
   clean-good p (slotsOf p word) record { spare = pass-spare p fine word; groups = pass-groups p fine word; marks = pass-marks p fine word; rest = pass-rest p fine word },
@@ -238,7 +234,21 @@ captured-good p word fine long bytes = (
 )
 
 -- what is good is what is written of its words
-pub good-captured : (p : Plan) (b : List ℕ) → Fine p → length b ≡ slotBytes p → Bytes b → slotsSay p b ≡ Good → slotsOf p (wordOut p b) ≡ b
+pub good-captured : (p : Plan) (b : List ℕ) → Fine p → length b ≡ slotBytes p → Bytes b → slotsSay p b ≡ Done → slotsOf p (wordOut p b) ≡ b
 unfolding slotsOf
 good-captured p b fine long bytes good =
     sym (bytes-made (slotBytes p) (slotBit p (wordOut p b)) b long bytes (λ x l. slot-again p fine b (good-clean p b good) x long l))
+
+-- the answer fits the number that C gets
+pub slots-fit : (p : Plan) (b : List ℕ) → Fine p → Fits (slotsSay p b)
+unfolding slotsSay firstBadGroup firstBadMark firstBadRest
+slots-fit p b fine =
+    let n : ℕ = symbolCount p in
+    let most = fine .symbols-bound in
+    let x : firstBadGroup p b ≤ n = up-to-le _ n in
+    let y : firstBadMark p b ≤ n = up-to-le _ n in
+    let z : firstBadRest p b ≤ n = up-to-le _ n in
+    fits-then (ask (spareZero p b) 9 0) _ (fits-ask (spareZero p b) 9 0 (omega arith) (omega arith))
+    (λ e. fits-then (ask (eqb (firstBadGroup p b) n) 10 (firstBadGroup p b)) _ (fits-ask (eqb (firstBadGroup p b) n) 10 (firstBadGroup p b) (omega arith) (omega arith))
+    (λ f. fits-then (ask (eqb (firstBadMark p b) n) 11 (firstBadMark p b)) _ (fits-ask (eqb (firstBadMark p b) n) 11 (firstBadMark p b) (omega arith) (omega arith))
+    (λ g. fits-ask (eqb (firstBadRest p b) n) 12 (firstBadRest p b) (omega arith) (omega arith))))

@@ -8,8 +8,8 @@ use native.Mathlib.Omega.{arith}
 use lib.Arith.{digits-div, digits-mod}
 use lib.ListN.{length, getD, List·getD-eq-default}
 use Rattle.bits.specs.Pack.{bitAt, bytesOf, bytes-same}
-use Rattle.slots.specs.declared.Plan.{Plan}
-use Rattle.slots.specs.Plan.{Fine}
+use Rattle.plan.specs.declared.Plan.{Plan}
+use Rattle.plan.specs.Plan.{Fine}
 use Rattle.slots.specs.Slots.{place}
 use Rattle.slots.specs.Channel.{symbolOf}
 use Rattle.bits.specs.Loops.{Spread}

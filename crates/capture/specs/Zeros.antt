@@ -13,8 +13,8 @@ use borrow.Author.Tests.{lt-ltb, le-ltb, eq-eqb, ne-eqb}
 use Rattle.bits.specs.Choice.{pick, bool, lt-or-le, eq-or-ne}
 use Rattle.bits.specs.Pack.{bitAt}
 use Rattle.bits.specs.Table.{below-all}
-use Rattle.slots.specs.declared.Plan.{Plan}
-use Rattle.slots.specs.Plan.{Fine, symbolCount, slotBytes}
+use Rattle.plan.specs.declared.Plan.{Plan}
+use Rattle.plan.specs.Plan.{Fine, symbolCount, slotBytes}
 use Rattle.slots.specs.Laws.{order-least}
 use Rattle.slots.specs.Pulse.{putBit, withBit, put-same, put-other}
 use Rattle.capture.specs.Asks.{Captured}

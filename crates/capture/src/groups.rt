@@ -3,7 +3,7 @@ ghost use mathlib.Core.Path.{_≡_};
 ghost use Prim.Native.Nat.{ℕ, _+_, _*_, _/_, _≤_, _<_};
 ghost use lib.ListN.{length, getD};
 ghost use Rattle.bits.specs.First.{upTo};
-ghost use Rattle.slots.specs.Plan.{symbolCount};
+ghost use Rattle.plan.specs.Plan.{symbolCount};
 ghost use Rattle.capture.specs.Asks.{Captured};
 ghost use Rattle.capture.specs.Capture.{firstBadGroup};
 ghost use Rattle.capture.specs.Groups.{grouped};
@@ -38,7 +38,7 @@ fn difference(b: &[u8], at: usize, given: &[u8]) -> u8
 }
 
 // The first bad group of those from `from` on, or `to`.
-fn bad_group_in(p: slots::Plan, b: &[u8], from: usize, to: usize) -> usize
+fn bad_group_in(p: plan::Plan, b: &[u8], from: usize, to: usize) -> usize
     requires { ⌜ Captured p (now b) × (from ≤ to) × (to ≤ symbolCount p) ⌝ }
     ensures { λ r. ⌜ r ≡ upTo (grouped p (now (b .entry))) from to ⌝ }
 {
@@ -54,7 +54,7 @@ fn bad_group_in(p: slots::Plan, b: &[u8], from: usize, to: usize) -> usize
 }
 
 // The first bad group of those in forty bytes, the c-th forty, or the group behind them.
-fn bad_group_of_forty(p: slots::Plan, b: &[u8], c: usize, given: &[u8]) -> usize
+fn bad_group_of_forty(p: plan::Plan, b: &[u8], c: usize, given: &[u8]) -> usize
     requires { ⌜ Forty p (now b) c (now given) ⌝ }
     ensures { λ r. ⌜ r ≡ upTo (grouped p (now (b .entry))) (c * (320 / p .group)) (c * (320 / p .group) + 320 / p .group) ⌝ }
 {
@@ -67,7 +67,7 @@ fn bad_group_of_forty(p: slots::Plan, b: &[u8], c: usize, given: &[u8]) -> usize
 }
 
 // Question 10.
-pub fn first_bad_group(p: slots::Plan, b: &[u8]) -> usize
+pub fn first_bad_group(p: plan::Plan, b: &[u8]) -> usize
     requires { ⌜ Captured p (now b) ⌝ }
     ensures { λ r. ⌜ r ≡ firstBadGroup p (now (b .entry)) ⌝ }
 {

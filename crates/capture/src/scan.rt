@@ -3,7 +3,7 @@ ghost use mathlib.Core.Path.{_≡_};
 ghost use Prim.Native.Nat.{_+_, _*_, _/_, _≤_, _<_};
 ghost use lib.ListN.{length};
 ghost use Rattle.bits.specs.Pack.{val, cut};
-ghost use Rattle.slots.specs.Plan.{symbolCount};
+ghost use Rattle.plan.specs.Plan.{symbolCount};
 ghost use Rattle.capture.specs.Asks.{Captured, Grouped, Slots};
 ghost use Rattle.capture.specs.Capture.{pulse, symbolIn};
 ghost use Rattle.capture.specs.Leading.{Leads, halfOf, leftOut};
@@ -97,7 +97,7 @@ pub fn pulse_from(b: &[u8], x: usize, end: usize) -> usize
 }
 
 // The symbol of group s, or M where it has none.
-pub fn symbol_in(p: slots::Plan, b: &[u8], s: usize) -> usize
+pub fn symbol_in(p: plan::Plan, b: &[u8], s: usize) -> usize
     requires { ⌜ Captured p (now b) × (s < symbolCount p) ⌝ }
     ensures { λ r. ⌜ r ≡ symbolIn p (now (b .entry)) s ⌝ }
 {
@@ -114,7 +114,7 @@ pub fn symbol_in(p: slots::Plan, b: &[u8], s: usize) -> usize
 }
 
 // The symbol of group s, of which is known that it has one.
-pub fn symbol_there(p: slots::Plan, b: &[u8], s: usize) -> usize
+pub fn symbol_there(p: plan::Plan, b: &[u8], s: usize) -> usize
     requires { ⌜ Grouped p (now b) × (s < symbolCount p) ⌝ }
     ensures { λ r. ⌜ r ≡ symbolIn p (now (b .entry)) s ⌝ }
 {

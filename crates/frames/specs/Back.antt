@@ -10,10 +10,10 @@ use lib.Arith.{digits-lt, digits-div, digits-mod}
 use lib.Dec.{eqb}
 use lib.ListN.{length}
 use borrow.Author.Tests.{eq-eqb, eqb-true}
-use Rattle.answers.specs.Answer.{ask, ask-done, then-done}
+use Rattle.answers.specs.Answer.{ask, ask-done, then-done, Fits, fits-ask, fits-then}
 use Rattle.answers.specs.declared.Answer.the-variants.{Done}
 use Rattle.bits.specs.Choice.{lt-or-le}
-use Rattle.bits.specs.First.{upTo, all-pass, none-fails, found-none, none-found}
+use Rattle.bits.specs.First.{upTo, up-to-le, all-pass, none-fails, found-none, none-found}
 use Rattle.bits.specs.Pack.{Bits, Bytes, val, bitAt, val-same, bit-val, bit-bytes, bytes-are, bytes-made, length-bytes}
 use Rattle.sizes.specs.Sizes.{frameMarker, markerBits, span}
 use Rattle.stream.specs.Stream.{markerBit, streamBit}
@@ -27,6 +27,16 @@ both size count end st e =
     let first : ℕ = firstUnmarked size count st in
     let parts = then-done (ask (eqb first count) 16 first) (ask (fillZero size count end st) 18 0) e in
     (eqb-true first count (ask-done (eqb first count) 16 first (parts .0)), ask-done (fillZero size count end st) 18 0 (parts .1))
+
+-- the answer fits the number that C gets
+pub frames-fit : (size count end : ℕ) (stream : ℕ → ℕ) → count < 2 ^ 32 → Fits (framesSay size count end stream)
+unfolding framesSay firstUnmarked
+frames-fit size count end stream few =
+    let first : ℕ = firstUnmarked size count stream in
+    let x : first ≤ count = up-to-le _ count in
+    fits-then (ask (eqb first count) 16 first) (ask (fillZero size count end stream) 18 0)
+    (fits-ask (eqb first count) 16 first (omega arith) (omega arith))
+    (λ e. fits-ask (fillZero size count end stream) 18 0 (omega arith) (omega arith))
 
 pub frames-are : (size count : ℕ) (st : ℕ → ℕ) → Bits st → (length (framesIn size count st) ≡ count * size) × Bytes (framesIn size count st)
 unfolding framesIn

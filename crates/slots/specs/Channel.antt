@@ -10,8 +10,8 @@ use lib.Dec.{ltb, eqb}
 use borrow.Author.Tests.{lt-ltb, le-ltb, ne-eqb, eqb-true, eqb-false, not-true, not-false}
 use Rattle.bits.specs.Choice.{pick, lt-or-le}
 use Rattle.bits.specs.First.{up-to-le, all-pass, none-fails, one-fails}
-use Rattle.slots.specs.declared.Plan.{Plan}
-use Rattle.slots.specs.Plan.{Fine, unit, total, symbolCount}
+use Rattle.plan.specs.declared.Plan.{Plan}
+use Rattle.plan.specs.Plan.{Fine, unit, total, symbolCount}
 use Rattle.slots.specs.Slots.{place, hitBy, placeOf}
 
 -- ---- places

@@ -13,8 +13,8 @@ use lib.Seq.{getD-take, getD-drop}
 use borrow.Author.Tests.{lt-ltb, le-ltb}
 use Rattle.bits.specs.Choice.{pick, bool, bool-lt, lt-or-le, eq-or-ne}
 use Rattle.bits.specs.Pack.{val, bitAt, Bytes, Bits, val-lt, val-same, bit-lt, length-bytes, bytes-are, bytes-same}
-use Rattle.slots.specs.declared.Plan.{Plan}
-use Rattle.slots.specs.Plan.{Fine, unit, total, symbolCount, slotBytes}
+use Rattle.plan.specs.declared.Plan.{Plan}
+use Rattle.plan.specs.Plan.{Fine, unit, total, symbolCount, slotBytes}
 use Rattle.slots.specs.Slots.{dataAt, hitBy, placed, placeOf, symbolAt, slotBit, slotsOf, wordIn}
 use Rattle.slots.specs.Channel.{delay, symbols-least}
 

@@ -7,8 +7,8 @@ use lib.ListN.{getD, take, drop}
 use Rattle.bits.specs.Choice.{pick, bool}
 use Rattle.bits.specs.First.{upTo}
 use Rattle.bits.specs.Pack.{val, bitAt, bytesOf}
-use Rattle.slots.specs.declared.Plan.{Plan}
-use Rattle.slots.specs.Plan.{unit, total, symbolCount, slotBytes}
+use Rattle.plan.specs.declared.Plan.{Plan}
+use Rattle.plan.specs.Plan.{unit, total, symbolCount, slotBytes}
 
 -- Step 8: symbol t of all words, m bits each, the first bit highest
 unfoldable pub dataAt : Plan → (ℕ → List ℕ) → ℕ → ℕ

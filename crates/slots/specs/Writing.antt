@@ -11,8 +11,8 @@ use lib.ListN.{length, getD, length-set}
 use borrow.Author.Tests.{lt-ltb, le-ltb, eq-eqb, ne-eqb}
 use Rattle.bits.specs.Choice.{pick, bool, lt-or-le, eq-or-ne}
 use Rattle.bits.specs.Pack.{bitAt, Bytes, bytes-made}
-use Rattle.slots.specs.declared.Plan.{Plan}
-use Rattle.slots.specs.Plan.{Fine, unit, symbolCount, slotBytes}
+use Rattle.plan.specs.declared.Plan.{Plan}
+use Rattle.plan.specs.Plan.{Fine, unit, symbolCount, slotBytes}
 use Rattle.slots.specs.Slots.{placed, placeOf, symbolAt, slotBit, slotsOf}
 use Rattle.slots.specs.Pulse.{withBit, putBit, put-same, put-other, Cleared}
 use Rattle.slots.specs.Laws.{group-least, order-least, symbol-mark, symbol-placed, symbol-below}

@@ -4,13 +4,14 @@ use mathlib.Core.List.{List}
 use Prim.Native.Nat.{ℕ, _<_}
 use lib.ListN.{length}
 use Rattle.bits.specs.Pack.{Bytes}
+use Rattle.answers.specs.Answer.{Fits}
 use Rattle.sizes.specs.Rate.{blockBytes}
 use Rattle.sizes.specs.Sizes.{wordBytes}
 use Rattle.word.specs.Word.{wordOf, blockIn, writeSays, readSays}
-use Rattle.word.specs.Word.Laws.{Packed}
+use Rattle.word.specs.Word.{Packed}
 use Rattle.word.specs.Word.Laws as Laws
 use Rattle.word.specs.Word.Answers as Answers
-use Rattle.word.specs.Theorems.{written-read, read-written}
+use Rattle.word.specs.Return.{written-read, read-written}
 use Rattle.answers.specs.declared.Answer.the-variants.{Done, No}
 
 -- a word has 1,890 bytes
@@ -34,3 +35,10 @@ packed-read rate block h p =
 pub read-packed : (rate : ℕ) (word : List ℕ) (n : ℕ) → Bytes word → readSays rate word n ≡ Done
     → Packed rate (blockIn rate word) × (wordOf rate (blockIn rate word) ≡ word)
 read-packed rate word n b e = (Laws.block-packed rate word, read-written rate word n b e .1)
+
+-- the answers of the two calls fit the number that C gets
+pub write-fits : (rate : ℕ) (block : List ℕ) (n : ℕ) → Fits (writeSays rate block n)
+write-fits = Answers.write-fits
+
+pub read-fits : (rate : ℕ) (word : List ℕ) (n : ℕ) → Fits (readSays rate word n)
+read-fits = Answers.read-fits

@@ -1,13 +1,14 @@
 -- Words: the 15,120 bits made from one information block by steps 2 to 7, the way back, and the questions that the two calls put.
--- The definitions are shut: the crates above know them by the laws of `Word.Laws` and the theorems of `Theorems`.
+-- The definitions are shut: the crates above know them by the laws of `Exports`, and `promises` has what the customer is promised of them.
+use mathlib.Core.Path.{_≡_}
 use mathlib.Core.Bool.{Bool}
 use mathlib.Core.List.{List}
-use Prim.Native.Nat.{ℕ, _+_}
+use Prim.Native.Nat.{ℕ, _+_, _*_, _≤_, _<_}
 use lib.Dec.{ltb, eqb}
 use lib.ListN.{length}
 use Rattle.bits.specs.Table.{both}
 use Rattle.bits.specs.First.{upTo}
-use Rattle.bits.specs.Pack.{val, bitAt, bytesOf, cut}
+use Rattle.bits.specs.Pack.{val, bitAt, bytesOf, cut, Bytes}
 use Rattle.sizes.specs.Rate.{infoBits, blockBytes}
 use Rattle.sizes.specs.Sizes.{wordBits, wordBytes}
 use Rattle.crc.specs.Check.{register, checked}
@@ -55,6 +56,12 @@ packedBlock rate x = bytesOf (blockBytes rate) (cut (infoBits rate) x)
 
 pub blockIn : ℕ → List ℕ → List ℕ
 blockIn rate word = packedBlock rate (inputIn rate word)
+
+-- a packed block of a rate: as many bytes as the rate implies, its bits, and zeros behind them
+pub record Packed (rate : ℕ) (block : List ℕ) : Type 0 where
+  pub size : length block ≡ blockBytes rate
+  pub bytes : Bytes block
+  pub spare : (i : ℕ) → infoBits rate ≤ i → i < 8 * blockBytes rate → bitAt block i ≡ 0
 
 -- ---- the questions
 

@@ -5,7 +5,7 @@ use Prim.Native.Nat.{ℕ, _+_, _-_, _*_, _≤_, _<_}
 use native.Mathlib.Omega.{arith}
 use lib.ListN.{length, getD}
 use borrow.Author.Needs.{needs}
-use Rattle.slots.specs.Plan.{unit, symbolCount}
+use Rattle.plan.specs.Plan.{unit, symbolCount}
 use Rattle.slots.specs.Laws.{symbols-most, group-least}
 use Rattle.slots.specs.Writing.{Done, group-inside, row-inside, row-mark, done-is, done-more}
 use Rattle.slots.proofs.put_marks.Statement.{statement}

@@ -6,7 +6,7 @@ use native.Mathlib.Omega.{arith}
 use native.Mathlib.Nat.{mod-lt}
 use lib.ListN.{length}
 use borrow.Author.Needs.{needs}
-use Rattle.slots.specs.Plan.{unit, symbolCount, slotBytes}
+use Rattle.plan.specs.Plan.{unit, symbolCount, slotBytes}
 use Rattle.slots.specs.Slots.{wordIn}
 use Rattle.slots.specs.Laws.{symbols-most, group-least, placed-below}
 use Rattle.slots.specs.Writing.{Done, group-inside, row-inside, row-start, row-place, remainder-on, done-is, done-more}

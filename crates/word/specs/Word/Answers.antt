@@ -16,7 +16,8 @@ use Rattle.bits.specs.Pack.{bitAt, Bytes}
 use Rattle.sizes.specs.Rate.{infoBits, blockBytes, block-size}
 use Rattle.sizes.specs.Sizes.{wordBits, wordBytes}
 use Rattle.word.specs.Word.{codedIn, inputIn, blockSpareZero, agrees, firstWrong, endsInZeros, checkRight, writeSays, judged, readSays}
-use Rattle.word.specs.Word.Laws.{Packed, Sound, sound}
+use Rattle.word.specs.Word.{Packed}
+use Rattle.word.specs.Word.Laws.{Sound, sound}
 use Rattle.answers.specs.Answer.{ask, then-done, ask-done, Fits, fits-ask, fits-then}
 use Rattle.answers.specs.declared.Answer.{Answer}
 use Rattle.answers.specs.declared.Answer.the-variants.{Done, No}

@@ -21,7 +21,7 @@ use Rattle.convolution.specs.Code.{encode, encode-bits, encode-same, encode-plu
 use Rattle.interleaver.specs.Interleaver.{interleave, deinterleave, interleave-bits, deinterleave-bits, interleave-same, deinterleave-same, deinterleave-interleave, interleave-deinterleave, interleave-plus, deinterleave-plus}
 use Rattle.accumulator.specs.Accumulator.{accumulate, differentiate, accumulate-bits, differentiate-bits, accumulate-same, differentiate-same, accumulate-plus, differentiate-plus, differentiate-accumulate, accumulate-differentiate}
 use Rattle.randomizer.specs.Randomizer.{randomize, randomize-bits, randomize-same, randomize-twice, randomize-plus, randomize-sum3}
-use Rattle.word.specs.Word.{inputOf, codedOf, shuffled, wordOf, codedIn, inputIn, packedBlock, blockIn, agrees, firstWrong, endsInZeros, checkRight}
+use Rattle.word.specs.Word.{Packed, inputOf, codedOf, shuffled, wordOf, codedIn, inputIn, packedBlock, blockIn, agrees, firstWrong, endsInZeros, checkRight}
 
 -- ---- bits all the way
 
@@ -156,12 +156,6 @@ coded-sum3 rate a b c s h e j l =
     ∙ ap (λ (b : ℕ). bitXor b (encode rate z j)) (encode-plus rate x y j)
 
 -- ---- blocks
-
--- a packed block of a rate: as many bytes as the rate implies, its bits, and zeros behind them
-pub record Packed (rate : ℕ) (block : List ℕ) : Type 0 where
-  pub size : length block ≡ blockBytes rate
-  pub bytes : Bytes block
-  pub spare : (i : ℕ) → infoBits rate ≤ i → i < 8 * blockBytes rate → bitAt block i ≡ 0
 
 -- the three parts of the input bits
 pub input-block : (rate : ℕ) (block : List ℕ) (i : ℕ) → i < infoBits rate → inputOf rate block i ≡ bitAt block i

@@ -5,7 +5,7 @@ use native.Mathlib.Omega.{arith}
 use native.Mathlib.Nat.{le-refl, mul-le-mul, div-add-mod'}
 use borrow.Author.Needs.{needs}
 use Rattle.bits.specs.First.{upTo}
-use Rattle.slots.specs.Plan.{symbolCount}
+use Rattle.plan.specs.Plan.{symbolCount}
 use Rattle.capture.specs.Bounds.{Bounds, bounds}
 use Rattle.capture.specs.Capture.{firstBadGroup}
 use Rattle.capture.specs.Groups.{grouped}

@@ -6,7 +6,7 @@ use native.Mathlib.Omega.{arith}
 use native.Mathlib.Nat.{mod-lt}
 use borrow.Author.Needs.{needs}
 use Rattle.bits.specs.First.{upTo, first-on, first-here, first-end, first-skip}
-use Rattle.slots.specs.Plan.{unit, symbolCount}
+use Rattle.plan.specs.Plan.{unit, symbolCount}
 use Rattle.slots.specs.Writing.{remainder-on}
 use Rattle.capture.specs.Bounds.{bounds, Bounds}
 use Rattle.capture.specs.Capture.{restZero}

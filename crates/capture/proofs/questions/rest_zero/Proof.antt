@@ -4,7 +4,7 @@ use Prim.Native.Nat.{ℕ, _+_, _*_, _≤_}
 use native.Mathlib.Omega.{arith}
 use Rattle.bits.specs.Choice.{bool}
 use Rattle.bits.specs.Pack.{bitAt}
-use Rattle.slots.specs.Plan.{unit, symbolCount}
+use Rattle.plan.specs.Plan.{unit, symbolCount}
 use Rattle.capture.specs.Bounds.{Held, held}
 use Rattle.capture.specs.Groups.{tells}
 use Rattle.capture.specs.Lines.{line-in, rest-hit, rest-unhit}

@@ -7,7 +7,7 @@ use Rattle.slots.specs.Channel.{symbolOf, place-lt, sym-lt, delay}
 use Rattle.slots.specs.Laws.{delay-most}
 use Rattle.capture.specs.Bounds.{bounds, Bounds}
 use Prim.Native.Nat.{_*_, _%_, _≤_, _<_}
-use Rattle.slots.specs.Plan.{symbolCount}
+use Rattle.plan.specs.Plan.{symbolCount}
 use Rattle.capture.proofs.words.stands_at.Statement.{statement}
 use Rattle.capture.proofs.words.stands_at.Tie as tie
 
