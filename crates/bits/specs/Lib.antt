@@ -3,6 +3,9 @@ pub mod Sum
 pub mod Table
 pub mod Pack
 pub mod Parts
+pub mod Pieces
+pub mod Stretch
+pub mod Places
 pub mod First
 pub mod Loops
 pub mod Weight

@@ -13,8 +13,8 @@ use Rattle.header.specs.Quantities as quantities
 use Rattle.header.specs.declared.Fields.{Fields}
 use Rattle.plan.specs.declared.Plan.{Plan}
 use Rattle.plan.specs.Plan.{planIn, symbolCount, slotBytes}
-use Rattle.frames.specs.Stream.{streamBit, blockAt, firstUnmarked, fillZero}
-use Rattle.frames.specs.Answer.{framesSay}
+use Rattle.stream.specs.Stream.{streamBit, blockAt}
+use Rattle.frames.specs.Frames.{firstUnmarked, fillZero, framesSay}
 use Rattle.slots.specs.Slots.{dataAt, place, hitBy, placed, symbolAt, slotBit, slotsOf}
 use Rattle.capture.specs.Capture.{spareZero, firstBadGroup, firstBadMark, firstBadRest, wordOut}
 use Rattle.capture.specs.Answer.{slotsSay}

@@ -18,10 +18,9 @@ use Rattle.header.specs.declared.Parameters.{Parameters}
 use Rattle.plan.specs.declared.Plan.{Plan}
 use Rattle.plan.specs.Plan.{planOf, Fine, slotBytes}
 use Rattle.plan.specs.Accepted.{plan-words}
-use Rattle.frames.specs.Stream.{streamBit, blockAt}
-use Rattle.frames.specs.Blocks.{block-packed}
-use Rattle.frames.specs.Back.{stream-bits}
-use Rattle.frames.specs.Ranges.{Frames}
+use Rattle.stream.specs.Stream.{streamBit, blockAt}
+use Rattle.stream.specs.Laws.{stream-bits, block-packed}
+use Rattle.stream.specs.Needs.{Frames}
 use Rattle.slots.specs.Slots.{slotsOf, wordIn}
 use Rattle.slots.specs.Laws.{Lent, slots-same}
 use Rattle.run.specs.Run.{streamOf, wordAt}
