@@ -11,8 +11,11 @@ use Rattle.convolution.specs.Code.{encode, stepOf, first, second, delay}
 use Rattle.interleaver.specs.Interleaver.{place}
 use Rattle.accumulator.specs.Accumulator.{accumulate}
 use Rattle.randomizer.specs.Randomizer.{sequence, window, next}
+use Rattle.channel.specs.Channel as channel
+use Rattle.channel.specs.Symbols.{wordIn}
+use Rattle.pulses.specs.Pulses as pulses
 use Rattle.slots.specs.declared.Plan.{Plan}
-use Rattle.slots.specs.Slots.{dataAt, symbolAt, slotBit, wordIn}
+use Rattle.slots.specs.Slots.{dataAt, slotBit}
 
 pub record Row : Type 0 where
   pub computed : ℕ
@@ -70,5 +73,5 @@ table =
     ∷ []
 
 pub bench : map (λ r. r .computed) table ≡ map (λ r. r .listed) table
-unfolding val sequence window next place register advance encode stepOf first second delay inputsPer codedPer accumulate bitAt dataAt symbolAt slotBit
+unfolding val sequence window next place register advance encode stepOf first second delay inputsPer codedPer accumulate bitAt channel.dataAt channel.marked pulses.slotBit
 bench = refl

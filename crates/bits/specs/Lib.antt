@@ -6,3 +6,8 @@ pub mod Parts
 pub mod First
 pub mod Loops
 pub mod Weight
+pub mod Field
+pub mod Put
+pub mod Leading
+pub mod Window
+pub mod Needs

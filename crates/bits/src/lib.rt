@@ -1,3 +1,4 @@
-// What all layers share: bits taken out of packed bytes and put into them, most significant bit first.
+// What all layers share: bits taken out of packed bytes and put into them, most significant bit first, and the first one among them.
 // The laws that the layers above cite are in specs/: sums of bits, lists by index, packing, the first that fails, counts of ones.
 pub mod packing;
+pub mod scan;

@@ -1,11 +1,9 @@
 // Steps 10 to 8 undone, with questions 9 to 12: captured slots back to words.
-mod groups;
 mod questions;
-mod scan;
 mod words;
 
 ghost use mathlib.Core.Path.{_≡_};
-ghost use Rattle.capture.specs.Asks.{Captured, Taken};
+ghost use Rattle.capture.specs.Needs.{Captured, Taken};
 ghost use Rattle.capture.specs.Answer.{slotsSay};
 ghost use Rattle.capture.specs.Capture.{wordOut};
 
@@ -29,10 +27,10 @@ pub fn judge(p: slots::Plan, b: &[u8]) -> SlotsAnswer
 {
     let n = p.lines * (p.symbols + p.count);
     let end = 8 * b.len();
-    if scan::pulse_from(b, n * p.group, end) != end {
+    if bits::scan::first_one(b, n * p.group, end) != end {
         return SlotsAnswer::SpareSlots;
     }
-    let group = groups::first_bad_group(p, b);
+    let group = pulses::groups::first_bad_group(p.order, p.group, n, b);
     if group != n {
         return SlotsAnswer::BadGroup(group);
     }

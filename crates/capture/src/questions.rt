@@ -4,7 +4,7 @@ ghost use Prim.Native.Nat.{_+_, _*_, _%_, _<_};
 ghost use Rattle.bits.specs.Choice.{bool};
 ghost use Rattle.bits.specs.First.{upTo};
 ghost use Rattle.slots.specs.Plan.{unit};
-ghost use Rattle.capture.specs.Asks.{Grouped};
+ghost use Rattle.capture.specs.Needs.{Grouped};
 ghost use Rattle.capture.specs.Capture.{markRight, firstBadMark, restZero, firstBadRest};
 
 // Marker symbol w of a row. Each group has one pulse, so that the slot of the right symbol tells.
@@ -59,7 +59,8 @@ fn rest_zero(p: slots::Plan, b: &[u8], line: usize, i: usize, c: usize) -> u8
     ensures { λ r. ⌜ r ≡ bool (restZero p (now (b .entry)) (line * unit p + (p .count + i))) ⌝ }
 {
     let symbols = p.symbols;
-    if slots::hit_by(p, line * symbols + i, c) < p.words * symbols {
+    let total = p.words * symbols;
+    if channel::hit_by(p.rows, p.step, total, line * symbols + i, c) < total {
         return 1;
     }
     let s = line * (symbols + p.count) + (p.count + i);
@@ -80,7 +81,7 @@ fn bad_rest_in(p: slots::Plan, b: &[u8], line: usize) -> usize
         if rest_zero(p, b, line, i, c) == 0 {
             return first + i;
         }
-        c = slots::next(c, rows);
+        c = channel::next(c, rows);
         i += 1;
     }
     first + i

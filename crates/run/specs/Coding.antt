@@ -19,8 +19,10 @@ use Rattle.header.specs.declared.Parameters.{Parameters}
 use Rattle.slots.specs.declared.Plan.{Plan}
 use Rattle.slots.specs.Plan.{Fine}
 use Rattle.slots.specs.Plan as Slots
-use Rattle.slots.specs.Slots.{slotsOf, wordIn}
-use Rattle.slots.specs.Laws.{Lent, slots-same}
+use Rattle.channel.specs.Symbols.{wordIn}
+use Rattle.slots.specs.Slots.{slotsOf}
+use Rattle.slots.specs.Needs.{Lent}
+use Rattle.slots.specs.Laws.{slots-same}
 use Rattle.header.specs.Valid.{Valid}
 use Rattle.frames.specs.Ranges.{Frames, Judged}
 use Rattle.header.specs.declared.Fields.{Fields}

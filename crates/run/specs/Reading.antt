@@ -17,7 +17,7 @@ use Rattle.slots.specs.Plan.{Fine}
 use Rattle.slots.specs.Plan as Slots
 use Rattle.capture.specs.Capture.{wordOut}
 use Rattle.capture.specs.Answer.{slotsSay, slotsNumber}
-use Rattle.capture.specs.Asks.{Captured}
+use Rattle.capture.specs.Needs.{Captured}
 use Rattle.capture.specs.declared.SlotsAnswer.{SlotsAnswer}
 use Rattle.capture.specs.declared.SlotsAnswer.the-variants as S
 use Rattle.run.specs.declared.RunAnswer.{RunAnswer}

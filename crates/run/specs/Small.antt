@@ -25,9 +25,10 @@ use Rattle.frames.specs.Stream.{firstUnmarked, fillZero}
 use Rattle.frames.specs.Answer.{framesSay, framesNumber, framesPlace}
 use Rattle.frames.specs.declared.FramesAnswer.{FramesAnswer}
 use Rattle.frames.specs.declared.FramesAnswer.the-variants as F
+use Rattle.pulses.specs.Pulses as pulses
 use Rattle.slots.specs.declared.Plan.{Plan}
 use Rattle.slots.specs.Plan.{Fine, symbolCount}
-use Rattle.capture.specs.Capture.{wordOut, spareZero, firstBadGroup, firstBadMark, firstBadRest}
+use Rattle.capture.specs.Capture.{wordOut, spareEmpty, firstBadGroup, firstBadMark, firstBadRest}
 use Rattle.capture.specs.Answer.{slotsSay, slotsNumber, slotsPlace}
 use Rattle.capture.specs.declared.SlotsAnswer.{SlotsAnswer}
 use Rattle.capture.specs.declared.SlotsAnswer.the-variants as S
@@ -83,10 +84,10 @@ frames-number F.BadFill = omega arith
 
 -- ---- the places
 slots-place : (p : Plan) (b : List ℕ) → slotsPlace (slotsSay p b) ≤ symbolCount p
-unfolding slotsSay slotsPlace firstBadGroup firstBadMark firstBadRest
+unfolding slotsSay slotsPlace pulses.firstBadGroup firstBadMark firstBadRest
 slots-place p b =
     let n : ℕ = symbolCount p in
-    cases (spareZero p b) (eqb (firstBadGroup p b) n) (eqb (firstBadMark p b) n) (eqb (firstBadRest p b) n) n (firstBadGroup p b) (firstBadMark p b) (firstBadRest p b) (up-to-le _ n) (up-to-le _ n) (up-to-le _ n)
+    cases (spareEmpty p b) (eqb (firstBadGroup p b) n) (eqb (firstBadMark p b) n) (eqb (firstBadRest p b) n) n (firstBadGroup p b) (firstBadMark p b) (firstBadRest p b) (up-to-le _ n) (up-to-le _ n) (up-to-le _ n)
   where
     cases : (t u v w : Bool) (n x y z : ℕ) → x ≤ n → y ≤ n → z ≤ n
         → slotsPlace (pick t (pick u (pick v (pick w S.Good (S.BadRest z)) (S.BadMark y)) (S.BadGroup x)) S.SpareSlots) ≤ n

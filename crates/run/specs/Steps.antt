@@ -14,10 +14,11 @@ use Rattle.header.specs.declared.Fields.{Fields}
 use Rattle.frames.specs.Stream.{streamBit, blockAt, firstUnmarked, fillZero}
 use Rattle.frames.specs.Answer.{framesSay}
 use Rattle.frames.specs.declared.FramesAnswer.the-variants as F
+use Rattle.pulses.specs.Pulses as pulses
 use Rattle.slots.specs.declared.Plan.{Plan}
 use Rattle.slots.specs.Plan.{symbolCount, slotBytes}
 use Rattle.slots.specs.Slots.{dataAt, place, hitBy, placed, symbolAt, slotBit, slotsOf}
-use Rattle.capture.specs.Capture.{spareZero, firstBadGroup, firstBadMark, firstBadRest, wordOut}
+use Rattle.capture.specs.Capture.{spareEmpty, firstBadGroup, firstBadMark, firstBadRest, wordOut}
 use Rattle.capture.specs.Answer.{slotsSay, slotsNumber, slotsPlace}
 use Rattle.capture.specs.declared.SlotsAnswer.the-variants as S
 use Rattle.run.specs.declared.RunAnswer.{RunAnswer}
@@ -59,19 +60,19 @@ module _ (header marker frames : List ℕ) where
 
   -- a run is these slots, packed
   pub run-is : runOf header marker frames ≡ bytesOf (slotBytes (planIn header marker)) slot
-  unfolding runOf slotsOf wordAt streamOf
+  unfolding runOf slotsOf pulses.slotsOf wordAt streamOf
   run-is = refl
 
 -- questions 9 to 12, and 16 and 18, flat: the number and the place of each
 module _ (p : Plan) (b : List ℕ) (rest : RunAnswer) where
   slots-asked : then (slotsSaid (slotsSay p b)) rest
-      ≡ then (ask (spareZero p b) 9 0)
+      ≡ then (ask (spareEmpty p b) 9 0)
       (then (ask (eqb (firstBadGroup p b) (symbolCount p)) 10 (firstBadGroup p b))
       (then (ask (eqb (firstBadMark p b) (symbolCount p)) 11 (firstBadMark p b))
       (then (ask (eqb (firstBadRest p b) (symbolCount p)) 12 (firstBadRest p b)) rest)))
   unfolding slotsSay slotsNumber slotsPlace
   slots-asked =
-      cases (spareZero p b) (eqb (firstBadGroup p b) (symbolCount p)) (eqb (firstBadMark p b) (symbolCount p)) (eqb (firstBadRest p b) (symbolCount p))
+      cases (spareEmpty p b) (eqb (firstBadGroup p b) (symbolCount p)) (eqb (firstBadMark p b) (symbolCount p)) (eqb (firstBadRest p b) (symbolCount p))
       (firstBadGroup p b) (firstBadMark p b) (firstBadRest p b)
     where
       cases : (k l m n : Bool) (x y z : ℕ)
@@ -97,7 +98,7 @@ frames-asked size count end stream = cases (eqb (firstUnmarked size count stream
 -- the reader's questions about slots of the right length, one after another; the first no is the answer
 pub asked-in-order : (f : Fields) (p : Plan) (b : List ℕ)
     → bufferSays f p b
-    ≡ then (ask (spareZero p b) 9 0)
+    ≡ then (ask (spareEmpty p b) 9 0)
     (then (ask (eqb (firstBadGroup p b) (symbolCount p)) 10 (firstBadGroup p b))
     (then (ask (eqb (firstBadMark p b) (symbolCount p)) 11 (firstBadMark p b))
     (then (ask (eqb (firstBadRest p b) (symbolCount p)) 12 (firstBadRest p b))
@@ -109,7 +110,7 @@ asked-in-order f p b =
     slots-asked p b (then (wordsSay f (wordOut p b)) (framesSaid (framesSay (f .size) (f .frames) (quantities.blockCount f * infoBits (f .rate)) (streamIn f (wordOut p b)))))
     ∙ ap
     (λ (r : RunAnswer).
-    then (ask (spareZero p b) 9 0)
+    then (ask (spareEmpty p b) 9 0)
     (then (ask (eqb (firstBadGroup p b) (symbolCount p)) 10 (firstBadGroup p b))
     (then (ask (eqb (firstBadMark p b) (symbolCount p)) 11 (firstBadMark p b))
     (then (ask (eqb (firstBadRest p b) (symbolCount p)) 12 (firstBadRest p b))

@@ -6,7 +6,8 @@ use header::quantities;
 ghost use mathlib.Core.Path.{_≡_};
 ghost use Prim.Native.Nat.{ℕ, _<_};
 ghost use Rattle.header.specs.Quantities.{blockCount};
-ghost use Rattle.slots.specs.Slots.{slotsOf, wordIn};
+ghost use Rattle.channel.specs.Symbols.{wordIn};
+ghost use Rattle.slots.specs.Slots.{slotsOf};
 ghost use Rattle.run.specs.Run.{planOf, wordAt};
 ghost use Rattle.run.specs.Rooms.{Codes, CodesAll, Writes, Checked};
 

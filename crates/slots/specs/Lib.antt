@@ -1,7 +1,7 @@
 pub mod Plan
 pub mod Slots
-pub mod Channel
-pub mod Pulse
-pub mod Field
+pub mod Bounds
+pub mod Needs
 pub mod Laws
+pub mod Cleared
 pub mod Writing

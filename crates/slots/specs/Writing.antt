@@ -4,41 +4,30 @@ use mathlib.Core.List.{List}
 use mathlib.Core.Logic.{⊎-elim}
 use Prim.Native.Nat.{ℕ, _+_, _-_, _*_, _/_, _%_, _^_, _≤_, _<_}
 use native.Mathlib.Omega.{arith}
-use native.Mathlib.Nat.{le-refl, mul-le-mul, div-add-mod', eq-or-lt-of-le, le-div-iff-mul-le, zero-mul, zero-div, mod-add-mod}
+use native.Mathlib.Nat.{le-refl, mul-le-mul, div-add-mod', eq-or-lt-of-le, le-div-iff-mul-le, zero-mul, zero-div}
 use lib.Arith.{digits-div, digits-mod}
 use lib.Dec.{ltb, eqb}
 use lib.ListN.{length, getD, length-set}
 use borrow.Author.Tests.{lt-ltb, le-ltb, eq-eqb, ne-eqb}
 use Rattle.bits.specs.Choice.{pick, bool, lt-or-le, eq-or-ne}
 use Rattle.bits.specs.Pack.{bitAt, Bytes, bytes-made}
+use Rattle.bits.specs.Put.{withBit, putBit, put-same, put-other}
+use Rattle.channel.specs.Markers.{line-place}
+use Rattle.pulses.specs.Pulses as pulses
 use Rattle.slots.specs.declared.Plan.{Plan}
 use Rattle.slots.specs.Plan.{Fine, unit, symbolCount, slotBytes}
-use Rattle.slots.specs.Slots.{placed, placeOf, symbolAt, slotBit, slotsOf}
-use Rattle.slots.specs.Pulse.{withBit, putBit, put-same, put-other, Cleared}
-use Rattle.slots.specs.Laws.{group-least, order-least, symbol-mark, symbol-placed, symbol-below}
+use Rattle.slots.specs.Bounds.{bounds}
+use Rattle.slots.specs.Slots.{placed, symbolAt, slotBit, slotsOf}
+use Rattle.slots.specs.Cleared.{Cleared}
+use Rattle.slots.specs.Laws.{symbol-below}
 
 -- ---- symbols by their row
 
--- a marker symbol before row j, and a symbol of it
-pub row-mark : (p : Plan) → Fine p → (word : ℕ → List ℕ) (j k : ℕ) → k < p .count → symbolAt p word (j * unit p + k) ≡ getD (p .marks) k 0
-row-mark p fine word j k l =
-    let low : k < unit p = omega arith in
-    let m : (j * unit p + k) % unit p ≡ k = digits-mod j low in
-    symbol-mark p word (j * unit p + k) (rw m l) ∙ ap (λ (i : ℕ). getD (p .marks) i 0) m
-
-pub row-place : (p : Plan) → Fine p → (word : ℕ → List ℕ) (j k : ℕ) → k < p .symbols → symbolAt p word (j * unit p + p .count + k) ≡ placed p word (j * p .symbols + k)
-unfolding placeOf
-row-place p fine word j k l =
-    let low : p .count + k < unit p = omega arith in
+-- a symbol of row j
+pub row-place : (p : Plan) (word : ℕ → List ℕ) (j k : ℕ) → k < p .symbols → symbolAt p word (j * unit p + p .count + k) ≡ placed p word (j * p .symbols + k)
+row-place p word j k l =
     let e : j * unit p + p .count + k ≡ j * unit p + (p .count + k) = omega arith in
-    let m : (j * unit p + (p .count + k)) % unit p ≡ p .count + k = digits-mod j low in
-    let d : (j * unit p + (p .count + k)) / unit p ≡ j = digits-div j low in
-    let back : p .count + k - p .count ≡ k = omega arith in
-    let high : p .count ≤ (j * unit p + (p .count + k)) % unit p = rw m (omega arith) in
-    ap (symbolAt p word) e
-    ∙ symbol-placed p word (j * unit p + (p .count + k)) high
-    ∙ ap₂ (λ (a b : ℕ). placed p word (a * p .symbols + (b - p .count))) d m
-    ∙ ap (λ (b : ℕ). placed p word (j * p .symbols + b)) back
+    ap (symbolAt p word) e ∙ line-place (p .symbols) (p .count) (p .marks) (placed p word) j k l
 
 -- the symbols before and in row j are among all
 pub row-inside : (p : Plan) (j : ℕ) → j < p .lines → j * unit p + unit p ≤ symbolCount p
@@ -47,10 +36,6 @@ row-inside p j l = let k : j + 1 ≤ p .lines = omega arith in omega (arith, mul
 -- its places are no further on
 pub row-start : (p : Plan) (j : ℕ) → j * p .symbols ≤ j * unit p
 row-start p j = let le : p .symbols ≤ unit p = omega arith in mul-le-mul (le-refl j) le
-
--- the remainder modulo N one place further on
-pub remainder-on : (x n r s : ℕ) → r ≡ x % n → s ≡ (r + 1) % n → s ≡ (x + 1) % n
-remainder-on x n r s e f = f ∙ ap (λ (a : ℕ). (a + 1) % n) e ∙ mod-add-mod x n 1
 
 -- the bytes that the slots before row j begin
 abbrev pub rowEnd : Plan → ℕ → ℕ
@@ -76,7 +61,7 @@ pub record Done (p : Plan) (word : ℕ → List ℕ) (n end : ℕ) (slots : List
 pulsed-past : (p : Plan) → Fine p → (word : ℕ → List ℕ) (n x : ℕ) → n * p .group ≤ x → pulsed p word n x ≡ 0
 unfolding pulsed
 pulsed-past p fine word n x h =
-    let g : 0 < p .group = omega (arith, order-least p fine, group-least p fine) in
+    let g : 0 < p .group = let k = bounds p fine in omega arith in
     rw (le-ltb (x / p .group) n (le-div-iff-mul-le g .1 h)) refl
 
 -- one symbol more: its pulse, and nothing else
@@ -111,7 +96,7 @@ pub group-inside : (p : Plan) (s : ℕ) → s < symbolCount p → s * p .group +
 group-inside p s l = let k : s + 1 ≤ symbolCount p = omega arith in omega (arith, mul-le-mul k (le-refl (p .group)))
 
 pub pulse-inside : (p : Plan) → Fine p → (word : ℕ → List ℕ) (s : ℕ) → s < symbolCount p → s * p .group + symbolAt p word s < 8 * slotBytes p
-pulse-inside p fine word s l = omega (arith, group-inside p s l, symbol-below p fine word s, group-least p fine)
+pulse-inside p fine word s l = omega (arith, group-inside p s l, symbol-below p fine word s, bounds p fine .group-least)
 
 pub done-is : (p : Plan) (word : ℕ → List ℕ) (n m end : ℕ) (slots : List ℕ) → n ≡ m → Done p word n end slots → Done p word m end slots
 done-is p word n m end slots e d = rw e at d
@@ -143,7 +128,7 @@ pub done-more : (p : Plan) → Fine p → (word : ℕ → List ℕ) (s end q : �
 done-more p fine word s end q slots after l same d e bytes =
     let y : ℕ = s * p .group + symbolAt p word s in
     let low : y < 8 * length slots = rw (d .room) (pulse-inside p fine word s l) in
-    let small : symbolAt p word s < p .group = omega (arith, symbol-below p fine word s, group-least p fine) in
+    let small : symbolAt p word s < p .group = omega (arith, symbol-below p fine word s, bounds p fine .group-least) in
     let put : after ≡ putBit slots y = e ∙ ap (λ (v : ℕ). putBit slots (s * p .group + v)) same in
     record {
       room = ap length put ∙ length-set slots (y / 8) (withBit (getD slots (y / 8) 0) (y % 8)) ∙ d .room;
@@ -156,5 +141,5 @@ done-more p fine word s end q slots after l same d e bytes =
 
 -- with all of them it is the definition
 pub done-all : (p : Plan) (word : ℕ → List ℕ) (slots : List ℕ) → Done p word (p .lines * unit p) (rowEnd p (p .lines)) slots → slots ≡ slotsOf p word
-unfolding slotsOf slotBit pulsed
+unfolding slotsOf pulses.slotsOf pulses.slotBit pulsed
 done-all p word slots d = bytes-made (slotBytes p) (slotBit p word) slots (d .room) (d .bytes) (λ x l. d .bits x l)

@@ -1,13 +1,13 @@
 // Steps 8 to 10: the words' symbols, spread by the channel interleaver, with markers before every row, as slots with one pulse to a symbol.
 ghost use mathlib.Core.Path.{_≡_};
-ghost use Prim.Native.Nat.{ℕ, _+_, _*_, _%_, _^_, _≤_, _<_};
+ghost use Prim.Native.Nat.{ℕ, _+_, _*_, _%_, _≤_, _<_};
 ghost use mathlib.Core.List.{List};
 ghost use lib.ListN.{length};
-ghost use Rattle.bits.specs.Pack.{val, bitAt};
+ghost use Rattle.channel.specs.Symbols.{wordIn};
 ghost use Rattle.slots.specs.Plan.{Fine, unit, total, slotBytes};
-ghost use Rattle.slots.specs.Slots.{dataAt, hitBy, placed, slotsOf, wordIn};
-ghost use Rattle.slots.specs.Pulse.{putBit, Cleared};
-ghost use Rattle.slots.specs.Laws.{Given, Lent};
+ghost use Rattle.slots.specs.Slots.{dataAt, placed, slotsOf};
+ghost use Rattle.slots.specs.Cleared.{Cleared};
+ghost use Rattle.slots.specs.Needs.{Given, Lent};
 ghost use Rattle.slots.specs.Writing.{Done, rowEnd};
 
 // What steps 8 to 10 ask of a run: the header's numbers and those that follow from them.
@@ -45,49 +45,13 @@ fn clear(slots: &mut [u8], from: usize, to: usize)
     }
 }
 
-// A pulse in slot x.
-pub fn put_pulse(slots: &mut [u8], x: usize)
-    requires { ⌜ x < 8 * length (now slots) ⌝ }
-    ensures { λ _. ⌜ now (slots .exit) ≡ putBit (now (slots .entry)) x ⌝ }
-{
-    slots[x / 8] = slots[x / 8] | (128u8 >> (x % 8));
-}
-
-// The symbol that goes to place x, which is r modulo N; C·S where none does.
-pub fn hit_by(p: Plan, x: usize, r: usize) -> usize
-    requires { ⌜ Fine p × (r ≡ x % p .rows) ⌝ }
-    ensures { λ t. ⌜ t ≡ hitBy p x ⌝ }
-{
-    let rows = p.rows;
-    let step = p.step;
-    let all = p.words * p.symbols;
-    let delay = r * (step * rows);
-    if x < delay {
-        return all;
-    }
-    if x - delay < all {
-        return x - delay;
-    }
-    all
-}
-
-// The number that n bits make, from bit `at` on: they lie in one byte or in two.
-fn field(packed: &[u8], at: usize, n: usize) -> usize
-    requires { ⌜ (at + n ≤ 8 * length (now packed)) × (at < 2 ^ 32) × (1 ≤ n) × (n ≤ 8) ⌝ }
-    ensures { λ r. ⌜ r ≡ val (λ i. bitAt (now (packed .entry)) (at + i)) n ⌝ }
-{
-    let first = packed[at / 8] as usize;
-    let last = packed[(at + n - 1) / 8] as usize;
-    (((first << 8) | last) >> (16 - n - at % 8)) & ((1usize << n) - 1)
-}
-
 // Step 8: symbol t of all words.
 fn data_at(p: Plan, words: &[u8], t: usize) -> usize
     requires { ⌜ Given p (now words) × (t < total p) ⌝ }
     ensures { λ r. ⌜ r ≡ dataAt p (wordIn (now (words .entry))) t ⌝ }
 {
     let n = p.bits;
-    field(words, n * t, n)
+    bits::packing::field(words, n * t, n)
 }
 
 // Step 9: what stands at place x, which is r modulo N.
@@ -95,22 +59,10 @@ fn placed_at(p: Plan, words: &[u8], x: usize, r: usize) -> usize
     requires { ⌜ Given p (now words) × (r ≡ x % p .rows) ⌝ }
     ensures { λ q. ⌜ q ≡ placed p (wordIn (now (words .entry))) x ⌝ }
 {
-    let t = hit_by(p, x, r);
     let all = p.words * p.symbols;
+    let t = channel::hit_by(p.rows, p.step, all, x, r);
     if t < all {
         return data_at(p, words, t);
-    }
-    0
-}
-
-// The remainder modulo N one place further on.
-pub fn next(r: usize, rows: usize) -> usize
-    requires { ⌜ (r < rows) × (rows ≤ 128) ⌝ }
-    ensures { λ n. ⌜ n ≡ (r + 1) % rows ⌝ }
-{
-    let n = r + 1;
-    if n < rows {
-        return n;
     }
     0
 }
@@ -126,7 +78,7 @@ fn put_marks(p: Plan, row: usize, slots: &mut [u8])
     let mut k = 0;
     while k < count {
         let mark = p.marks[k] as usize;
-        put_pulse(slots, (first + k) * group + mark);
+        bits::packing::put_bit(slots, (first + k) * group + mark);
         k += 1;
     }
 }
@@ -145,8 +97,8 @@ fn put_places(p: Plan, words: &[u8], row: usize, slots: &mut [u8])
     let mut k = 0;
     while k < symbols {
         let q = placed_at(p, words, start + k, r);
-        put_pulse(slots, (first + k) * group + q);
-        r = next(r, rows);
+        bits::packing::put_bit(slots, (first + k) * group + q);
+        r = channel::next(r, rows);
         k += 1;
     }
 }

@@ -6,8 +6,10 @@ use native.Mathlib.Omega.{arith}
 use lib.ListN.{length, getD}
 use borrow.Author.Needs.{needs}
 use Rattle.slots.specs.Plan.{unit, symbolCount}
-use Rattle.slots.specs.Laws.{symbols-most, group-least}
-use Rattle.slots.specs.Writing.{Done, group-inside, row-inside, row-mark, done-is, done-more}
+use Rattle.channel.specs.Markers.{line-mark}
+use Rattle.slots.specs.Bounds.{bounds}
+use Rattle.slots.specs.Slots.{placed}
+use Rattle.slots.specs.Writing.{Done, group-inside, row-inside, done-is, done-more}
 use Rattle.slots.proofs.put_marks.Statement.{statement}
 use Rattle.slots.proofs.put_marks.Tie as tie
 
@@ -19,7 +21,7 @@ abbrev μ-loop : tie.MeasureT-loop
 μ-loop row slots₀ p group count first k₀ slots k = count - k
 
 add-first : tie.Need-add-first Inv-loop μ-loop
-add-first c = let f = c .before .pre .0 in let k = f .count-most in omega (arith, symbols-most _ f)
+add-first c = let f = c .before .pre .0 in let k = f .count-most in omega (arith, bounds _ f .symbols-most)
 
 mul-first : tie.Need-mul-first Inv-loop μ-loop
 mul-first c = let s = c .before in let b = s .pre .0 .symbols-bound in omega (arith, row-inside (s .args .t1) (s .args .row) (s .pre .1))
@@ -35,11 +37,11 @@ element-copy-out-mark c = search needs
 cast-mark : tie.Need-cast-mark Inv-loop μ-loop
 cast-mark c = search needs
 
-add-put-pulse : tie.Need-add-put-pulse Inv-loop μ-loop
-add-put-pulse c = let s = c .before .before .before .before .before in let b = s .pre .0 .symbols-bound in omega (arith, row-inside (s .args .t1) (s .args .row) (s .pre .1))
+add-put-bit : tie.Need-add-put-bit Inv-loop μ-loop
+add-put-bit c = let s = c .before .before .before .before .before in let b = s .pre .0 .symbols-bound in omega (arith, row-inside (s .args .t1) (s .args .row) (s .pre .1))
 
-mul-put-pulse : tie.Need-mul-put-pulse Inv-loop μ-loop
-mul-put-pulse c =
+mul-put-bit : tie.Need-mul-put-bit Inv-loop μ-loop
+mul-put-bit c =
     let s = c .before .before .before .before .before in
     let l = c .before .before .before .loop in
     let p = s .args .t1 in
@@ -47,24 +49,24 @@ mul-put-pulse c =
     let b = s .pre .0 .slots-bound in
     omega (arith, group-inside p (s .args .row * unit p + l .k) n)
 
-add-put-pulse-2 : tie.Need-add-put-pulse-2 Inv-loop μ-loop
-add-put-pulse-2 c =
+add-put-bit-2 : tie.Need-add-put-bit-2 Inv-loop μ-loop
+add-put-bit-2 c =
     let s = c .before .before .before .before .before in
     let l = c .before .before .before .loop in
     let p = s .args .t1 in
     let n : s .args .row * unit p + l .k < symbolCount p = omega (arith, row-inside p (s .args .row) (s .pre .1)) in
     let b = s .pre .0 .slots-bound in
-    omega (arith, group-inside p (s .args .row * unit p + l .k) n, s .pre .0 .marks-below (l .k), group-least p (s .pre .0))
+    omega (arith, group-inside p (s .args .row * unit p + l .k) n, s .pre .0 .marks-below (l .k), bounds p (s .pre .0) .group-least)
 
-put-pulse-requires : tie.Need-put-pulse-requires Inv-loop μ-loop
-put-pulse-requires c κs =
+put-bit-requires : tie.Need-put-bit-requires Inv-loop μ-loop
+put-bit-requires c κs =
     let s = c .before .before .before .before .before in
     let l = c .before .before .before .loop in
     let p = s .args .t1 in
     let n : s .args .row * unit p + l .k < symbolCount p = omega (arith, row-inside p (s .args .row) (s .pre .1)) in
     let e = l .inv .1 in
     let r = s .pre .2 in
-    omega (arith, group-inside p (s .args .row * unit p + l .k) n, s .pre .0 .marks-below (l .k), group-least p (s .pre .0))
+    omega (arith, group-inside p (s .args .row * unit p + l .k) n, s .pre .0 .marks-below (l .k), bounds p (s .pre .0) .group-least)
 
 add-k : tie.Need-add-k Inv-loop μ-loop
 add-k c = search needs
@@ -76,7 +78,7 @@ loop-again : tie.Need-loop-again Inv-loop μ-loop
 loop-again c =
     let s = c .before .before .before .before .before .before .before .before in
     let l = c .before .before .before .before .before .before .loop in
-    let o = c .before .before .put-pulse in
+    let o = c .before .before .put-bit in
     let p = s .args .t1 in
     let f = s .pre .0 in
     let j : ℕ = s .args .row * unit p + l .k in
@@ -85,7 +87,7 @@ loop-again c =
       o .kept .0 ∙ l .inv .1,
       λ word end d. done-is p word (j + 1) (s .args .row * unit p + (l .k + 1)) end (o .last .0) (omega arith)
           (done-more p f word j end (getD (p .marks) (l .k) 0) (l .slots) (o .last .0) n
-          (sym (row-mark p f word (s .args .row) (l .k) (omega arith))) (l .inv .2 word end d) (o .ensures) (λ i. omega (arith, c .slice-known2 .given i))),
+          (sym (line-mark (p .symbols) (p .count) (p .marks) (placed p word) (s .args .row) (l .k) (omega arith))) (l .inv .2 word end d) (o .ensures) (λ i. omega (arith, c .slice-known2 .given i))),
     )
 
 same-length : tie.Need-same-length Inv-loop μ-loop
@@ -108,10 +110,10 @@ put-marks-spec =
     loop-holds
     element-copy-out-mark
     cast-mark
-    add-put-pulse
-    mul-put-pulse
-    add-put-pulse-2
-    put-pulse-requires
+    add-put-bit
+    mul-put-bit
+    add-put-bit-2
+    put-bit-requires
     add-k
     loop-less
     loop-again

@@ -7,9 +7,11 @@ use native.Mathlib.Nat.{mod-lt}
 use lib.ListN.{length}
 use borrow.Author.Needs.{needs}
 use Rattle.slots.specs.Plan.{unit, symbolCount, slotBytes}
-use Rattle.slots.specs.Slots.{wordIn}
-use Rattle.slots.specs.Laws.{symbols-most, group-least, placed-below}
-use Rattle.slots.specs.Writing.{Done, group-inside, row-inside, row-start, row-place, remainder-on, done-is, done-more}
+use Rattle.slots.specs.Bounds.{bounds}
+use Rattle.channel.specs.Symbols.{wordIn}
+use Rattle.channel.specs.Places.{remainder-on}
+use Rattle.slots.specs.Laws.{placed-below}
+use Rattle.slots.specs.Writing.{Done, group-inside, row-inside, row-start, row-place, done-is, done-more}
 use Rattle.slots.proofs.put_places.Statement.{statement}
 use Rattle.slots.proofs.put_places.Tie as tie
 
@@ -22,7 +24,7 @@ abbrev μ-loop : tie.MeasureT-loop
 μ-loop p words row slots₀ group symbols rows first start r₀ k₀ slots r k = symbols - k
 
 add-first : tie.Need-add-first Inv-loop μ-loop
-add-first c = let f = c .before .before .before .pre .0 .given .fine in let k = f .count-most in omega (arith, symbols-most _ f)
+add-first c = let f = c .before .before .before .pre .0 .given .fine in let k = f .count-most in omega (arith, bounds _ f .symbols-most)
 
 mul-first : tie.Need-mul-first Inv-loop μ-loop
 mul-first c = let s = c .before .before .before in let b = s .pre .0 .given .fine .symbols-bound in omega (arith, row-inside (s .args .p) (s .args .row) (s .pre .1))
@@ -55,8 +57,8 @@ add-placed-at c =
 placed-at-requires : tie.Need-placed-at-requires Inv-loop μ-loop
 placed-at-requires c κs = (c .before .before .before .before .before .before .pre .0 .given, c .before .loop .inv .1)
 
-add-put-pulse : tie.Need-add-put-pulse Inv-loop μ-loop
-add-put-pulse c =
+add-put-bit : tie.Need-add-put-bit Inv-loop μ-loop
+add-put-bit c =
     let s = c .before .before .before .before .before .before .before .before in
     let l = c .before .before .before .loop in
     let p = s .args .p in
@@ -66,8 +68,8 @@ add-put-pulse c =
     let b = f .symbols-bound in
     omega arith
 
-mul-put-pulse : tie.Need-mul-put-pulse Inv-loop μ-loop
-mul-put-pulse c =
+mul-put-bit : tie.Need-mul-put-bit Inv-loop μ-loop
+mul-put-bit c =
     let s = c .before .before .before .before .before .before .before .before in
     let l = c .before .before .before .loop in
     let p = s .args .p in
@@ -77,8 +79,8 @@ mul-put-pulse c =
     let b = f .slots-bound in
     omega (arith, group-inside p j n)
 
-add-put-pulse-2 : tie.Need-add-put-pulse-2 Inv-loop μ-loop
-add-put-pulse-2 c =
+add-put-bit-2 : tie.Need-add-put-bit-2 Inv-loop μ-loop
+add-put-bit-2 c =
     let s = c .before .before .before .before .before .before .before .before in
     let l = c .before .before .before .loop in
     let p = s .args .p in
@@ -87,10 +89,10 @@ add-put-pulse-2 c =
     let n : j < symbolCount p = omega (arith, row-inside p (s .args .row) (s .pre .1)) in
     let b = f .slots-bound in
     let e = c .before .placed-at .ensures in
-    omega (arith, group-inside p j n, placed-below p f (wordIn (s .args .words .now)) (s .args .row * p .symbols + l .k), group-least p f)
+    omega (arith, group-inside p j n, placed-below p f (wordIn (s .args .words .now)) (s .args .row * p .symbols + l .k), bounds p f .group-least)
 
-put-pulse-requires : tie.Need-put-pulse-requires Inv-loop μ-loop
-put-pulse-requires c κs =
+put-bit-requires : tie.Need-put-bit-requires Inv-loop μ-loop
+put-bit-requires c κs =
     let s = c .before .before .before .before .before .before .before .before in
     let l = c .before .before .before .loop in
     let p = s .args .p in
@@ -99,7 +101,7 @@ put-pulse-requires c κs =
     let n : j < symbolCount p = omega (arith, row-inside p (s .args .row) (s .pre .1)) in
     let r : length (l .slots) ≡ slotBytes p = l .inv .2 ∙ s .pre .0 .room in
     let e = c .before .placed-at .ensures in
-    omega (arith, group-inside p j n, placed-below p f (wordIn (s .args .words .now)) (s .args .row * p .symbols + l .k), group-least p f)
+    omega (arith, group-inside p j n, placed-below p f (wordIn (s .args .words .now)) (s .args .row * p .symbols + l .k), bounds p f .group-least)
 
 next-requires : tie.Need-next-requires Inv-loop μ-loop
 next-requires c κs =
@@ -123,7 +125,7 @@ loop-again c =
     let f = s .pre .0 .given .fine in
     let j : ℕ = s .args .row * unit p + p .count + l .k in
     let n : j < symbolCount p = omega (arith, row-inside p (s .args .row) (s .pre .1)) in
-    let o = c .before .before .before .put-pulse in
+    let o = c .before .before .before .put-bit in
     let q = c .before .before .before .before .before .placed-at in
     let w : ℕ → List ℕ = wordIn (s .args .words .now) in
     let x : ℕ = s .args .row * p .symbols + l .k in
@@ -133,7 +135,7 @@ loop-again c =
       o .kept .0 ∙ l .inv .2,
       λ end d. done-is p w (j + 1) (s .args .row * unit p + p .count + (l .k + 1)) end (o .last .0) (omega arith)
           (done-more p f w j end (q .result) (l .slots) (o .last .0) n
-          (q .ensures ∙ sym (row-place p f w (s .args .row) (l .k) (omega arith))) (l .inv .3 end d) (o .ensures) (λ i. omega (arith, c .before .slice-known2 .given i))),
+          (q .ensures ∙ sym (row-place p w (s .args .row) (l .k) (omega arith))) (l .inv .3 end d) (o .ensures) (λ i. omega (arith, c .before .slice-known2 .given i))),
     )
 
 same-length : tie.Need-same-length Inv-loop μ-loop
@@ -159,10 +161,10 @@ put-places-spec =
     loop-holds
     add-placed-at
     placed-at-requires
-    add-put-pulse
-    mul-put-pulse
-    add-put-pulse-2
-    put-pulse-requires
+    add-put-bit
+    mul-put-bit
+    add-put-bit-2
+    put-bit-requires
     next-requires
     add-k
     loop-less

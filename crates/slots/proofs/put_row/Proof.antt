@@ -4,14 +4,14 @@ use Prim.Native.Nat.{ℕ, _+_, _*_, _≤_}
 use native.Mathlib.Omega.{arith}
 use borrow.Author.Needs.{needs}
 use Rattle.slots.specs.Plan.{unit}
-use Rattle.slots.specs.Slots.{wordIn}
-use Rattle.slots.specs.Laws.{symbols-most}
+use Rattle.channel.specs.Symbols.{wordIn}
+use Rattle.slots.specs.Bounds.{bounds}
 use Rattle.slots.specs.Writing.{rowEnd, row-inside, row-end-inside, row-end-on, done-is, done-cleared}
 use Rattle.slots.proofs.put_row.Statement.{statement}
 use Rattle.slots.proofs.put_row.Tie as tie
 
 add-unit : tie.Need-add-unit
-add-unit c = let f = c .before .before .before .pre .0 .fine in let k = f .count-most in omega (arith, symbols-most _ f)
+add-unit c = let f = c .before .before .before .pre .0 .fine in let k = f .count-most in omega (arith, bounds _ f .symbols-most)
 
 mul-from : tie.Need-mul-from
 mul-from c = let s = c .before .before .before in let b = s .pre .0 .fine .symbols-bound in omega (arith, row-inside (s .args .p) (s .args .row) (s .pre .1))

@@ -4,7 +4,7 @@ use Prim.Native.Nat.{_*_, _-_, _≤_}
 use native.Mathlib.Omega.{arith}
 use borrow.Author.Needs.{needs}
 use Rattle.slots.specs.Plan.{unit}
-use Rattle.slots.specs.Slots.{wordIn}
+use Rattle.channel.specs.Symbols.{wordIn}
 use Rattle.slots.specs.Writing.{Done, rowEnd, done-none, done-all}
 use Rattle.slots.proofs.write.Statement.{statement}
 use Rattle.slots.proofs.write.Tie as tie

@@ -6,10 +6,10 @@ use native.Mathlib.Omega.{arith}
 use borrow.Author.Needs.{needs}
 use Rattle.bits.specs.First.{upTo, first-on, first-here, first-end}
 use Rattle.slots.specs.Plan.{unit, symbolCount}
-use Rattle.capture.specs.Bounds.{bounds, Bounds}
+use Rattle.slots.specs.Bounds.{bounds, Bounds}
 use Rattle.capture.specs.Capture.{markRight}
-use Rattle.capture.specs.Lines.{line-in}
-use Rattle.capture.specs.Scan.{bool-no, bool-yes}
+use Rattle.channel.specs.Markers.{line-in}
+use Rattle.bits.specs.Choice.{bool-no, bool-yes}
 use Rattle.capture.proofs.questions.bad_mark_in.Statement.{statement}
 use Rattle.capture.proofs.questions.bad_mark_in.Tie as tie
 
@@ -21,7 +21,7 @@ abbrev μ-loop : tie.MeasureT-loop
 
 -- the sizes that the needs rest on
 known : (s : tie.Start Inv-loop μ-loop) → Bounds (s .args .p) × (s .args .line * unit (s .args .p) + unit (s .args .p) ≤ symbolCount (s .args .p))
-known s = (bounds (s .args .p) (s .pre .0 .fine), line-in (s .args .p) (s .pre .0 .fine) (s .args .line) (s .pre .1))
+known s = (bounds (s .args .p) (s .pre .0 .fine), line-in (unit (s .args .p)) (s .args .p .lines) (s .args .line) (s .pre .1))
 
 add-first : tie.Need-add-first Inv-loop μ-loop
 add-first c = let r = known (c .before .before) in omega arith

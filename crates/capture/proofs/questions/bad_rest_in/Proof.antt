@@ -6,12 +6,12 @@ use native.Mathlib.Omega.{arith}
 use native.Mathlib.Nat.{mod-lt}
 use borrow.Author.Needs.{needs}
 use Rattle.bits.specs.First.{upTo, first-on, first-here, first-end, first-skip}
-use Rattle.slots.specs.Plan.{unit, symbolCount}
-use Rattle.slots.specs.Writing.{remainder-on}
-use Rattle.capture.specs.Bounds.{bounds, Bounds}
-use Rattle.capture.specs.Capture.{restZero}
-use Rattle.capture.specs.Lines.{line-in, rest-else}
-use Rattle.capture.specs.Scan.{bool-no, bool-yes}
+use Rattle.slots.specs.Plan.{unit, total, symbolCount}
+use Rattle.channel.specs.Places.{remainder-on}
+use Rattle.slots.specs.Bounds.{bounds, Bounds}
+use Rattle.capture.specs.Capture.{symbolIn, restZero}
+use Rattle.channel.specs.Markers.{line-in, rest-else}
+use Rattle.bits.specs.Choice.{bool-no, bool-yes}
 use Rattle.capture.proofs.questions.bad_rest_in.Statement.{statement}
 use Rattle.capture.proofs.questions.bad_rest_in.Tie as tie
 
@@ -23,7 +23,7 @@ abbrev μ-loop : tie.MeasureT-loop
 
 -- the sizes that the needs rest on
 known : (s : tie.Start Inv-loop μ-loop) → Bounds (s .args .p) × (s .args .line * unit (s .args .p) + unit (s .args .p) ≤ symbolCount (s .args .p))
-known s = (bounds (s .args .p) (s .pre .0 .fine), line-in (s .args .p) (s .pre .0 .fine) (s .args .line) (s .pre .1))
+known s = (bounds (s .args .p) (s .pre .0 .fine), line-in (unit (s .args .p)) (s .args .p .lines) (s .args .line) (s .pre .1))
 
 add-first : tie.Need-add-first Inv-loop μ-loop
 add-first c = let r = known (c .before .before) in omega arith
@@ -52,7 +52,7 @@ loop-holds c =
     let f : a .line * a .p .symbols ≡ a .line * a .p .symbols + 0 = omega arith in (
       search needs,
       ap (λ (x : ℕ). x % a .p .rows) f,
-      ap (λ (x : ℕ). upTo t x end) e ∙ first-skip t (a .p .count) end first (omega arith) (λ n g m. rest-else (a .p) (h .0 .fine) (a .line) (a .b .now) n g m),
+      ap (λ (x : ℕ). upTo t x end) e ∙ first-skip t (a .p .count) end first (omega arith) (λ n g m. rest-else (a .p .symbols) (a .p .count) (a .line) (a .p .rows) (a .p .step) (total (a .p)) (symbolIn (a .p) (a .b .now)) n g m),
     )
 
 rest-zero-requires : tie.Need-rest-zero-requires Inv-loop μ-loop

@@ -5,9 +5,10 @@ use native.Mathlib.Omega.{arith}
 use native.Mathlib.Nat.{le-refl, mul-le-mul}
 use borrow.Author.Needs.{needs}
 use Rattle.slots.specs.Plan.{unit, symbolCount}
-use Rattle.capture.specs.Bounds.{Bounds, bounds}
-use Rattle.capture.specs.Capture.{markRight, firstBadMark}
-use Rattle.capture.specs.Lines.{Sought, sought-start, sought-fails, sought-more, sought-end, line-in, mark-else}
+use Rattle.slots.specs.Bounds.{Bounds, bounds}
+use Rattle.capture.specs.Capture.{symbolIn, markRight, firstBadMark}
+use Rattle.bits.specs.First.{Sought, sought-start, sought-fails, sought-more, sought-end}
+use Rattle.channel.specs.Markers.{line-in, mark-else}
 use Rattle.capture.proofs.questions.first_bad_mark.Statement.{statement}
 use Rattle.capture.proofs.questions.first_bad_mark.Tie as tie
 
@@ -19,7 +20,7 @@ abbrev μ-loop : tie.MeasureT-loop
 
 -- the sizes that the needs rest on
 known : (s : tie.Start Inv-loop μ-loop) (line : ℕ) → line < s .args .p .lines → Bounds (s .args .p) × (line * unit (s .args .p) + unit (s .args .p) ≤ symbolCount (s .args .p))
-known s line l = (bounds (s .args .p) (s .pre .fine), line-in (s .args .p) (s .pre .fine) line l)
+known s line l = (bounds (s .args .p) (s .pre .fine), line-in (unit (s .args .p)) (s .args .p .lines) line l)
 
 add-unit : tie.Need-add-unit Inv-loop μ-loop
 add-unit c = let k = bounds (c .before .before .args .p) (c .before .before .pre .fine) in omega arith
@@ -58,7 +59,7 @@ loop-again c =
     let p = s .args .p in
     let r = known s (l .line) (omega arith) in
     sought-more _ _ _ _ (l .line) (l .inv) (l .line * unit p + p .count) _ (omega arith) (omega arith) (omega arith) (c .before .bad-mark-in .ensures) (omega arith) (omega arith)
-    (mark-else p (s .pre .fine) (l .line) (s .args .b .now))
+    (mark-else (p .symbols) (p .count) (l .line) (p .marks) (symbolIn p (s .args .b .now)))
 
 mul-result : tie.Need-mul-result Inv-loop μ-loop
 mul-result c =

@@ -6,9 +6,10 @@ use lib.ListN.{getD}
 use borrow.Author.Needs.{needs}
 use Rattle.bits.specs.Choice.{bool}
 use Rattle.slots.specs.Plan.{unit, symbolCount}
-use Rattle.capture.specs.Bounds.{bounds, Held, held}
-use Rattle.capture.specs.Groups.{tells}
-use Rattle.capture.specs.Lines.{line-in, mark-here}
+use Rattle.slots.specs.Bounds.{bounds, Held, held}
+use Rattle.pulses.specs.Groups.{tells}
+use Rattle.capture.specs.Capture.{symbolIn}
+use Rattle.channel.specs.Markers.{line-in, mark-here}
 use Rattle.capture.proofs.questions.mark_right.Statement.{statement}
 use Rattle.capture.proofs.questions.mark_right.Tie as tie
 
@@ -17,7 +18,7 @@ known : (s : tie.Start) → (s .args .line * unit (s .args .t1) + unit (s .args 
 known s =
     let a = s .args in
     let h = s .pre in
-    let u = line-in (a .t1) (h .0 .fine) (a .line) (h .1) in
+    let u = line-in (unit (a .t1)) (a .t1 .lines) (a .line) (h .1) in
     (u, held (a .t1) (h .0 .fine) (a .b .now) (h .0 .long) (a .line * unit (a .t1) + a .w) (let k = bounds (a .t1) (h .0 .fine) in omega arith), h .0 .fine .marks-below (a .w))
 
 add-s : tie.Need-add-s
@@ -52,8 +53,8 @@ returns c =
     let s : ℕ = a .line * unit (a .t1) + a .w in
     let v : ℕ = getD (a .t1 .marks) (a .w) 0 in
     c .bit-at .ensures
-    ∙ tells (a .t1) (h .0 .fine) (a .b .now) (h .0 .passed) s v (omega arith) (omega arith)
-    ∙ ap bool (sym (mark-here (a .t1) (h .0 .fine) (a .line) (a .b .now) (a .w) (h .2)))
+    ∙ tells (a .t1 .order) (a .t1 .group) (symbolCount (a .t1)) (omega arith) (a .b .now) (h .0 .passed) s v (omega arith) (omega arith)
+    ∙ ap bool (sym (mark-here (a .t1 .symbols) (a .t1 .count) (a .line) (a .t1 .marks) (symbolIn (a .t1) (a .b .now)) (a .w) (h .2)))
 
 pub mark-right-spec : {M : Type 1} → statement M
 mark-right-spec =

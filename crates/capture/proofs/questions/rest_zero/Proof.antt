@@ -4,10 +4,12 @@ use Prim.Native.Nat.{ℕ, _+_, _*_, _≤_}
 use native.Mathlib.Omega.{arith}
 use Rattle.bits.specs.Choice.{bool}
 use Rattle.bits.specs.Pack.{bitAt}
-use Rattle.slots.specs.Plan.{unit, symbolCount}
-use Rattle.capture.specs.Bounds.{Held, held}
-use Rattle.capture.specs.Groups.{tells}
-use Rattle.capture.specs.Lines.{line-in, rest-hit, rest-unhit}
+use Rattle.slots.specs.Plan.{unit, total, symbolCount}
+use borrow.Author.Needs.{needs}
+use Rattle.slots.specs.Bounds.{Held, held, placing}
+use Rattle.pulses.specs.Groups.{tells}
+use Rattle.capture.specs.Capture.{symbolIn}
+use Rattle.channel.specs.Markers.{line-in, rest-hit, rest-unhit}
 use Rattle.capture.proofs.questions.rest_zero.Statement.{statement}
 use Rattle.capture.proofs.questions.rest_zero.Tie as tie
 
@@ -16,28 +18,31 @@ known : (s : tie.Start) → (s .args .line * unit (s .args .p) + unit (s .args .
 known s =
     let a = s .args in
     let h = s .pre in
-    let u = line-in (a .p) (h .0 .fine) (a .line) (h .1) in
+    let u = line-in (unit (a .p)) (a .p .lines) (a .line) (h .1) in
     (u, held (a .p) (h .0 .fine) (a .b .now) (h .0 .long) (a .line * unit (a .p) + (a .p .count + a .i)) (omega arith))
 
+mul-total : tie.Need-mul-total
+mul-total c = search needs
+
 mul-hit-by : tie.Need-mul-hit-by
-mul-hit-by c = let r = known (c .before) in omega arith
+mul-hit-by c = let r = known (c .before .before) in omega arith
 
 add-hit-by : tie.Need-add-hit-by
-add-hit-by c = let r = known (c .before) in omega arith
+add-hit-by c = let r = known (c .before .before) in omega arith
 
 hit-by-requires : tie.Need-hit-by-requires
-hit-by-requires c κs = let h = c .before .pre in (h .0 .fine, h .3)
-
-mul-if1 : tie.Need-mul-if1
-mul-if1 c = let r = known (c .before .before .before) in omega arith
+hit-by-requires c κs =
+    let s = c .before .before in
+    let a = s .args in
+    placing (a .p) (s .pre .0 .fine) (a .line * a .p .symbols + a .i) (a .c) (s .pre .3)
 
 returns : tie.Need-returns
 returns c =
     let a = c .before .before .before .before .args in
     let h = c .before .before .before .before .pre in
     let r = known (c .before .before .before .before) in
-    let e = c .before .before .hit-by .ensures in
-    ap bool (sym (rest-hit (a .p) (h .0 .fine) (a .line) (a .b .now) (a .i) (h .2) (omega arith)))
+    let e = c .before .hit-by .ensures in
+    ap bool (sym (rest-hit (a .p .symbols) (a .p .count) (a .line) (a .p .rows) (a .p .step) (total (a .p)) (symbolIn (a .p) (a .b .now)) (a .i) (h .2) (omega arith)))
 
 add-s : tie.Need-add-s
 add-s c = let r = known (c .before .before .before .before .before) in omega arith
@@ -65,17 +70,17 @@ returns-2 c =
     let s : ℕ = a .line * unit (a .p) + (a .p .count + a .i) in
     let e : s * a .p .group ≡ s * a .p .group + 0 = omega arith in
     c .bit-at .ensures ∙ ap (bitAt (a .b .now)) e
-    ∙ tells (a .p) (h .0 .fine) (a .b .now) (h .0 .passed) s 0 (omega arith) (omega arith)
-    ∙ ap bool (sym (rest-unhit (a .p) (h .0 .fine) (a .line) (a .b .now) (a .i) (h .2) (let d = c .before .before .before .before .before .before .hit-by .ensures in omega arith)))
+    ∙ tells (a .p .order) (a .p .group) (symbolCount (a .p)) (omega arith) (a .b .now) (h .0 .passed) s 0 (omega arith) (omega arith)
+    ∙ ap bool (sym (rest-unhit (a .p .symbols) (a .p .count) (a .line) (a .p .rows) (a .p .step) (total (a .p)) (symbolIn (a .p) (a .b .now)) (a .i) (h .2) (let d = c .before .before .before .before .before .hit-by .ensures in omega arith)))
 
 pub rest-zero-spec : {M : Type 1} → statement M
 rest-zero-spec =
     tie.close
     (tie.spec
+    mul-total
     mul-hit-by
     add-hit-by
     hit-by-requires
-    mul-if1
     returns
     add-s
     mul-s

@@ -8,7 +8,7 @@ use lib.ListN.{length}
 use borrow.Rule.Slice.PartMut.{putMid, mid-len, same-len-mid}
 use Rattle.header.specs.Quantities.{blockCount}
 use Rattle.header.specs.Bounds.{blocks-most}
-use Rattle.slots.specs.Slots.{wordIn}
+use Rattle.channel.specs.Symbols.{wordIn}
 use Rattle.run.specs.Run.{wordAt}
 use Rattle.run.specs.Rooms.{wordsRoom}
 use Rattle.run.specs.Parts.{parts-more}

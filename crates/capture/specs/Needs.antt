@@ -1,0 +1,28 @@
+-- What the calls ask of the slots that they are lent.
+use mathlib.Core.Path.{_≡_}
+use mathlib.Core.List.{List}
+use Prim.Native.Nat.{ℕ, _<_}
+use lib.ListN.{length}
+use Rattle.pulses.specs.Groups.{Passed}
+use Rattle.slots.specs.declared.Plan.{Plan}
+use Rattle.slots.specs.Plan.{Fine, symbolCount, slotBytes}
+use Rattle.capture.specs.declared.SlotsAnswer.the-variants.{Good}
+use Rattle.capture.specs.Answer.{slotsSay}
+
+-- slots of the length that the plan implies
+pub record Captured (p : Plan) (b : List ℕ) : Type 0 where
+  pub fine : Fine p
+  pub long : length b ≡ slotBytes p
+
+-- with a symbol in each group
+pub record Grouped (p : Plan) (b : List ℕ) : Type 0 where
+  pub fine : Fine p
+  pub long : length b ≡ slotBytes p
+  pub passed : Passed (p .order) (p .group) (symbolCount p) b
+
+-- all four questions are answered yes, and there is room for word j
+pub record Taken (p : Plan) (b : List ℕ) (j : ℕ) (word : List ℕ) : Type 0 where
+  pub captured : Captured p b
+  pub good : slotsSay p b ≡ Good
+  pub one : j < p .words
+  pub room : length word ≡ 1890

@@ -1,0 +1,83 @@
+// Question 10 over all symbols. Most places of a long run hold 0, and forty bytes hold whole groups at every pulse order: where they show nothing but zeros, those groups are passed at once.
+ghost use mathlib.Core.Path.{_≡_};
+ghost use Prim.Native.Nat.{ℕ, _+_, _*_, _/_, _≤_, _<_};
+ghost use lib.ListN.{length, getD};
+ghost use Rattle.bits.specs.First.{upTo};
+ghost use Rattle.pulses.specs.Needs.{Slots};
+ghost use Rattle.pulses.specs.Pulses.{grouped, firstBadGroup};
+ghost use Rattle.pulses.specs.Zeros.{Zeros};
+
+// Forty bytes of zeros' slots.
+pub fn zeros(group: usize) -> [u8; 40]
+    requires { ⌜ (1 ≤ group) × (group ≤ 320) ⌝ }
+    ensures { λ r. ⌜ Zeros group r ⌝ }
+{
+    let mut slots = [0u8; 40];
+    let mut x = 0usize;
+    while x < 320 {
+        bits::packing::put_bit(&mut slots, x);
+        x += group;
+    }
+    slots
+}
+
+// 0 only where forty bytes from byte `at` on are those given.
+pub fn difference(b: &[u8], at: usize, given: &[u8]) -> u8
+    requires { ⌜ (at + 40 ≤ length (now b)) × (length (now given) ≡ 40) ⌝ }
+    ensures { λ r. ⌜ (r ≡ 0 → (k : ℕ) → k < 40 → getD (now (b .entry)) (at + k) 0 ≡ getD (now (given .entry)) k 0) ⌝ }
+{
+    let mut d = 0u8;
+    let mut k = 0usize;
+    while k < 40 {
+        d = d | (b[at + k] ^ given[k]);
+        k += 1;
+    }
+    d
+}
+
+// The first bad group of those from `from` on, or `to`.
+pub fn bad_group_in(order: usize, group: usize, b: &[u8], from: usize, to: usize) -> usize
+    requires { ⌜ Slots order group to (now b) × (from ≤ to) ⌝ }
+    ensures { λ r. ⌜ r ≡ upTo (grouped order group (now (b .entry))) from to ⌝ }
+{
+    let mut s = from;
+    while s < to {
+        if crate::symbol_in(order, group, b, s) >= order {
+            return s;
+        }
+        s += 1;
+    }
+    s
+}
+
+// The first bad group of those in forty bytes, the c-th forty, or the group behind them.
+fn bad_group_of_forty(order: usize, group: usize, b: &[u8], c: usize, given: &[u8]) -> usize
+    requires { ⌜ Slots order group (c * (320 / group) + 320 / group) (now b) × Zeros group (now given) ⌝ }
+    ensures { λ r. ⌜ r ≡ upTo (grouped order group (now (b .entry))) (c * (320 / group)) (c * (320 / group) + 320 / group) ⌝ }
+{
+    let count = 320 / group;
+    let from = c * count;
+    if difference(b, 40 * c, given) == 0 {
+        return from + count;
+    }
+    bad_group_in(order, group, b, from, from + count)
+}
+
+// Question 10, of n groups.
+pub fn first_bad_group(order: usize, group: usize, n: usize, b: &[u8]) -> usize
+    requires { ⌜ Slots order group n (now b) ⌝ }
+    ensures { λ r. ⌜ r ≡ firstBadGroup order group n (now (b .entry)) ⌝ }
+{
+    let count = 320 / group;
+    let whole = n / count;
+    let given = zeros(group);
+    let mut c = 0usize;
+    while c < whole {
+        let s = bad_group_of_forty(order, group, b, c, &given);
+        if s < c * count + count {
+            return s;
+        }
+        c += 1;
+    }
+    bad_group_in(order, group, b, whole * count, n)
+}
