@@ -50,6 +50,19 @@ pub fn bad_group_in(order: usize, group: usize, b: &[u8], from: usize, to: usize
     s
 }
 
+// The same, all at once where eight bytes stand behind them.
+pub fn bad_group_among(order: usize, group: usize, b: &[u8], from: usize, to: usize) -> usize
+    requires { ⌜ Slots order group to (now b) × (from ≤ to) ⌝ }
+    ensures { λ r. ⌜ r ≡ upTo (grouped order group (now (b .entry))) from to ⌝ }
+{
+    if to * group / 8 + 8 < b.len() {
+        if crate::numbers::all_good(order, group, b, from, to) {
+            return to;
+        }
+    }
+    bad_group_in(order, group, b, from, to)
+}
+
 // The first bad group of those in forty bytes, the c-th forty, or the group behind them.
 fn bad_group_of_forty(order: usize, group: usize, b: &[u8], c: usize, given: &[u8]) -> usize
     requires { ⌜ Slots order group (c * (320 / group) + 320 / group) (now b) × Zeros group (now given) ⌝ }
@@ -60,7 +73,7 @@ fn bad_group_of_forty(order: usize, group: usize, b: &[u8], c: usize, given: &[u
     if difference(b, 40 * c, given) == 0 {
         return from + count;
     }
-    bad_group_in(order, group, b, from, from + count)
+    bad_group_among(order, group, b, from, from + count)
 }
 
 // Question 10, of n groups.

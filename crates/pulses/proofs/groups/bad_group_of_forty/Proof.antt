@@ -46,11 +46,11 @@ returns c =
     (λ k l h. ap (λ (v : ℕ). ltb v (a .order)) (forty-zeros (a .order) (a .group) (s .pre .0 .shape) (a .c) (a .b .now) (a .given .now) (s .pre .1) (c .before .difference .ensures (c .if1 .taken)) k l h)
     ∙ lt-ltb 0 (a .order) (omega arith)))
 
-add-bad-group-in : tie.Need-add-bad-group-in
-add-bad-group-in c = let s = c .before .before .before .before in let k = few _ _ _ _ (s .pre .0) in omega arith
+add-bad-group-among : tie.Need-add-bad-group-among
+add-bad-group-among c = let s = c .before .before .before .before in let k = few _ _ _ _ (s .pre .0) in omega arith
 
-bad-group-in-requires : tie.Need-bad-group-in-requires
-bad-group-in-requires c κs = search needs
+bad-group-among-requires : tie.Need-bad-group-among-requires
+bad-group-among-requires c κs = search needs
 
 returns-2 : tie.Need-returns-2
 returns-2 c = search needs
@@ -65,6 +65,6 @@ bad-group-of-forty-spec =
     difference-requires
     add-result
     returns
-    add-bad-group-in
-    bad-group-in-requires
+    add-bad-group-among
+    bad-group-among-requires
     returns-2)
