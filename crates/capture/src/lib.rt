@@ -1,5 +1,7 @@
 // Steps 10 to 8 undone, with questions 9 to 12: captured slots back to words.
-mod questions;
+mod marks;
+mod pass;
+mod rest;
 mod words;
 
 ghost use mathlib.Core.Path.{_≡_};
@@ -30,15 +32,16 @@ pub fn judge(p: slots::Plan, b: &[u8]) -> SlotsAnswer
     if bits::scan::first_one(b, n * p.group, end) != end {
         return SlotsAnswer::SpareSlots;
     }
-    let group = pulses::groups::first_bad_group(p.order, p.group, n, b);
+    let found = pass::find(p, b);
+    let group = found.group;
     if group != n {
         return SlotsAnswer::BadGroup(group);
     }
-    let mark = questions::first_bad_mark(p, b);
+    let mark = marks::first_bad_mark(p, b);
     if mark != n {
         return SlotsAnswer::BadMark(mark);
     }
-    let rest = questions::first_bad_rest(p, b);
+    let rest = found.rest;
     if rest != n {
         return SlotsAnswer::BadRest(rest);
     }

@@ -6,17 +6,17 @@ use native.Mathlib.Nat.{le-refl, mul-le-mul}
 use borrow.Author.Needs.{needs}
 use Rattle.slots.specs.Plan.{unit, symbolCount}
 use Rattle.slots.specs.Bounds.{Bounds, bounds}
-use Rattle.capture.specs.Capture.{restZero, firstBadRest}
+use Rattle.capture.specs.Capture.{symbolIn, markRight, firstBadMark}
 use Rattle.bits.specs.First.{Sought, sought-start, sought-fails, sought-more, sought-end}
-use Rattle.channel.specs.Markers.{line-in}
-use Rattle.capture.proofs.questions.first_bad_rest.Statement.{statement}
-use Rattle.capture.proofs.questions.first_bad_rest.Tie as tie
+use Rattle.channel.specs.Markers.{line-in, mark-else}
+use Rattle.capture.proofs.marks.first_bad_mark.Statement.{statement}
+use Rattle.capture.proofs.marks.first_bad_mark.Tie as tie
 
 abbrev Inv-loop : tie.InvT-loop
-Inv-loop p b unit lines line₀ line = Sought (restZero p b) unit (lines * unit) lines line
+Inv-loop p b unit count lines line₀ line = Sought (markRight p b) unit (lines * unit) lines line
 
 abbrev μ-loop : tie.MeasureT-loop
-μ-loop p b unit lines line₀ line = lines - line
+μ-loop p b unit count lines line₀ line = lines - line
 
 -- the sizes that the needs rest on
 known : (s : tie.Start Inv-loop μ-loop) (line : ℕ) → line < s .args .p .lines → Bounds (s .args .p) × (line * unit (s .args .p) + unit (s .args .p) ≤ symbolCount (s .args .p))
@@ -28,8 +28,8 @@ add-unit c = let k = bounds (c .before .before .args .p) (c .before .before .pre
 loop-holds : tie.Need-loop-holds Inv-loop μ-loop
 loop-holds c = sought-start _ _ _ _
 
-bad-rest-in-requires : tie.Need-bad-rest-in-requires Inv-loop μ-loop
-bad-rest-in-requires c κs = (c .before .before .before .before .pre, omega arith)
+bad-mark-in-requires : tie.Need-bad-mark-in-requires Inv-loop μ-loop
+bad-mark-in-requires c κs = (c .before .before .before .before .pre, omega arith)
 
 mul-if1 : tie.Need-mul-if1 Inv-loop μ-loop
 mul-if1 c = let r = known (c .before .before .before .before .before) (c .before .before .loop .line) (omega arith) in omega arith
@@ -38,13 +38,13 @@ add-if1 : tie.Need-add-if1 Inv-loop μ-loop
 add-if1 c = let r = known (c .before .before .before .before .before) (c .before .before .loop .line) (omega arith) in omega arith
 
 returns : tie.Need-returns Inv-loop μ-loop
-unfolding firstBadRest
+unfolding firstBadMark
 returns c =
     let s = c .before .before .before .before .before .before in
     let l = c .before .before .before .loop in
     let p = s .args .p in
     let r = known s (l .line) (omega arith) in
-    sought-fails _ _ _ _ (l .line) (l .inv) (l .line * unit p + unit p) _ (omega arith) (omega arith) (omega arith) (c .before .bad-rest-in .ensures) (omega arith)
+    sought-fails _ _ _ _ (l .line) (l .inv) (l .line * unit p + p .count) _ (omega arith) (omega arith) (omega arith) (c .before .bad-mark-in .ensures) (omega arith)
 
 add-line : tie.Need-add-line Inv-loop μ-loop
 add-line c = search needs
@@ -58,8 +58,8 @@ loop-again c =
     let l = c .before .before .before .loop in
     let p = s .args .p in
     let r = known s (l .line) (omega arith) in
-    sought-more _ _ _ _ (l .line) (l .inv) (l .line * unit p + unit p) _ (omega arith) (omega arith) (omega arith) (c .before .bad-rest-in .ensures) (omega arith) (omega arith)
-    (λ k a b. absurd (omega arith))
+    sought-more _ _ _ _ (l .line) (l .inv) (l .line * unit p + p .count) _ (omega arith) (omega arith) (omega arith) (c .before .bad-mark-in .ensures) (omega arith) (omega arith)
+    (mark-else (p .symbols) (p .count) (l .line) (p .marks) (symbolIn p (s .args .b .now)))
 
 mul-result : tie.Need-mul-result Inv-loop μ-loop
 mul-result c =
@@ -68,22 +68,22 @@ mul-result c =
     omega (arith, mul-le-mul (c .before .loop .inv .turn) (le-refl (unit (a .p))))
 
 returns-2 : tie.Need-returns-2 Inv-loop μ-loop
-unfolding firstBadRest
+unfolding firstBadMark
 returns-2 c =
     let l = c .before .loop in
     let p = c .before .before .before .before .args .p in
     let e : l .line ≡ p .lines = let t = l .inv .turn in omega arith in
     sought-end _ _ _ _ (l .line) (l .inv) (ap (λ (i : ℕ). i * unit p) e)
 
-pub first-bad-rest-spec : {M : Type 1} → statement M
-first-bad-rest-spec =
+pub first-bad-mark-spec : {M : Type 1} → statement M
+first-bad-mark-spec =
     tie.close
     (tie.spec
     Inv-loop
     μ-loop
     add-unit
     loop-holds
-    bad-rest-in-requires
+    bad-mark-in-requires
     mul-if1
     add-if1
     returns

@@ -10,8 +10,8 @@ use Rattle.slots.specs.Bounds.{bounds, Held, held}
 use Rattle.pulses.specs.Groups.{tells}
 use Rattle.capture.specs.Capture.{symbolIn}
 use Rattle.channel.specs.Markers.{line-in, mark-here}
-use Rattle.capture.proofs.questions.mark_right.Statement.{statement}
-use Rattle.capture.proofs.questions.mark_right.Tie as tie
+use Rattle.capture.proofs.marks.mark_right.Statement.{statement}
+use Rattle.capture.proofs.marks.mark_right.Tie as tie
 
 -- the sizes that the needs rest on
 known : (s : tie.Start) → (s .args .line * unit (s .args .t1) + unit (s .args .t1) ≤ symbolCount (s .args .t1)) × Held (s .args .t1) (s .args .b .now) (s .args .line * unit (s .args .t1) + s .args .w) × (getD (s .args .t1 .marks) (s .args .w) 0 < s .args .t1 .order)

@@ -7,11 +7,11 @@ use Rattle.bits.specs.Pack.{bitAt}
 use Rattle.slots.specs.Plan.{unit, total, symbolCount}
 use borrow.Author.Needs.{needs}
 use Rattle.slots.specs.Bounds.{Held, held, placing}
-use Rattle.pulses.specs.Groups.{tells}
+use Rattle.pulses.specs.Groups.{group-got}
 use Rattle.capture.specs.Capture.{symbolIn}
 use Rattle.channel.specs.Markers.{line-in, rest-hit, rest-unhit}
-use Rattle.capture.proofs.questions.rest_zero.Statement.{statement}
-use Rattle.capture.proofs.questions.rest_zero.Tie as tie
+use Rattle.capture.proofs.rest.rest_zero.Statement.{statement}
+use Rattle.capture.proofs.rest.rest_zero.Tie as tie
 
 -- the sizes that the needs rest on
 known : (s : tie.Start) → (s .args .line * unit (s .args .p) + unit (s .args .p) ≤ symbolCount (s .args .p)) × Held (s .args .p) (s .args .b .now) (s .args .line * unit (s .args .p) + (s .args .p .count + s .args .i))
@@ -70,7 +70,7 @@ returns-2 c =
     let s : ℕ = a .line * unit (a .p) + (a .p .count + a .i) in
     let e : s * a .p .group ≡ s * a .p .group + 0 = omega arith in
     c .bit-at .ensures ∙ ap (bitAt (a .b .now)) e
-    ∙ tells (a .p .order) (a .p .group) (symbolCount (a .p)) (omega arith) (a .b .now) (h .0 .passed) s 0 (omega arith) (omega arith)
+    ∙ group-got (a .p .order) (a .p .group) (omega arith) (a .b .now) s (h .4) .slot 0 (omega arith)
     ∙ ap bool (sym (rest-unhit (a .p .symbols) (a .p .count) (a .line) (a .p .rows) (a .p .step) (total (a .p)) (symbolIn (a .p) (a .b .now)) (a .i) (h .2) (let d = c .before .before .before .before .before .hit-by .ensures in omega arith)))
 
 pub rest-zero-spec : {M : Type 1} → statement M

@@ -10,8 +10,8 @@ use Rattle.slots.specs.Bounds.{bounds, Bounds}
 use Rattle.capture.specs.Capture.{markRight}
 use Rattle.channel.specs.Markers.{line-in}
 use Rattle.bits.specs.Choice.{bool-no, bool-yes}
-use Rattle.capture.proofs.questions.bad_mark_in.Statement.{statement}
-use Rattle.capture.proofs.questions.bad_mark_in.Tie as tie
+use Rattle.capture.proofs.marks.bad_mark_in.Statement.{statement}
+use Rattle.capture.proofs.marks.bad_mark_in.Tie as tie
 
 abbrev Inv-loop : tie.InvT-loop
 Inv-loop p b line first count w₀ w = (w ≤ count) × (upTo (markRight p b) (first + w) (first + count) ≡ upTo (markRight p b) first (first + count))
