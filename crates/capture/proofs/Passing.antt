@@ -10,8 +10,8 @@ use Rattle.bits.specs.Choice.{lt-or-le}
 use Rattle.bits.specs.First.{upTo, first-skip, first-end, part-fails, part-passes}
 use Rattle.pulses.specs.Zeros.{whole-groups}
 use Rattle.slots.specs.Bounds.{bounds, shape}
-use Rattle.slots.specs.declared.Plan.{Plan}
-use Rattle.slots.specs.Plan.{Fine, unit, symbolCount}
+use Rattle.plan.specs.declared.Plan.{Plan}
+use Rattle.plan.specs.Plan.{Fine, unit, symbolCount}
 use Rattle.capture.specs.Capture.{restZero, firstBadRest}
 use Rattle.capture.specs.Pass.{Known}
 

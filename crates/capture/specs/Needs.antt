@@ -4,9 +4,9 @@ use mathlib.Core.List.{List}
 use Prim.Native.Nat.{ℕ, _+_, _≤_, _<_}
 use lib.ListN.{length}
 use Rattle.pulses.specs.Groups.{Passed}
-use Rattle.slots.specs.declared.Plan.{Plan}
-use Rattle.slots.specs.Plan.{Fine, unit, symbolCount, slotBytes}
-use Rattle.capture.specs.declared.SlotsAnswer.the-variants.{Good}
+use Rattle.plan.specs.declared.Plan.{Plan}
+use Rattle.plan.specs.Plan.{Fine, unit, symbolCount, slotBytes}
+use Rattle.answers.specs.declared.Answer.the-variants.{Done}
 use Rattle.capture.specs.Answer.{slotsSay}
 use Rattle.capture.specs.Capture.{symbolIn}
 
@@ -32,6 +32,6 @@ pub record Stretch (p : Plan) (b : List ℕ) (from to : ℕ) : Type 0 where
 -- all four questions are answered yes, and there is room for word j
 pub record Taken (p : Plan) (b : List ℕ) (j : ℕ) (word : List ℕ) : Type 0 where
   pub captured : Captured p b
-  pub good : slotsSay p b ≡ Good
+  pub good : slotsSay p b ≡ Done
   pub one : j < p .words
   pub room : length word ≡ 1890

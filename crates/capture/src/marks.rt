@@ -3,12 +3,12 @@ ghost use mathlib.Core.Path.{_≡_};
 ghost use Prim.Native.Nat.{_+_, _*_, _<_};
 ghost use Rattle.bits.specs.Choice.{bool};
 ghost use Rattle.bits.specs.First.{upTo};
-ghost use Rattle.slots.specs.Plan.{unit};
+ghost use Rattle.plan.specs.Plan.{unit};
 ghost use Rattle.capture.specs.Needs.{Grouped};
 ghost use Rattle.capture.specs.Capture.{markRight, firstBadMark};
 
 // Marker symbol w of a line. Each group has one pulse, so that the slot of the right symbol tells.
-fn mark_right(p: slots::Plan, b: &[u8], line: usize, w: usize) -> u8
+fn mark_right(p: plan::Plan, b: &[u8], line: usize, w: usize) -> u8
     requires { ⌜ Grouped p (now b) × (line < p .lines) × (w < p .count) ⌝ }
     ensures { λ r. ⌜ r ≡ bool (markRight p (now (b .entry)) (line * unit p + w)) ⌝ }
 {
@@ -18,7 +18,7 @@ fn mark_right(p: slots::Plan, b: &[u8], line: usize, w: usize) -> u8
 }
 
 // The first wrong marker symbol of a line, or the symbol behind them.
-fn bad_mark_in(p: slots::Plan, b: &[u8], line: usize) -> usize
+fn bad_mark_in(p: plan::Plan, b: &[u8], line: usize) -> usize
     requires { ⌜ Grouped p (now b) × (line < p .lines) ⌝ }
     ensures { λ r. ⌜ r ≡ upTo (markRight p (now (b .entry))) (line * unit p) (line * unit p + p .count) ⌝ }
 {
@@ -35,7 +35,7 @@ fn bad_mark_in(p: slots::Plan, b: &[u8], line: usize) -> usize
 }
 
 // Question 11.
-pub fn first_bad_mark(p: slots::Plan, b: &[u8]) -> usize
+pub fn first_bad_mark(p: plan::Plan, b: &[u8]) -> usize
     requires { ⌜ Grouped p (now b) ⌝ }
     ensures { λ r. ⌜ r ≡ firstBadMark p (now (b .entry)) ⌝ }
 {

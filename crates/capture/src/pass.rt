@@ -4,7 +4,7 @@ ghost use Prim.Native.Nat.{_+_, _*_, _/_, _≤_};
 ghost use Rattle.bits.specs.First.{upTo};
 ghost use Rattle.pulses.specs.Pulses.{grouped};
 ghost use Rattle.pulses.specs.Zeros.{Zeros};
-ghost use Rattle.slots.specs.Plan.{symbolCount};
+ghost use Rattle.plan.specs.Plan.{symbolCount};
 ghost use Rattle.capture.specs.Needs.{Captured};
 ghost use Rattle.capture.specs.Capture.{firstBadGroup, firstBadRest};
 ghost use Rattle.capture.specs.Pass.{Known, Seeks};
@@ -16,7 +16,7 @@ pub struct Faults {
 }
 
 // The groups from `from` on up to `to`, and what is known of the places before them.
-fn look(p: slots::Plan, b: &[u8], from: usize, to: usize, rest: usize) -> Faults
+fn look(p: plan::Plan, b: &[u8], from: usize, to: usize, rest: usize) -> Faults
     requires { ⌜ Seeks p (now b) from to rest ⌝ }
     ensures { λ r. ⌜ r .group ≡ upTo (grouped (p .order) (p .group) (now (b .entry))) from to ⌝ }
     ensures { λ r. ⌜ (to ≤ r .group → Known p (now (b .entry)) to (r .rest)) ⌝ }
@@ -30,7 +30,7 @@ fn look(p: slots::Plan, b: &[u8], from: usize, to: usize, rest: usize) -> Faults
 }
 
 // The groups of forty bytes, the c-th forty.
-fn look_at_forty(p: slots::Plan, b: &[u8], c: usize, given: &[u8], rest: usize) -> Faults
+fn look_at_forty(p: plan::Plan, b: &[u8], c: usize, given: &[u8], rest: usize) -> Faults
     requires { ⌜ Seeks p (now b) (c * (320 / p .group)) (c * (320 / p .group) + 320 / p .group) rest × Zeros (p .group) (now given) ⌝ }
     ensures { λ r. ⌜ r .group ≡ upTo (grouped (p .order) (p .group) (now (b .entry))) (c * (320 / p .group)) (c * (320 / p .group) + 320 / p .group) ⌝ }
     ensures { λ r. ⌜ (c * (320 / p .group) + 320 / p .group ≤ r .group → Known p (now (b .entry)) (c * (320 / p .group) + 320 / p .group) (r .rest)) ⌝ }
@@ -45,7 +45,7 @@ fn look_at_forty(p: slots::Plan, b: &[u8], c: usize, given: &[u8], rest: usize) 
 }
 
 // Questions 10 and 12 of all symbols; 12 only where 10 is answered yes.
-pub fn find(p: slots::Plan, b: &[u8]) -> Faults
+pub fn find(p: plan::Plan, b: &[u8]) -> Faults
     requires { ⌜ Captured p (now b) ⌝ }
     ensures { λ r. ⌜ r .group ≡ firstBadGroup p (now (b .entry)) ⌝ }
     ensures { λ r. ⌜ (r .group ≡ symbolCount p → r .rest ≡ firstBadRest p (now (b .entry))) ⌝ }

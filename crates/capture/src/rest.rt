@@ -5,13 +5,13 @@ ghost use Prim.Native.Nat.{_+_, _-_, _*_, _%_, _≤_, _<_};
 ghost use Rattle.bits.specs.Choice.{bool};
 ghost use Rattle.bits.specs.First.{upTo};
 ghost use Rattle.channel.specs.Places.{delay};
-ghost use Rattle.slots.specs.Plan.{Fine, unit, total};
+ghost use Rattle.plan.specs.Plan.{Fine, unit, total};
 ghost use Rattle.capture.specs.Needs.{Captured, Stretch};
 ghost use Rattle.capture.specs.Capture.{symbolIn, restZero};
 ghost use Rattle.capture.specs.Pass.{Known};
 
 // Place i of a line, which is c modulo N, of all places. Its group has one pulse, so that the first slot tells.
-fn rest_zero(p: slots::Plan, b: &[u8], line: usize, i: usize, c: usize) -> u8
+fn rest_zero(p: plan::Plan, b: &[u8], line: usize, i: usize, c: usize) -> u8
     requires { ⌜ Captured p (now b) × (line < p .lines) × (i < p .symbols) × (c ≡ (line * p .symbols + i) % p .rows) × (symbolIn p (now b) (line * unit p + (p .count + i)) < p .order) ⌝ }
     ensures { λ r. ⌜ r ≡ bool (restZero p (now (b .entry)) (line * unit p + (p .count + i))) ⌝ }
 {
@@ -25,7 +25,7 @@ fn rest_zero(p: slots::Plan, b: &[u8], line: usize, i: usize, c: usize) -> u8
 }
 
 // The first symbol of a line, from `from` on, that stands at a place that is not hit and is not 0; or `to`.
-fn bad_rest_in(p: slots::Plan, b: &[u8], line: usize, from: usize, to: usize) -> usize
+fn bad_rest_in(p: plan::Plan, b: &[u8], line: usize, from: usize, to: usize) -> usize
     requires { ⌜ Stretch p (now b) from to × (line < p .lines) × (line * unit p ≤ from) × (to ≤ line * unit p + unit p) ⌝ }
     ensures { λ r. ⌜ r ≡ upTo (restZero p (now (b .entry))) from to ⌝ }
 {
@@ -45,7 +45,7 @@ fn bad_rest_in(p: slots::Plan, b: &[u8], line: usize, from: usize, to: usize) ->
 }
 
 // The places of a line and of the next are all hit.
-fn all_hit(p: slots::Plan, line: usize) -> bool
+fn all_hit(p: plan::Plan, line: usize) -> bool
     requires { ⌜ Fine p × (line < p .lines) ⌝ }
     ensures { λ r. ⌜ (r ≡ true → (delay (p .rows) (p .step) (p .rows - 1) ≤ line * p .symbols) × (line * p .symbols + 2 * p .symbols ≤ total p)) ⌝ }
 {
@@ -59,7 +59,7 @@ fn all_hit(p: slots::Plan, line: usize) -> bool
 }
 
 // The same for symbols of one line or two.
-fn bad_rest(p: slots::Plan, b: &[u8], from: usize, to: usize) -> usize
+fn bad_rest(p: plan::Plan, b: &[u8], from: usize, to: usize) -> usize
     requires { ⌜ Stretch p (now b) from to × (from < to) ⌝ }
     ensures { λ r. ⌜ r ≡ upTo (restZero p (now (b .entry))) from to ⌝ }
 {
@@ -81,7 +81,7 @@ fn bad_rest(p: slots::Plan, b: &[u8], from: usize, to: usize) -> usize
 }
 
 // The first wrong place as it is known when these symbols were looked at, too.
-pub fn rest_after(p: slots::Plan, b: &[u8], from: usize, to: usize, rest: usize) -> usize
+pub fn rest_after(p: plan::Plan, b: &[u8], from: usize, to: usize, rest: usize) -> usize
     requires { ⌜ Stretch p (now b) from to × (from < to) × Known p (now b) from rest ⌝ }
     ensures { λ r. ⌜ Known p (now (b .entry)) to r ⌝ }
 {

@@ -14,8 +14,8 @@ use Rattle.bits.specs.Pack.{bitAt, Bytes, bytes-made}
 use Rattle.bits.specs.Put.{withBit, putBit, put-same, put-other}
 use Rattle.channel.specs.Markers.{line-place}
 use Rattle.pulses.specs.Pulses as pulses
-use Rattle.slots.specs.declared.Plan.{Plan}
-use Rattle.slots.specs.Plan.{Fine, unit, symbolCount, slotBytes}
+use Rattle.plan.specs.declared.Plan.{Plan}
+use Rattle.plan.specs.Plan.{Fine, unit, symbolCount, slotBytes}
 use Rattle.slots.specs.Bounds.{bounds}
 use Rattle.slots.specs.Slots.{placed, symbolAt, slotBit, slotsOf}
 use Rattle.slots.specs.Cleared.{Cleared}

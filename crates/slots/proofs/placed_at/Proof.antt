@@ -4,7 +4,7 @@ use borrow.Author.Needs.{needs}
 use Rattle.channel.specs.Symbols.{wordIn}
 use Rattle.channel.specs.Places.{placed-hit, placed-rest}
 use Rattle.slots.specs.Bounds.{placing}
-use Rattle.slots.specs.Plan.{total}
+use Rattle.plan.specs.Plan.{total}
 use Rattle.slots.specs.Slots.{dataAt}
 use Rattle.slots.proofs.placed_at.Statement.{statement}
 use Rattle.slots.proofs.placed_at.Tie as tie

@@ -5,7 +5,7 @@ use Prim.Native.Nat.{ℕ, _+_, _-_, _*_, _≤_, _<_}
 use native.Mathlib.Omega.{arith}
 use lib.ListN.{length, getD}
 use borrow.Author.Needs.{needs}
-use Rattle.slots.specs.Plan.{unit, symbolCount}
+use Rattle.plan.specs.Plan.{unit, symbolCount}
 use Rattle.channel.specs.Markers.{line-mark}
 use Rattle.slots.specs.Bounds.{bounds}
 use Rattle.slots.specs.Slots.{placed}

@@ -6,7 +6,7 @@ use native.Mathlib.Omega.{arith}
 use native.Mathlib.Nat.{mod-lt}
 use lib.ListN.{length}
 use borrow.Author.Needs.{needs}
-use Rattle.slots.specs.Plan.{unit, symbolCount, slotBytes}
+use Rattle.plan.specs.Plan.{unit, symbolCount, slotBytes}
 use Rattle.slots.specs.Bounds.{bounds}
 use Rattle.channel.specs.Symbols.{wordIn}
 use Rattle.channel.specs.Places.{remainder-on}

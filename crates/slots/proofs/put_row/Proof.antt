@@ -3,7 +3,7 @@ use mathlib.Core.Path.{_∙_}
 use Prim.Native.Nat.{ℕ, _+_, _*_, _≤_}
 use native.Mathlib.Omega.{arith}
 use borrow.Author.Needs.{needs}
-use Rattle.slots.specs.Plan.{unit}
+use Rattle.plan.specs.Plan.{unit}
 use Rattle.channel.specs.Symbols.{wordIn}
 use Rattle.slots.specs.Bounds.{bounds}
 use Rattle.slots.specs.Writing.{rowEnd, row-inside, row-end-inside, row-end-on, done-is, done-cleared}

@@ -3,7 +3,7 @@ use mathlib.Core.Path.{_≡_, sym, _∙_}
 use Prim.Native.Nat.{_*_, _-_, _≤_}
 use native.Mathlib.Omega.{arith}
 use borrow.Author.Needs.{needs}
-use Rattle.slots.specs.Plan.{unit}
+use Rattle.plan.specs.Plan.{unit}
 use Rattle.channel.specs.Symbols.{wordIn}
 use Rattle.slots.specs.Writing.{Done, rowEnd, done-none, done-all}
 use Rattle.slots.proofs.write.Statement.{statement}

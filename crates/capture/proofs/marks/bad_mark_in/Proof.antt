@@ -5,7 +5,7 @@ use Prim.Native.Nat.{ℕ, _+_, _-_, _*_, _≤_}
 use native.Mathlib.Omega.{arith}
 use borrow.Author.Needs.{needs}
 use Rattle.bits.specs.First.{upTo, first-on, first-here, first-end}
-use Rattle.slots.specs.Plan.{unit, symbolCount}
+use Rattle.plan.specs.Plan.{unit, symbolCount}
 use Rattle.slots.specs.Bounds.{bounds, Bounds}
 use Rattle.capture.specs.Capture.{markRight}
 use Rattle.channel.specs.Markers.{line-in}

@@ -4,7 +4,7 @@ use Prim.Native.Nat.{ℕ, _+_, _-_, _*_, _≤_, _<_}
 use native.Mathlib.Omega.{arith}
 use native.Mathlib.Nat.{le-refl, mul-le-mul}
 use borrow.Author.Needs.{needs}
-use Rattle.slots.specs.Plan.{unit, symbolCount}
+use Rattle.plan.specs.Plan.{unit, symbolCount}
 use Rattle.slots.specs.Bounds.{Bounds, bounds}
 use Rattle.capture.specs.Capture.{symbolIn, markRight, firstBadMark}
 use Rattle.bits.specs.First.{Sought, sought-start, sought-fails, sought-more, sought-end}

@@ -5,7 +5,7 @@ use native.Mathlib.Omega.{arith}
 use lib.ListN.{getD}
 use borrow.Author.Needs.{needs}
 use Rattle.bits.specs.Choice.{bool}
-use Rattle.slots.specs.Plan.{unit, symbolCount}
+use Rattle.plan.specs.Plan.{unit, symbolCount}
 use Rattle.slots.specs.Bounds.{bounds, Held, held}
 use Rattle.pulses.specs.Groups.{tells}
 use Rattle.capture.specs.Capture.{symbolIn}

@@ -5,7 +5,7 @@ use native.Mathlib.Nat.{le-refl, mul-le-mul, mod-lt, div-add-mod'}
 use borrow.Author.Needs.{needs}
 use Rattle.pulses.specs.Zeros.{some-groups, forty-room}
 use Rattle.slots.specs.Bounds.{Bounds, bounds, shape}
-use Rattle.slots.specs.Plan.{unit, symbolCount}
+use Rattle.plan.specs.Plan.{unit, symbolCount}
 use Rattle.capture.proofs.Passing.{known-start, known-end, few-groups}
 use Prim.Native.Nat.{ℕ, _+_, _-_, _*_, _/_, _%_, _≤_, _<_}
 use Rattle.bits.specs.First.{upTo, Sought, sought-start, sought-fails, sought-more, sought-end}

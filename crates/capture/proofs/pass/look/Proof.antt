@@ -5,7 +5,7 @@ use Rattle.bits.specs.First.{found, none-found}
 use Rattle.pulses.specs.Needs.{fewer}
 use Rattle.pulses.specs.Pulses.{grouped}
 use Rattle.slots.specs.Bounds.{lies}
-use Rattle.slots.specs.Plan.{symbolCount}
+use Rattle.plan.specs.Plan.{symbolCount}
 use Rattle.capture.specs.Capture.{symbolIn}
 use borrow.Author.Needs.{needs}
 use Rattle.capture.proofs.pass.look.Statement.{statement}

@@ -11,7 +11,7 @@ use Rattle.channel.specs.Markers.{rest-zero}
 use Rattle.pulses.specs.Pulses.{grouped}
 use Rattle.pulses.specs.Zeros.{forty-in, forty-zeros}
 use Rattle.slots.specs.Bounds.{bounds, shape}
-use Rattle.slots.specs.Plan.{total, symbolCount}
+use Rattle.plan.specs.Plan.{total, symbolCount}
 use Rattle.capture.specs.Capture.{symbolIn}
 use Rattle.capture.proofs.Passing.{known-pass}
 use borrow.Author.Needs.{needs}

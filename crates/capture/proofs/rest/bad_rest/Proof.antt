@@ -10,7 +10,7 @@ use Rattle.bits.specs.First.{upTo, found, found-none, part-fails, part-passes}
 use Rattle.bits.specs.Window.{lesser-min}
 use Rattle.channel.specs.Markers.{line-in, rest-middle}
 use Rattle.slots.specs.Bounds.{Bounds, bounds}
-use Rattle.slots.specs.Plan.{unit, total, symbolCount}
+use Rattle.plan.specs.Plan.{unit, total, symbolCount}
 use Rattle.capture.specs.Capture.{symbolIn, restZero}
 use borrow.Author.Needs.{needs}
 use Rattle.capture.proofs.rest.bad_rest.Statement.{statement}

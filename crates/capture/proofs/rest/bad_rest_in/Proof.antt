@@ -11,7 +11,7 @@ use Rattle.bits.specs.First.{upTo, found-at, found-none}
 use Rattle.channel.specs.Markers.{line-in, rest-else}
 use Rattle.channel.specs.Places.{remainder-on}
 use Rattle.slots.specs.Bounds.{bounds, Bounds}
-use Rattle.slots.specs.Plan.{unit, total, symbolCount}
+use Rattle.plan.specs.Plan.{unit, total, symbolCount}
 use Rattle.capture.specs.Capture.{symbolIn, restZero}
 use Rattle.capture.proofs.rest.bad_rest_in.Statement.{statement}
 use Rattle.capture.proofs.rest.bad_rest_in.Tie as tie

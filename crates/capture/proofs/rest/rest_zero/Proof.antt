@@ -4,7 +4,7 @@ use Prim.Native.Nat.{ℕ, _+_, _*_, _≤_}
 use native.Mathlib.Omega.{arith}
 use Rattle.bits.specs.Choice.{bool}
 use Rattle.bits.specs.Pack.{bitAt}
-use Rattle.slots.specs.Plan.{unit, total, symbolCount}
+use Rattle.plan.specs.Plan.{unit, total, symbolCount}
 use borrow.Author.Needs.{needs}
 use Rattle.slots.specs.Bounds.{Held, held, placing}
 use Rattle.pulses.specs.Groups.{group-got}
