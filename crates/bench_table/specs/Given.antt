@@ -7,7 +7,7 @@ use native.Mathlib.Nat.{mul-le-mul, div-le-self}
 use lib.Pow.{pow-mono}
 use lib.ListN.{getD, replicate, length-replicate}
 use Rattle.plan.specs.Plan.{Fine}
-use Rattle.slots.specs.Laws.{Given}
+use Rattle.slots.specs.Needs.{Given}
 use Rattle.bench_table.specs.Table.{plan, packed}
 
 zeros : (n i : ℕ) → getD {A = ℕ} (replicate n 0) i 0 < 1

@@ -30,6 +30,14 @@ pub bool-true : (b : Bool) → bool b ≡ 1 → b ≡ true
 bool-true true e = refl
 bool-true false e = absurd (omega arith)
 
+pub bool-no : (b : Bool) → bool b ≡ 0 → b ≡ false
+bool-no true e = absurd (omega arith)
+bool-no false e = refl
+
+pub bool-yes : (b : Bool) → (bool b ≡ 0 → ⊥) → b ≡ true
+bool-yes true n = refl
+bool-yes false n = absurd (n refl)
+
 pub lt-or-le : (a b : ℕ) → (a < b) ⊎ (b ≤ a)
 lt-or-le a b = cases (ltb a b) refl
   where

@@ -2,11 +2,11 @@
 use mathlib.Core.Path.{_≡_, refl, sym, ap, _∙_}
 use mathlib.Core.Bool.{Bool, true, false}
 use mathlib.Core.Logic.{⊎-elim}
-use Prim.Native.Nat.{ℕ, zero, suc, _+_, _-_, _≤_, _<_}
+use Prim.Native.Nat.{ℕ, zero, suc, _+_, _-_, _*_, _≤_, _<_}
 use native.Mathlib.Omega.{arith}
 use native.Mathlib.Nat.{eq-or-lt-of-le}
 use native.Mathlib.Numerals.{add-one}
-use Rattle.bits.specs.Choice.{pick}
+use Rattle.bits.specs.Choice.{pick, lt-or-le}
 
 -- of the n numbers from i on, the first that fails; i + n where none does
 unfoldable pub firstFrom : (ℕ → Bool) → ℕ → ℕ → ℕ
@@ -122,3 +122,51 @@ same-from p q (suc m) i h =
 
 pub first-same : (p q : ℕ → Bool) (n : ℕ) → ((k : ℕ) → k < n → p k ≡ q k) → upTo p 0 n ≡ upTo q 0 n
 first-same p q n h = same-from p q (n - 0) 0 (λ k a b. h k (omega arith))
+
+-- ---- in parts
+
+-- the first that fails in a part is the first of the whole
+pub part-fails : (t : ℕ → Bool) (x mid end r : ℕ) → x ≤ mid → mid ≤ end → r ≡ upTo t x mid → r < mid → r ≡ upTo t x end
+part-fails t x mid end r a b e l =
+    let f = found t x mid a in
+    e ∙ sym (found-at t x end (upTo t x mid) (f .least) (omega arith) (f .before) (f .fails (omega arith)))
+
+-- and where none does, what is left finds what the whole finds
+pub part-passes : (t : ℕ → Bool) (x mid end r : ℕ) → x ≤ mid → mid ≤ end → r ≡ upTo t x mid → mid ≤ r → upTo t mid end ≡ upTo t x end
+part-passes t x mid end r a b e l =
+    let f = found t x mid a in
+    let s : x + (mid - x) ≡ mid = omega arith in
+    ap (λ (y : ℕ). upTo t y end) (sym s) ∙ first-skip t (mid - x) end x (omega arith) (λ k c d. f .before k c (omega arith))
+
+-- a search part after part, of so many parts of this size: what is left finds what the whole finds
+pub record Sought (t : ℕ → Bool) (size end count c : ℕ) : Type 0 where
+  pub turn : c ≤ count
+  pub left : upTo t (c * size) end ≡ upTo t 0 end
+
+module _ (t : ℕ → Bool) (size end count : ℕ) where
+  pub sought-start : Sought t size end count 0
+  sought-start = record { turn = omega arith; left = ap (λ (x : ℕ). upTo t x end) (omega arith) }
+
+  module _ (c : ℕ) (sought : Sought t size end count c) (mid r : ℕ) (from : c * size ≤ mid) (to : mid ≤ c * size + size) (within : c * size + size ≤ end) (e : r ≡ upTo t (c * size) mid) where
+    -- the first that fails in a part is the first of the whole
+    pub sought-fails : r < mid → r ≡ upTo t 0 end
+    sought-fails l =
+        let f = found t (c * size) mid from in
+        e ∙ sym (found-at t (c * size) end (upTo t (c * size) mid) (f .least) (omega arith) (f .before) (f .fails (omega arith))) ∙ sought .left
+
+    -- where a part passes, and what follows it too, the next is asked
+    pub sought-more : c < count → mid ≤ r → ((k : ℕ) → mid ≤ k → k < c * size + size → t k ≡ true) → Sought t size end count (c + 1)
+    sought-more l g h =
+        let f = found t (c * size) mid from in
+        let next : (c + 1) * size ≡ c * size + size = omega arith in
+        record {
+          turn = omega arith;
+          left =
+              ap (λ (x : ℕ). upTo t x end) next
+              ∙ first-skip t size end (c * size) within (λ k a b. ⊎-elim (λ (s : k < mid). f .before k a (omega arith)) (λ (s : mid ≤ k). h k s b) (lt-or-le k mid))
+              ∙ sought .left;
+        }
+
+  -- all parts passed, with nothing behind them
+  pub sought-end : (c : ℕ) → Sought t size end count c → c * size ≡ end → c * size ≡ upTo t 0 end
+  sought-end c sought e = e ∙ sym (first-end t end (c * size) (omega arith) (omega arith)) ∙ sought .left

@@ -9,3 +9,9 @@ pub mod Places
 pub mod First
 pub mod Loops
 pub mod Weight
+pub mod Field
+pub mod Put
+pub mod Leading
+pub mod Window
+pub mod Needs
+pub mod Change

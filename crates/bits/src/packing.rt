@@ -4,6 +4,7 @@ ghost use Prim.Native.Nat.{ℕ, _+_, _*_, _^_, _≤_, _<_};
 ghost use lib.ListN.{length, getD};
 ghost use Rattle.bits.specs.Pack.{val, bitAt, bytesOf};
 ghost use Rattle.bits.specs.Loops.{Spread};
+ghost use Rattle.bits.specs.Put.{putBit};
 
 // Bit j of packed bytes.
 pub fn bit_at(packed: &[u8], j: usize) -> u8
@@ -11,6 +12,24 @@ pub fn bit_at(packed: &[u8], j: usize) -> u8
     ensures { λ r. ⌜ r ≡ bitAt (now (packed .entry)) j ⌝ }
 {
     (packed[j / 8] >> (7 - j % 8)) & 1
+}
+
+// Bit x set.
+pub fn put_bit(packed: &mut [u8], x: usize)
+    requires { ⌜ x < 8 * length (now packed) ⌝ }
+    ensures { λ _. ⌜ now (packed .exit) ≡ putBit (now (packed .entry)) x ⌝ }
+{
+    packed[x / 8] = packed[x / 8] | (128u8 >> (x % 8));
+}
+
+// The number that n bits make, from bit `at` on: they lie in one byte or in two.
+pub fn field(packed: &[u8], at: usize, n: usize) -> usize
+    requires { ⌜ (at + n ≤ 8 * length (now packed)) × (at < 2 ^ 32) × (1 ≤ n) × (n ≤ 8) ⌝ }
+    ensures { λ r. ⌜ r ≡ val (λ i. bitAt (now (packed .entry)) (at + i)) n ⌝ }
+{
+    let first = packed[at / 8] as usize;
+    let last = packed[(at + n - 1) / 8] as usize;
+    (((first << 8) | last) >> (16 - n - at % 8)) & ((1usize << n) - 1)
 }
 
 // Eight bytes from byte `at` on as one number, the first highest.

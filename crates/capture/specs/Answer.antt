@@ -11,27 +11,29 @@ use Rattle.plan.specs.Plan.{symbolCount}
 use Rattle.answers.specs.declared.Answer.{Answer}
 use Rattle.answers.specs.declared.Answer.the-variants.{No}
 use Rattle.answers.specs.Answer.{ask, then}
-use Rattle.capture.specs.Capture.{pulse, spareZero, firstBadGroup, firstBadMark, firstBadRest}
+use Rattle.bits.specs.Window.{firstOne}
+use Rattle.pulses.specs.Pulses as pulses
+use Rattle.capture.specs.Capture.{spareEmpty, firstBadGroup, firstBadMark, firstBadRest}
 
 -- questions 9 to 12, in this order; the first no is the answer
 unfoldable pub slotsSay : Plan → List ℕ → Answer
 slotsSay p b =
-    then (ask (spareZero p b) 9 0)
+    then (ask (spareEmpty p b) 9 0)
     (then (ask (eqb (firstBadGroup p b) (symbolCount p)) 10 (firstBadGroup p b))
     (then (ask (eqb (firstBadMark p b) (symbolCount p)) 11 (firstBadMark p b))
     (ask (eqb (firstBadRest p b) (symbolCount p)) 12 (firstBadRest p b))))
 
 -- each answer from what was found
 module _ (p : Plan) (b : List ℕ) where
-  pub say-spare : (q : ℕ) → q ≡ pulse b (symbolCount p * p .group) (8 * length b) → (q ≡ 8 * length b → ⊥) → No 9 0 ≡ slotsSay p b
-  unfolding slotsSay spareZero
+  pub say-spare : (q : ℕ) → q ≡ firstOne b (symbolCount p * p .group) (8 * length b) → (q ≡ 8 * length b → ⊥) → No 9 0 ≡ slotsSay p b
+  unfolding slotsSay pulses.spareEmpty
   say-spare q e h = rw (← e, ne-eqb q (8 * length b) h) refl
 
-  pub spare-zero : (q : ℕ) → q ≡ pulse b (symbolCount p * p .group) (8 * length b) → q ≡ 8 * length b → spareZero p b ≡ true
-  unfolding spareZero
-  spare-zero q e h = rw (← e) (eq-eqb q (8 * length b) h)
+  pub spare-empty : (q : ℕ) → q ≡ firstOne b (symbolCount p * p .group) (8 * length b) → q ≡ 8 * length b → spareEmpty p b ≡ true
+  unfolding pulses.spareEmpty
+  spare-empty q e h = rw (← e) (eq-eqb q (8 * length b) h)
 
-  module _ (spare : spareZero p b ≡ true) where
+  module _ (spare : spareEmpty p b ≡ true) where
     pub say-group : (q : ℕ) → q ≡ firstBadGroup p b → (q ≡ symbolCount p → ⊥) → No 10 q ≡ slotsSay p b
     unfolding slotsSay
     say-group q e h = rw (spare, ← e, ne-eqb q (symbolCount p) h) refl

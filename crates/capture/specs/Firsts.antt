@@ -12,19 +12,20 @@ use Rattle.bits.specs.Choice.{lt-or-le, eq-or-ne}
 use Rattle.bits.specs.Pack.{val, cut}
 use Rattle.plan.specs.declared.Plan.{Plan}
 use Rattle.plan.specs.Plan.{Fine, total, symbolCount}
-use Rattle.slots.specs.Slots.{place}
-use Rattle.slots.specs.Channel.{symbolOf, place-lt, sym-lt}
-use Rattle.capture.specs.Asks.{Grouped}
-use Rattle.capture.specs.Capture.{symbolIn, pulse}
-use Rattle.capture.specs.Leading.{Leads}
-use Rattle.capture.specs.Scan.{symbol-first}
-use Rattle.capture.specs.Window.{lesser, reach, slotsFrom, window-stop}
+use Rattle.slots.specs.Bounds.{bounds}
+use Rattle.slots.specs.Slots.{place, symbolOf}
+use Rattle.bits.specs.Leading.{Leads}
+use Rattle.bits.specs.Window.{lesser, reach, bitsFrom, firstOne, window-stop}
+use Rattle.channel.specs.Return.{stands-lt}
+use Rattle.pulses.specs.Groups.{symbol-first}
+use Rattle.capture.specs.Needs.{Grouped}
+use Rattle.capture.specs.Capture.{symbolIn}
 
 -- those of symbol i of word j
 unfoldable pub windowOf : Plan → List ℕ → ℕ → ℕ → ℕ
 windowOf p b j i =
     let x : ℕ = symbolOf p (place p (j * p .symbols + i)) * p .group in
-    val (cut (reach (length b) x) (slotsFrom b x)) 64
+    val (cut (reach (length b) x) (bitsFrom b x)) 64
 
 -- and of all of them
 pub record Seen (p : Plan) (b : List ℕ) (j : ℕ) (firsts : List ℕ) : Type 0 where
@@ -46,18 +47,19 @@ windows-more p b j n v firsts h e before i l =
 pub stands-in : (p : Plan) → Fine p → (j i : ℕ) → j < p .words → i < p .symbols → (j * p .symbols + i < total p) × (symbolOf p (place p (j * p .symbols + i)) < symbolCount p)
 stands-in p fine j i hj hi =
     let t : j * p .symbols + i < total p = digits-lt hj hi in
-    (t, sym-lt p fine (place p (j * p .symbols + i)) (place-lt p fine (j * p .symbols + i) t))
+    let k = bounds p fine in
+    (t, stands-lt (p .rows) (p .step) (total p) (p .symbols) (p .count) (p .lines) (fine .rows-least) (k .symbols-least) (fine .lines-are) (j * p .symbols + i) t)
 
 -- the first one of the window is the symbol, since the only pulse is among the first M slots
 pub first-tells : (p : Plan) (b : List ℕ) (j i r : ℕ) → Grouped p b → j < p .words → i < p .symbols → Leads 64 (windowOf p b j i) r
     → r ≡ symbolIn p b (symbolOf p (place p (j * p .symbols + i)))
-unfolding windowOf lesser pulse
+unfolding windowOf lesser firstOne
 first-tells p b j i r g hj hi l =
     let s : ℕ = symbolOf p (place p (j * p .symbols + i)) in
     let x : ℕ = s * p .group in
     let small : symbolIn p b s < p .order = g .passed s (stands-in p (g .fine) j i hj hi .1) in
-    let first : pulse b x (x + p .order) ≡ x + symbolIn p b s = symbol-first p (g .fine) b s small in
-    let stop : pulse b x (x + p .order) ≡ x + lesser r (x + p .order - x) = window-stop b x (x + p .order) (reach (length b) x) r (omega arith) l in
+    let first : firstOne b x (x + p .order) ≡ x + symbolIn p b s = symbol-first (p .order) (p .group) (bounds p (g .fine) .group-least) b s small in
+    let stop : firstOne b x (x + p .order) ≡ x + lesser r (x + p .order - x) = window-stop b x (x + p .order) (reach (length b) x) r (omega arith) l in
     let m : x + p .order - x ≡ p .order = omega arith in
     let same : lesser r (p .order) ≡ symbolIn p b s = let e : lesser r (x + p .order - x) ≡ symbolIn p b s = omega arith in rw m at e in
     ⊎-elim

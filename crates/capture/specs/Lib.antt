@@ -1,12 +1,7 @@
 pub mod Capture
-pub mod Groups
 pub mod Answer
 pub mod Return
-pub mod Asks
-pub mod Leading
-pub mod Window
-pub mod Bounds
-pub mod Scan
+pub mod Needs
+pub mod Pass
 pub mod Firsts
-pub mod Zeros
-pub mod Lines
+pub mod Taking

@@ -1,12 +1,12 @@
 // Steps 10 to 8 undone, with questions 9 to 12: captured slots back to words.
-mod groups;
-mod questions;
-mod scan;
+mod marks;
+mod pass;
+mod rest;
 mod words;
 
 use answers::Answer;
 ghost use mathlib.Core.Path.{_≡_};
-ghost use Rattle.capture.specs.Asks.{Captured, Taken};
+ghost use Rattle.capture.specs.Needs.{Captured, Taken};
 ghost use Rattle.capture.specs.Answer.{slotsSay};
 ghost use Rattle.capture.specs.Capture.{wordOut};
 
@@ -17,18 +17,19 @@ pub fn judge(p: plan::Plan, b: &[u8]) -> Answer
 {
     let n = p.lines * (p.symbols + p.count);
     let end = 8 * b.len();
-    if scan::pulse_from(b, n * p.group, end) != end {
+    if bits::scan::first_one(b, n * p.group, end) != end {
         return Answer::No(9, 0);
     }
-    let group = groups::first_bad_group(p, b);
+    let found = pass::find(p, b);
+    let group = found.group;
     if group != n {
         return Answer::No(10, group);
     }
-    let mark = questions::first_bad_mark(p, b);
+    let mark = marks::first_bad_mark(p, b);
     if mark != n {
         return Answer::No(11, mark);
     }
-    let rest = questions::first_bad_rest(p, b);
+    let rest = found.rest;
     if rest != n {
         return Answer::No(12, rest);
     }

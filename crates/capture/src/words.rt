@@ -3,10 +3,9 @@ ghost use mathlib.Core.Path.{_≡_};
 ghost use Prim.Native.Nat.{ℕ, _+_, _*_, _<_};
 ghost use lib.ListN.{length, getD};
 ghost use Rattle.plan.specs.Plan.{Fine, total};
-ghost use Rattle.slots.specs.Slots.{place};
-ghost use Rattle.slots.specs.Channel.{symbolOf};
-ghost use Rattle.capture.specs.Asks.{Grouped};
-ghost use Rattle.capture.specs.Capture.{symbolIn, wordBit};
+ghost use Rattle.slots.specs.Slots.{place, symbolOf};
+ghost use Rattle.capture.specs.Needs.{Grouped};
+ghost use Rattle.capture.specs.Capture.{dataIn, wordBit};
 ghost use Rattle.capture.specs.Firsts.{windowOf, Seen};
 
 // The symbol, markers counted, at which symbol t of all words stands.
@@ -26,7 +25,7 @@ fn window_of(p: plan::Plan, b: &[u8], j: usize, i: usize) -> u64
     ensures { λ r. ⌜ r ≡ windowOf p (now (b .entry)) j i ⌝ }
 {
     let s = stands_at(p, j * p.symbols + i);
-    crate::scan::ahead(b, s * p.group)
+    bits::scan::ahead(b, s * p.group)
 }
 
 // Those of all symbols of word j. The symbols stand far apart; fetched by themselves, none waits for another.
@@ -45,13 +44,13 @@ pub fn windows(p: plan::Plan, b: &[u8], j: usize, firsts: &mut [u64])
 // Symbol i of word j, whose first slots are v: they tell, if its pulse is among them.
 fn symbol_of_word(p: plan::Plan, b: &[u8], j: usize, i: usize, v: u64) -> usize
     requires { ⌜ Grouped p (now b) × (j < p .words) × (i < p .symbols) × (v ≡ windowOf p (now b) j i) ⌝ }
-    ensures { λ r. ⌜ r ≡ symbolIn p (now (b .entry)) (symbolOf p (place p (j * p .symbols + i))) ⌝ }
+    ensures { λ r. ⌜ r ≡ dataIn p (now (b .entry)) (j * p .symbols + i) ⌝ }
 {
     if v != 0 {
-        return crate::scan::leading(v);
+        return bits::scan::leading(v);
     }
     let s = stands_at(p, j * p.symbols + i);
-    crate::scan::symbol_there(p, b, s)
+    pulses::symbol_there(p.order, p.group, b, s)
 }
 
 // The bits of word j, one to a place.

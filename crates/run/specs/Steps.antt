@@ -15,8 +15,9 @@ use Rattle.plan.specs.declared.Plan.{Plan}
 use Rattle.plan.specs.Plan.{planIn, symbolCount, slotBytes}
 use Rattle.stream.specs.Stream.{streamBit, blockAt}
 use Rattle.frames.specs.Frames.{firstUnmarked, fillZero, framesSay}
+use Rattle.pulses.specs.Pulses as pulses
 use Rattle.slots.specs.Slots.{dataAt, place, hitBy, placed, symbolAt, slotBit, slotsOf}
-use Rattle.capture.specs.Capture.{spareZero, firstBadGroup, firstBadMark, firstBadRest, wordOut}
+use Rattle.capture.specs.Capture.{spareEmpty, firstBadGroup, firstBadMark, firstBadRest, wordOut}
 use Rattle.capture.specs.Answer.{slotsSay}
 use Rattle.run.specs.Run.{streamOf, wordAt, runOf, streamIn, wordsSay, streamSays, bufferSays}
 
@@ -55,13 +56,13 @@ module _ (header marker frames : List ℕ) where
 
   -- a run is these slots, packed
   pub run-is : runOf header marker frames ≡ bytesOf (slotBytes (planIn header marker)) slot
-  unfolding runOf slotsOf wordAt streamOf
+  unfolding runOf slotsOf pulses.slotsOf wordAt streamOf
   run-is = refl
 
 -- the reader's questions about slots of the right length, one after another; the first no is the answer
 pub asked-in-order : (f : Fields) (p : Plan) (b : List ℕ)
     → bufferSays f p b
-    ≡ then (ask (spareZero p b) 9 0)
+    ≡ then (ask (spareEmpty p b) 9 0)
     (then (ask (eqb (firstBadGroup p b) (symbolCount p)) 10 (firstBadGroup p b))
     (then (ask (eqb (firstBadMark p b) (symbolCount p)) 11 (firstBadMark p b))
     (then (ask (eqb (firstBadRest p b) (symbolCount p)) 12 (firstBadRest p b))
@@ -70,7 +71,7 @@ pub asked-in-order : (f : Fields) (p : Plan) (b : List ℕ)
     (ask (fillZero (f .size) (f .frames) (quantities.blockCount f * infoBits (f .rate)) (streamIn f (wordOut p b))) 18 0))))))
 unfolding bufferSays slotsSay streamSays framesSay
 asked-in-order f p b =
-    flat (ask (spareZero p b) 9 0) (ask (eqb (firstBadGroup p b) (symbolCount p)) 10 (firstBadGroup p b)) (ask (eqb (firstBadMark p b) (symbolCount p)) 11 (firstBadMark p b))
+    flat (ask (spareEmpty p b) 9 0) (ask (eqb (firstBadGroup p b) (symbolCount p)) 10 (firstBadGroup p b)) (ask (eqb (firstBadMark p b) (symbolCount p)) 11 (firstBadMark p b))
     (ask (eqb (firstBadRest p b) (symbolCount p)) 12 (firstBadRest p b)) (then (wordsSay f (wordOut p b)) (streamSays f (wordOut p b)))
   where
     flat : (k l m n rest : Answer) → then (then k (then l (then m n))) rest ≡ then k (then l (then m (then n rest)))

@@ -24,7 +24,7 @@ use Rattle.frames.specs.Needs.{Judged}
 use Rattle.frames.specs.Same.{say-same, in-same}
 use Rattle.capture.specs.Capture.{wordOut}
 use Rattle.capture.specs.Answer.{slotsSay}
-use Rattle.capture.specs.Asks.{Captured}
+use Rattle.capture.specs.Needs.{Captured}
 use Rattle.run.specs.Run.{streamIn, framesOf, wordsSay, streamSays, bufferSays}
 use Rattle.run.specs.Return.{fit}
 use Rattle.run.specs.Parts.{part}

@@ -1,6 +1,5 @@
 pub mod Slots
-pub mod Channel
-pub mod Pulse
-pub mod Field
-pub mod Laws
+pub mod Bounds
 pub mod Writing
+pub mod Needs
+pub mod Laws

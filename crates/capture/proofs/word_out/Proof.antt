@@ -6,15 +6,15 @@ use native.Mathlib.Omega.{arith}
 use lib.ListN.{length}
 use borrow.Author.Needs.{needs}
 use Rattle.plan.specs.declared.Plan.{Plan}
-use Rattle.capture.specs.Asks.{Taken, Grouped}
-use Rattle.capture.specs.Groups.{passed}
-use Rattle.capture.specs.Scan.{room-bits, word-made}
+use Rattle.capture.specs.Needs.{Taken, Grouped}
+use Rattle.pulses.specs.Groups.{passed}
+use Rattle.capture.specs.Taking.{room-bits, word-made}
 use Rattle.capture.specs.Return.{good-clean}
 use Rattle.capture.proofs.word_out.Statement.{statement}
 use Rattle.capture.proofs.word_out.Tie as tie
 
 grouped : (p : Plan) (b : List ℕ) (j : ℕ) (word : List ℕ) → Taken p b j word → Grouped p b
-grouped p b j word h = record { fine = h .captured .fine; long = h .captured .long; passed = passed p b (good-clean p b (h .good) .groups) }
+grouped p b j word h = record { fine = h .captured .fine; long = h .captured .long; passed = passed (p .order) (p .group) _ b (good-clean p b (h .good) .groups) }
 
 slice-aggregate-windows : tie.Need-slice-aggregate-windows
 slice-aggregate-windows c = search needs

@@ -2,21 +2,24 @@
 use mathlib.Core.Path.{refl}
 use native.Mathlib.Omega.{arith}
 use borrow.Author.Needs.{needs}
-use Rattle.slots.specs.Slots.{place}
-use Rattle.slots.specs.Channel.{symbolOf, place-lt, sym-lt, delay}
-use Rattle.slots.specs.Laws.{delay-most}
-use Rattle.capture.specs.Bounds.{bounds, Bounds}
+use Rattle.channel.specs.Channel as channel
+use Rattle.channel.specs.Places.{delay}
+use Rattle.channel.specs.Return.{stands-lt}
+use Rattle.slots.specs.Bounds.{bounds, Bounds, delay-most}
+use Rattle.slots.specs.Slots.{place, symbolOf}
 use Prim.Native.Nat.{_*_, _%_, _≤_, _<_}
-use Rattle.plan.specs.Plan.{symbolCount}
+use Rattle.plan.specs.Plan.{total, symbolCount}
 use Rattle.capture.proofs.words.stands_at.Statement.{statement}
 use Rattle.capture.proofs.words.stands_at.Tie as tie
 
 -- the sizes that the needs rest on
-known : (s : tie.Start) → Bounds (s .args .p) × (delay (s .args .p) (s .args .t % s .args .p .rows) ≤ 128 * (256 * 128)) × (symbolOf (s .args .p) (place (s .args .p) (s .args .t)) < symbolCount (s .args .p))
+known : (s : tie.Start) → Bounds (s .args .p) × (delay (s .args .p .rows) (s .args .p .step) (s .args .t % s .args .p .rows) ≤ 128 * 32768) × (symbolOf (s .args .p) (place (s .args .p) (s .args .t)) < symbolCount (s .args .p))
 known s =
     let a = s .args in
     let h = s .pre in
-    (bounds (a .p) (h .0), delay-most (a .p) (h .0) (a .t), sym-lt (a .p) (h .0) (place (a .p) (a .t)) (place-lt (a .p) (h .0) (a .t) (h .1)))
+    let p = a .p in
+    let k = bounds p (h .0) in
+    (k, delay-most p (h .0) (a .t), stands-lt (p .rows) (p .step) (total p) (p .symbols) (p .count) (p .lines) (h .0 .rows-least) (k .symbols-least) (h .0 .lines-are) (a .t) (h .1))
 
 mul-back : tie.Need-mul-back
 mul-back c = let r = known (c .before) in omega arith
@@ -25,11 +28,11 @@ rem-x : tie.Need-rem-x
 rem-x c = search needs
 
 mul-x : tie.Need-mul-x
-unfolding place symbolOf
+unfolding channel.place channel.symbolOf
 mul-x c = let r = known (c .before .before) in omega arith
 
 add-x : tie.Need-add-x
-unfolding place symbolOf
+unfolding channel.place channel.symbolOf
 add-x c = let r = known (c .before .before) in omega arith
 
 div-result : tie.Need-div-result
@@ -39,22 +42,22 @@ add-result : tie.Need-add-result
 add-result c = let r = known (c .before .before .before .before) in omega arith
 
 mul-result : tie.Need-mul-result
-unfolding place symbolOf
+unfolding channel.place channel.symbolOf
 mul-result c = let r = known (c .before .before .before .before) in omega arith
 
 rem-result : tie.Need-rem-result
 rem-result c = let r = known (c .before .before .before .before .before) in omega arith
 
 add-result-2 : tie.Need-add-result-2
-unfolding place symbolOf
+unfolding channel.place channel.symbolOf
 add-result-2 c = let r = known (c .before .before .before .before .before .before) in omega arith
 
 add-result-3 : tie.Need-add-result-3
-unfolding place symbolOf
+unfolding channel.place channel.symbolOf
 add-result-3 c = let r = known (c .before .before .before .before .before .before) in omega arith
 
 returns : tie.Need-returns
-unfolding place symbolOf
+unfolding channel.place channel.symbolOf
 returns c = refl
 
 pub stands-at-spec : {M : Type 1} → statement M

@@ -2,7 +2,10 @@
 use mathlib.Core.Path.{ap, _∙_}
 use native.Mathlib.Omega.{arith}
 use borrow.Author.Needs.{needs}
-use Rattle.capture.specs.Bounds.{bounds}
+use Prim.Native.Nat.{_<_}
+use Rattle.pulses.specs.Needs.{held}
+use Rattle.slots.specs.Bounds.{bounds, lies}
+use Rattle.plan.specs.Plan.{symbolCount}
 use Rattle.capture.specs.Capture.{symbolIn}
 use Rattle.capture.specs.Firsts.{stands-in, first-tells}
 use Rattle.capture.proofs.words.symbol_of_word.Statement.{statement}
@@ -43,7 +46,8 @@ symbol-there-requires : tie.Need-symbol-there-requires
 symbol-there-requires c κs =
     let a = c .before .before .before .before .args in
     let h = c .before .before .before .before .pre in
-    (h .0, rw (c .stands-at .ensures) (stands-in (a .p) (h .0 .fine) (a .j) (a .i) (h .1) (h .2) .1))
+    let t : c .stands-at .result < symbolCount (a .p) = rw (c .stands-at .ensures) (stands-in (a .p) (h .0 .fine) (a .j) (a .i) (h .1) (h .2) .1) in
+    (held (a .p .order) (a .p .group) (symbolCount (a .p)) (a .b .now) (lies (a .p) (h .0 .fine) (a .b .now) (h .0 .long)) (c .stands-at .result) t, h .0 .passed (c .stands-at .result) t)
 
 returns-2 : tie.Need-returns-2
 returns-2 c =

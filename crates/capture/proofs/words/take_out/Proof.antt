@@ -5,9 +5,9 @@ use native.Mathlib.Omega.{arith}
 use native.Mathlib.Nat.{le-refl, mul-le-mul}
 use lib.ListN.{length, getD}
 use borrow.Author.Needs.{needs}
-use Rattle.capture.specs.Bounds.{bounds}
+use Rattle.slots.specs.Bounds.{bounds}
 use Rattle.capture.specs.Capture.{wordBit}
-use Rattle.capture.specs.Scan.{take-more}
+use Rattle.capture.specs.Taking.{take-more}
 use Rattle.capture.proofs.words.take_out.Statement.{statement}
 use Rattle.capture.proofs.words.take_out.Tie as tie
 

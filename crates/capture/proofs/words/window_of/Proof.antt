@@ -4,9 +4,9 @@ use Prim.Native.Nat.{ℕ, _*_}
 use native.Mathlib.Omega.{arith}
 use lib.ListN.{length}
 use Rattle.bits.specs.Pack.{val, cut}
-use Rattle.capture.specs.Bounds.{bounds, group-in, group-bound}
+use Rattle.slots.specs.Bounds.{bounds, group-in, group-bound}
 use Rattle.capture.specs.Firsts.{windowOf, stands-in}
-use Rattle.capture.specs.Window.{reach, slotsFrom}
+use Rattle.bits.specs.Window.{reach, bitsFrom}
 use Rattle.capture.proofs.words.window_of.Statement.{statement}
 use Rattle.capture.proofs.words.window_of.Tie as tie
 
@@ -56,7 +56,7 @@ returns : tie.Need-returns
 unfolding windowOf
 returns c =
     let a = c .before .before .before .before .before .args in
-    c .ahead .ensures ∙ ap (λ (s : ℕ). val (cut (reach (length (a .b .now)) (s * a .p .group)) (slotsFrom (a .b .now) (s * a .p .group))) 64) (c .before .before .stands-at .ensures)
+    c .ahead .ensures ∙ ap (λ (s : ℕ). val (cut (reach (length (a .b .now)) (s * a .p .group)) (bitsFrom (a .b .now) (s * a .p .group))) 64) (c .before .before .stands-at .ensures)
 
 pub window-of-spec : {M : Type 1} → statement M
 window-of-spec =

@@ -4,7 +4,7 @@ use Prim.Native.Nat.{ℕ, _-_, _≤_, _<_}
 use native.Mathlib.Omega.{arith}
 use lib.ListN.{length, getD, length-set}
 use borrow.Author.Needs.{needs}
-use Rattle.capture.specs.Bounds.{bounds}
+use Rattle.slots.specs.Bounds.{bounds}
 use Rattle.capture.specs.Firsts.{windowOf, windows-more}
 use Rattle.capture.proofs.words.windows.Statement.{statement}
 use Rattle.capture.proofs.words.windows.Tie as tie

@@ -1,0 +1,34 @@
+-- The code is the definition.
+use mathlib.Core.Path.{refl}
+use Prim.Native.Nat.{_+_, _/_}
+use native.Mathlib.Omega.{arith}
+use lib.ListN.{length}
+use borrow.Author.Needs.{needs}
+use borrow.Author.Tests.{le-leb, lt-leb}
+use Rattle.bits.specs.Window.{shown, reach}
+use Rattle.bits.proofs.scan.reach_of.Statement.{statement}
+use Rattle.bits.proofs.scan.reach_of.Tie as tie
+
+sub-if1 : tie.Need-sub-if1
+sub-if1 c = search needs
+
+sub-result : tie.Need-sub-result
+sub-result c = search needs
+
+sub-result-2 : tie.Need-sub-result-2
+sub-result-2 c = search needs
+
+returns : tie.Need-returns
+unfolding shown reach
+returns c =
+    let a = c .before .args in
+    rw (le-leb (a .x / 8 + 8) (length (a .b .now)) (omega arith)) refl
+
+returns-2 : tie.Need-returns-2
+unfolding shown reach
+returns-2 c =
+    let a = c .before .args in
+    rw (lt-leb (a .x / 8 + 8) (length (a .b .now)) (omega arith)) refl
+
+pub reach-of-spec : {M : Type 1} → statement M
+reach-of-spec = tie.close (tie.spec sub-if1 sub-result sub-result-2 returns returns-2)

@@ -1,0 +1,6 @@
+pub mod Channel
+pub mod Places
+pub mod Markers
+pub mod Symbols
+pub mod Return
+pub mod Needs

@@ -1,0 +1,5 @@
+pub mod Pulses
+pub mod Groups
+pub mod Laws
+pub mod Needs
+pub mod Zeros

@@ -1,0 +1,64 @@
+// Question 10. Most places of a long run hold 0, and forty bytes hold whole groups at every pulse order: where they show nothing but zeros, nothing has to be asked of those groups.
+ghost use mathlib.Core.Path.{_≡_};
+ghost use Prim.Native.Nat.{ℕ, _+_, _≤_, _<_};
+ghost use lib.ListN.{length, getD};
+ghost use Rattle.bits.specs.First.{upTo};
+ghost use Rattle.pulses.specs.Needs.{Slots};
+ghost use Rattle.pulses.specs.Pulses.{grouped};
+ghost use Rattle.pulses.specs.Zeros.{Zeros};
+
+// Forty bytes of zeros' slots.
+pub fn zeros(group: usize) -> [u8; 40]
+    requires { ⌜ (1 ≤ group) × (group ≤ 320) ⌝ }
+    ensures { λ r. ⌜ Zeros group r ⌝ }
+{
+    let mut slots = [0u8; 40];
+    let mut x = 0usize;
+    while x < 320 {
+        bits::packing::put_bit(&mut slots, x);
+        x += group;
+    }
+    slots
+}
+
+// 0 only where forty bytes from byte `at` on are those given.
+pub fn difference(b: &[u8], at: usize, given: &[u8]) -> u8
+    requires { ⌜ (at + 40 ≤ length (now b)) × (length (now given) ≡ 40) ⌝ }
+    ensures { λ r. ⌜ (r ≡ 0 → (k : ℕ) → k < 40 → getD (now (b .entry)) (at + k) 0 ≡ getD (now (given .entry)) k 0) ⌝ }
+{
+    let mut d = 0u8;
+    let mut k = 0usize;
+    while k < 40 {
+        d = d | (b[at + k] ^ given[k]);
+        k += 1;
+    }
+    d
+}
+
+// The first bad group of those from `from` on, or `to`.
+pub fn bad_group_in(order: usize, group: usize, b: &[u8], from: usize, to: usize) -> usize
+    requires { ⌜ Slots order group to (now b) × (from ≤ to) ⌝ }
+    ensures { λ r. ⌜ r ≡ upTo (grouped order group (now (b .entry))) from to ⌝ }
+{
+    let mut s = from;
+    while s < to {
+        if crate::symbol_in(order, group, b, s) >= order {
+            return s;
+        }
+        s += 1;
+    }
+    s
+}
+
+// The same, all at once where eight bytes stand behind them.
+pub fn bad_group_among(order: usize, group: usize, b: &[u8], from: usize, to: usize) -> usize
+    requires { ⌜ Slots order group to (now b) × (from ≤ to) ⌝ }
+    ensures { λ r. ⌜ r ≡ upTo (grouped order group (now (b .entry))) from to ⌝ }
+{
+    if to * group / 8 + 8 < b.len() {
+        if crate::numbers::all_good(order, group, b, from, to) {
+            return to;
+        }
+    }
+    bad_group_in(order, group, b, from, to)
+}

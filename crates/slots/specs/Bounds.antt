@@ -1,0 +1,90 @@
+-- The sizes of a plan's numbers, so that sums and products of them fit 64 bits and slots lie within the buffer; and what crates `channel` and `pulses` ask of them.
+use mathlib.Core.Path.{_≡_}
+use mathlib.Core.List.{List}
+use Prim.Native.Nat.{ℕ, _+_, _*_, _%_, _^_, _≤_, _<_}
+use native.Mathlib.Omega.{arith}
+use native.Mathlib.Nat.{le-refl, mul-le-mul, mod-lt}
+use lib.ListN.{length}
+use lib.Pow.{pow-mono, pow-pos}
+use Rattle.channel.specs.Needs.{Placing}
+use Rattle.channel.specs.Places.{delay}
+use Rattle.channel.specs.Symbols as symbols
+use Rattle.pulses.specs.Needs.{Order, Slots}
+use Rattle.plan.specs.declared.Plan.{Plan}
+use Rattle.plan.specs.Plan.{Fine, total, symbolCount, slotBytes}
+
+pub record Bounds (p : Plan) : Type 0 where
+  pub symbols-least : 1 ≤ p .symbols
+  pub symbols-most : p .symbols ≤ 7560
+  pub order-least : 1 ≤ p .order
+  pub order-most : p .order ≤ 256
+  pub group-least : p .order ≤ p .group
+  pub group-most : p .group ≤ 320
+  pub count-most : p .count ≤ 32
+  pub back-most : p .step * p .rows ≤ 32768
+  pub places : p .lines * p .symbols ≤ symbolCount p
+  pub words : total p ≤ p .lines * p .symbols
+  pub symbols-bound : symbolCount p < 2 ^ 23
+  pub slots-bound : symbolCount p * p .group < 2 ^ 31
+
+pub bounds : (p : Plan) → Fine p → Bounds p
+bounds p fine =
+    let one : 1 ≤ p .order = rw (fine .order-is) (pow-pos (p .bits)) in
+    let order : p .order ≤ 256 = let e = fine .order-is in let h : 2 ^ p .bits ≤ 2 ^ 8 = pow-mono (fine .bits-most) in omega arith in
+    let group = fine .group-is in
+    let size : p .symbols * p .bits ≡ 15120 = fine .symbols-are in
+    record {
+      symbols-least = symbols.symbols-least (p .bits) (p .symbols) size;
+      symbols-most = omega (arith, mul-le-mul (le-refl (p .symbols)) (fine .bits-least));
+      order-least = one;
+      order-most = order;
+      group-least = omega arith;
+      group-most = omega arith;
+      count-most = fine .count-most;
+      back-most = mul-le-mul (fine .step-most) (fine .rows-most);
+      places = omega arith;
+      words = let e = fine .lines-are in omega arith;
+      symbols-bound = fine .symbols-bound;
+      slots-bound = fine .slots-bound;
+    }
+
+-- a delay
+pub delay-most : (p : Plan) → Fine p → (x : ℕ) → delay (p .rows) (p .step) (x % p .rows) ≤ 128 * 32768
+delay-most p fine x =
+    let m : x % p .rows < p .rows = mod-lt x (fine .rows-least) in
+    let r : x % p .rows ≤ 128 = let b = fine .rows-most in omega arith in
+    mul-le-mul r (bounds p fine .back-most)
+
+-- group s lies within
+pub group-in : (p : Plan) (b : List ℕ) (s : ℕ) → length b ≡ slotBytes p → s < symbolCount p → s * p .group + p .group ≤ 8 * length b
+group-in p b s e h =
+    let k : s + 1 ≤ symbolCount p = omega arith in
+    omega (arith, mul-le-mul k (le-refl (p .group)))
+
+pub group-bound : (p : Plan) → Fine p → (s : ℕ) → s < symbolCount p → s * p .group + p .group < 2 ^ 31
+group-bound p fine s h =
+    let k : s + 1 ≤ symbolCount p = omega arith in
+    let m = fine .slots-bound in
+    omega (arith, mul-le-mul k (le-refl (p .group)))
+
+-- all that is known of the numbers of group s
+pub record Held (p : Plan) (b : List ℕ) (s : ℕ) : Type 0 where
+  pub sizes : Bounds p
+  pub inside : s * p .group + p .group ≤ 8 * length b
+  pub small : s * p .group + p .group < 2 ^ 31
+
+pub held : (p : Plan) → Fine p → (b : List ℕ) → length b ≡ slotBytes p → (s : ℕ) → s < symbolCount p → Held p b s
+held p fine b long s h = record { sizes = bounds p fine; inside = group-in p b s long h; small = group-bound p fine s h }
+
+-- ---- for the crates below
+
+pub placing : (p : Plan) → Fine p → (x r : ℕ) → r ≡ x % p .rows → Placing (p .rows) (p .step) (total p) x r
+placing p fine x r e =
+    let k = bounds p fine in
+    record { rows-least = fine .rows-least; rows-most = fine .rows-most; step-most = fine .step-most; total-most = omega arith; remainder = e }
+
+pub shape : (p : Plan) → Fine p → Order (p .order) (p .group)
+shape p fine = record { bits = p .bits; bits-least = fine .bits-least; bits-most = fine .bits-most; order-is = fine .order-is; group-is = fine .group-is }
+
+pub lies : (p : Plan) → Fine p → (b : List ℕ) → length b ≡ slotBytes p → Slots (p .order) (p .group) (symbolCount p) b
+lies p fine b long = record { shape = shape p fine; room = omega arith; bound = fine .slots-bound }
