@@ -20,8 +20,14 @@ use Rattle.crc.specs.Check.{register, register-same, register-lt, checkBit, che
 use Rattle.convolution.specs.Code.{encode, encode-bits, encode-same, encode-plus, decode-bits, decode-same, decode-encode}
 use Rattle.interleaver.specs.Interleaver.{interleave, deinterleave, interleave-bits, deinterleave-bits, interleave-same, deinterleave-same, deinterleave-interleave, interleave-deinterleave, interleave-plus, deinterleave-plus}
 use Rattle.accumulator.specs.Accumulator.{accumulate, differentiate, accumulate-bits, differentiate-bits, accumulate-same, differentiate-same, accumulate-plus, differentiate-plus, differentiate-accumulate, accumulate-differentiate}
-use Rattle.randomizer.specs.Randomizer.{randomize, randomize-bits, randomize-same, randomize-twice, randomize-plus, randomize-sum3}
+use Rattle.randomizer.specs.Randomizer.{sequence, window, next, randomize, randomize-bits, randomize-same, randomize-twice, randomize-plus, randomize-sum3}
 use Rattle.word.specs.Word.{Packed, inputOf, codedOf, shuffled, wordOf, codedIn, inputIn, packedBlock, blockIn, agrees, firstWrong, endsInZeros, checkRight}
+
+-- ---- the order of steps 6 and 7: where all coded bits are 0, the word is step 7's sequence, FF 48 ..
+
+pub order-example : val (shuffled (λ i. 0)) 16 ≡ 0xFF48
+unfolding shuffled randomize accumulate interleave sequence window next val
+order-example = refl
 
 -- ---- bits all the way
 
