@@ -195,7 +195,7 @@ fuzz: $(HOST)/fuzz_drive
 	@tests/fuzz/run $(SECONDS) $< $(LIBS)
 
 # The crates of the product that have code.
-CRATES ?= bits answers sizes crc convolution interleaver accumulator randomizer word header plan frames \
+CRATES ?= bits answers sizes crc convolution interleaver accumulator randomizer word header plan stream frames \
     slots capture run_writer run_reader calls sheet runsheet
 COUNT ?= 60
 .PHONY: mutants

@@ -7,15 +7,21 @@ use native.Mathlib.Nat.{mul-left-comm}
 use lib.Arith.{digits-div, digits-mod}
 use lib.ListN.{length, set}
 use Rattle.bits.specs.Pack.{val, bitAt, val-same}
-use Rattle.bits.specs.Pieces.{piece}
+use Rattle.bits.specs.Pieces.{piece, piece-bit}
 use Rattle.bits.specs.Places.{At}
 use Rattle.bits.specs.Stretch.{Laid, Made, laid-same, laid-one, laid-on}
 use Rattle.bits.specs.declared.places.Place.{Place}
 use Rattle.sizes.specs.Sizes.{markerBits, span}
-use Rattle.sizes.specs.Rate.{infoBits, blockBytes}
+use Rattle.sizes.specs.Rate.{infoBits, blockBytes, block-size, info-ge}
 use Rattle.frames.specs.Frames.{joined, framePlace}
-use Rattle.frames.specs.Blocks.{joined-in, info-large}
+use Rattle.frames.specs.Blocks.{joined-at}
 use Rattle.frames.specs.Needs.{bitOf}
+
+-- blocks that lie back to back are read where they lie
+pub joined-in : (rate : ℕ) (blocks : List ℕ) (j i : ℕ) → rate < 3 → i < infoBits rate
+    → joined rate (piece (blockBytes rate) blocks) (j * infoBits rate + i) ≡ bitAt blocks (j * (8 * blockBytes rate) + i)
+joined-in rate blocks j i h l =
+    joined-at rate (piece (blockBytes rate) blocks) j i l ∙ piece-bit (blockBytes rate) blocks j i (omega (arith, block-size rate h))
 
 module _ (rate : ℕ) (blocks : List ℕ) (at : Place) (h : rate < 3) where
   -- the stream that the blocks hold, from a place on
@@ -33,7 +39,7 @@ module _ (rate : ℕ) (blocks : List ℕ) (at : Place) (h : rate < 3) where
 
   -- one byte, or n that lie together
   pub made-one : (most : ℕ) (before : List ℕ) (i v : ℕ) → 1 ≤ most → i < length before → v ≡ val joinedFrom 8 → Made (infoBits rate) most before i 1 joinedFrom (set before i v)
-  made-one most before i v m l e = record { some = omega arith; few = omega (arith, info-large rate); fit = m; laid = laid-one before i v joinedFrom l e }
+  made-one most before i v m l e = record { some = omega arith; few = omega (arith, info-ge rate); fit = m; laid = laid-one before i v joinedFrom l e }
 
   pub made-together : (most : ℕ) (before after : List ℕ) (i n : ℕ) → 1 ≤ n → n ≤ most → at .bit + 8 * n ≤ infoBits rate
       → Laid before i n (λ t. bitAt blocks (at .piece * (8 * blockBytes rate) + at .bit + t)) after → Made (infoBits rate) most before i n joinedFrom after

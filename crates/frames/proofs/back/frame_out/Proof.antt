@@ -7,9 +7,8 @@ use Rattle.bits.specs.Pieces.{piece}
 use Rattle.bits.specs.Places.{At, at-same, at-on}
 use Rattle.bits.specs.Stretch.{Laid, laid-none}
 use Rattle.sizes.specs.Sizes.{markerBits, span}
-use Rattle.sizes.specs.Rate.{infoBits, blockBytes, info-le}
+use Rattle.sizes.specs.Rate.{infoBits, blockBytes, info-le, info-pos}
 use Rattle.frames.specs.Frames.{joined}
-use Rattle.frames.specs.Blocks.{info-pos}
 use Rattle.frames.proofs.Rooms.{total-room, held-at, piece-le, span-fits, frame-held, bytes-fit}
 use Rattle.frames.proofs.Bytes.{made-more}
 use borrow.Author.Needs.{needs}

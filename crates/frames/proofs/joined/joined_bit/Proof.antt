@@ -6,7 +6,7 @@ use Rattle.bits.specs.Pack.{bitAt}
 use Rattle.bits.specs.Pieces.{piece}
 use Rattle.sizes.specs.Rate.{blockBytes}
 use Rattle.frames.specs.Frames.{joined}
-use Rattle.frames.specs.Blocks.{joined-in}
+use Rattle.frames.proofs.Bytes.{joined-in}
 use Rattle.frames.proofs.Rooms.{piece-le, bit-in}
 use borrow.Author.Needs.{needs}
 use Rattle.frames.proofs.joined.joined_bit.Statement.{statement}

@@ -5,9 +5,8 @@ use native.Mathlib.Omega.{arith}
 use Rattle.bits.specs.First.{upTo, first-end}
 use Rattle.bits.specs.Pieces.{piece}
 use Rattle.bits.specs.Places.{At, at-on}
-use Rattle.sizes.specs.Rate.{infoBits, blockBytes, info-le}
+use Rattle.sizes.specs.Rate.{infoBits, blockBytes, info-le, info-pos}
 use Rattle.frames.specs.Frames.{joined, zeroAt}
-use Rattle.frames.specs.Blocks.{info-pos}
 use Rattle.frames.specs.Needs.{Held}
 use Rattle.frames.proofs.Rooms.{total-room, held-at, piece-le, block-fit}
 use Rattle.frames.proofs.Fill.{fill-on, fill-here}

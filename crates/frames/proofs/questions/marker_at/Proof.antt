@@ -8,9 +8,9 @@ use Rattle.bits.specs.Parts.{push-eight}
 use Rattle.bits.specs.Pieces.{piece}
 use Rattle.bits.specs.Places.{At, at-same, at-on}
 use Rattle.sizes.specs.Sizes.{markerBits}
-use Rattle.sizes.specs.Rate.{infoBits, blockBytes, info-le}
+use Rattle.sizes.specs.Rate.{infoBits, blockBytes, info-le, info-pos, info-ge}
 use Rattle.frames.specs.Frames.{joined}
-use Rattle.frames.specs.Blocks.{info-pos, info-large, joined-bits}
+use Rattle.frames.specs.Blocks.{joined-bits}
 use Rattle.frames.specs.Needs.{bitOf}
 use Rattle.frames.proofs.Rooms.{held-at, piece-le}
 use borrow.Author.Needs.{needs}
@@ -64,7 +64,7 @@ place-after-requires c κs =
     let e = c .before .before .before .before .info-bits .ensures in
     let inside = l .inv .2 .inside in
     let w = info-le (a .rate) in
-    let m = info-large (a .rate) in
+    let m = info-ge (a .rate) in
     let p = piece-le (a .rate) 8 (a .blocks .now) (l .at) (held-at (s .pre) _ 8 (l .inv .2) (omega arith)) (omega arith) in
     (omega arith, omega arith, omega arith, omega arith)
 
