@@ -11,3 +11,4 @@ pub mod Put
 pub mod Leading
 pub mod Window
 pub mod Needs
+pub mod Change
