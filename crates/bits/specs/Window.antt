@@ -3,7 +3,7 @@ use mathlib.Core.Path.{_≡_, sym, ap, _∙_}
 use mathlib.Core.Bool.{Bool, true, false}
 use mathlib.Core.List.{List}
 use mathlib.Core.Logic.{⊎-elim}
-use Prim.Native.Nat.{ℕ, _+_, _-_, _*_, _/_, _%_, _^_, _≤_, _<_}
+use Prim.Native.Nat.{ℕ, _+_, _-_, _*_, _/_, _%_, _^_, _≤_, _<_, min}
 use native.Mathlib.Omega.{arith}
 use lib.Dec.{ltb, leb, eqb}
 use lib.ListN.{getD}
@@ -27,6 +27,11 @@ lesser x y = pick (ltb x y) x y
 pub lesser-le : (x y : ℕ) → (lesser x y ≤ x) × (lesser x y ≤ y)
 unfolding lesser
 lesser-le x y =
+    ⊎-elim (λ (l : x < y). rw (lt-ltb x y l) (omega arith)) (λ (l : y ≤ x). rw (le-ltb x y l) (omega arith)) (lt-or-le x y)
+
+pub lesser-min : (x y : ℕ) → lesser x y ≡ min x y
+unfolding lesser
+lesser-min x y =
     ⊎-elim (λ (l : x < y). rw (lt-ltb x y l) (omega arith)) (λ (l : y ≤ x). rw (le-ltb x y l) (omega arith)) (lt-or-le x y)
 
 pub lesser-some : (x y : ℕ) → 1 ≤ x → 1 ≤ y → 1 ≤ lesser x y

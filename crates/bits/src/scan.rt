@@ -1,6 +1,6 @@
 // Ones among packed bits, 64 at a time.
 ghost use mathlib.Core.Path.{_≡_};
-ghost use Prim.Native.Nat.{_*_, _/_, _≤_, _<_};
+ghost use Prim.Native.Nat.{_*_, _/_, _≤_, _<_, max};
 ghost use lib.ListN.{length};
 ghost use Rattle.bits.specs.Leading.{Leads};
 ghost use Rattle.bits.specs.Needs.{Within};
@@ -12,6 +12,13 @@ pub fn least(x: usize, y: usize) -> usize
     ensures { λ r. ⌜ r ≡ lesser x y ⌝ }
 {
     if x < y { x } else { y }
+}
+
+// And the greater.
+pub fn most(x: usize, y: usize) -> usize
+    ensures { λ r. ⌜ r ≡ max x y ⌝ }
+{
+    if x < y { y } else { x }
 }
 
 // The zeros in front of the first one of 64 bits.

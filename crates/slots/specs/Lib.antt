@@ -1,7 +1,6 @@
 pub mod Plan
 pub mod Slots
 pub mod Bounds
+pub mod Writing
 pub mod Needs
 pub mod Laws
-pub mod Cleared
-pub mod Writing
