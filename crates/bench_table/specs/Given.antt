@@ -6,7 +6,7 @@ use native.Mathlib.Omega.{arith}
 use native.Mathlib.Nat.{mul-le-mul, div-le-self}
 use lib.Pow.{pow-mono}
 use lib.ListN.{getD, replicate, length-replicate}
-use Rattle.slots.specs.Plan.{Fine}
+use Rattle.plan.specs.Plan.{Fine}
 use Rattle.slots.specs.Needs.{Given}
 use Rattle.bench_table.specs.Table.{plan, packed}
 

@@ -3,18 +3,18 @@
 use mathlib.Core.Path.{_≡_, refl}
 use mathlib.Core.List.{List, [], _∷_, map}
 use Prim.Native.Nat.{ℕ, _+_, _/_, _^_}
-use lib.ListN.{getD, replicate}
+use lib.ListN.{getD, length, replicate}
 use Rattle.bits.specs.Pack.{val, bitAt}
-use Rattle.rates.specs.Rate.{inputsPer, codedPer}
+use Rattle.sizes.specs.Rate.{inputsPer, codedPer}
 use Rattle.crc.specs.Check.{register, advance}
 use Rattle.convolution.specs.Code.{encode, stepOf, first, second, delay}
 use Rattle.interleaver.specs.Interleaver.{place}
 use Rattle.accumulator.specs.Accumulator.{accumulate}
 use Rattle.randomizer.specs.Randomizer.{sequence, window, next}
+use Rattle.plan.specs.declared.Plan.{Plan}
 use Rattle.channel.specs.Channel as channel
 use Rattle.channel.specs.Symbols.{wordIn}
 use Rattle.pulses.specs.Pulses as pulses
-use Rattle.slots.specs.declared.Plan.{Plan}
 use Rattle.slots.specs.Slots.{dataAt, slotBit}
 
 pub record Row : Type 0 where
@@ -71,6 +71,9 @@ table =
     -- step 10: the slots of symbol 2 at M = 4, its guard slot last; it is the marker symbol, so that they are the run's first
     ∷ row (val (slotBit (plan 2 2) (wordIn (packed 0))) (plan 2 2 .group)) 0b0010_0
     ∷ []
+
+pub rows : length table ≡ 14
+rows = refl
 
 pub bench : map (λ r. r .computed) table ≡ map (λ r. r .listed) table
 unfolding val sequence window next place register advance encode stepOf first second delay inputsPer codedPer accumulate bitAt channel.dataAt channel.marked pulses.slotBit

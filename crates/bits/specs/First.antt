@@ -125,6 +125,19 @@ first-same p q n h = same-from p q (n - 0) 0 (λ k a b. h k (omega arith))
 
 -- ---- in parts
 
+-- the first that fails in a part is the first of the whole
+pub part-fails : (t : ℕ → Bool) (x mid end r : ℕ) → x ≤ mid → mid ≤ end → r ≡ upTo t x mid → r < mid → r ≡ upTo t x end
+part-fails t x mid end r a b e l =
+    let f = found t x mid a in
+    e ∙ sym (found-at t x end (upTo t x mid) (f .least) (omega arith) (f .before) (f .fails (omega arith)))
+
+-- and where none does, what is left finds what the whole finds
+pub part-passes : (t : ℕ → Bool) (x mid end r : ℕ) → x ≤ mid → mid ≤ end → r ≡ upTo t x mid → mid ≤ r → upTo t mid end ≡ upTo t x end
+part-passes t x mid end r a b e l =
+    let f = found t x mid a in
+    let s : x + (mid - x) ≡ mid = omega arith in
+    ap (λ (y : ℕ). upTo t y end) (sym s) ∙ first-skip t (mid - x) end x (omega arith) (λ k c d. f .before k c (omega arith))
+
 -- a search part after part, of so many parts of this size: what is left finds what the whole finds
 pub record Sought (t : ℕ → Bool) (size end count c : ℕ) : Type 0 where
   pub turn : c ≤ count

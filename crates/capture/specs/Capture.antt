@@ -5,8 +5,8 @@ use Prim.Native.Nat.{ℕ}
 use Rattle.bits.specs.First.{upTo}
 use Rattle.channel.specs.Channel as channel
 use Rattle.pulses.specs.Pulses as pulses
-use Rattle.slots.specs.declared.Plan.{Plan}
-use Rattle.slots.specs.Plan.{total, symbolCount}
+use Rattle.plan.specs.declared.Plan.{Plan}
+use Rattle.plan.specs.Plan.{total, symbolCount}
 use Rattle.slots.specs.Slots.{place, symbolOf}
 
 -- question 9: are the spare bits behind the last slot empty?

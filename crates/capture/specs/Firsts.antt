@@ -10,8 +10,8 @@ use lib.Seq.{getD-set-same, getD-set-other}
 use borrow.Author.Tests.{lt-ltb, le-ltb}
 use Rattle.bits.specs.Choice.{lt-or-le, eq-or-ne}
 use Rattle.bits.specs.Pack.{val, cut}
-use Rattle.slots.specs.declared.Plan.{Plan}
-use Rattle.slots.specs.Plan.{Fine, total, symbolCount}
+use Rattle.plan.specs.declared.Plan.{Plan}
+use Rattle.plan.specs.Plan.{Fine, total, symbolCount}
 use Rattle.slots.specs.Bounds.{bounds}
 use Rattle.slots.specs.Slots.{place, symbolOf}
 use Rattle.bits.specs.Leading.{Leads}

@@ -2,5 +2,6 @@ pub mod Capture
 pub mod Answer
 pub mod Return
 pub mod Needs
+pub mod Pass
 pub mod Firsts
 pub mod Taking

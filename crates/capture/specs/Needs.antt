@@ -1,13 +1,14 @@
 -- What the calls ask of the slots that they are lent.
 use mathlib.Core.Path.{_≡_}
 use mathlib.Core.List.{List}
-use Prim.Native.Nat.{ℕ, _<_}
+use Prim.Native.Nat.{ℕ, _+_, _≤_, _<_}
 use lib.ListN.{length}
 use Rattle.pulses.specs.Groups.{Passed}
-use Rattle.slots.specs.declared.Plan.{Plan}
-use Rattle.slots.specs.Plan.{Fine, symbolCount, slotBytes}
-use Rattle.capture.specs.declared.SlotsAnswer.the-variants.{Good}
+use Rattle.plan.specs.declared.Plan.{Plan}
+use Rattle.plan.specs.Plan.{Fine, unit, symbolCount, slotBytes}
+use Rattle.answers.specs.declared.Answer.the-variants.{Done}
 use Rattle.capture.specs.Answer.{slotsSay}
+use Rattle.capture.specs.Capture.{symbolIn}
 
 -- slots of the length that the plan implies
 pub record Captured (p : Plan) (b : List ℕ) : Type 0 where
@@ -20,9 +21,17 @@ pub record Grouped (p : Plan) (b : List ℕ) : Type 0 where
   pub long : length b ≡ slotBytes p
   pub passed : Passed (p .order) (p .group) (symbolCount p) b
 
+-- the groups from `from` on up to `to`, no more than a line of them, have a symbol each
+pub record Stretch (p : Plan) (b : List ℕ) (from to : ℕ) : Type 0 where
+  pub captured : Captured p b
+  pub order : from ≤ to
+  pub most : to ≤ symbolCount p
+  pub near : to ≤ from + unit p
+  pub passed : (s : ℕ) → from ≤ s → s < to → symbolIn p b s < p .order
+
 -- all four questions are answered yes, and there is room for word j
 pub record Taken (p : Plan) (b : List ℕ) (j : ℕ) (word : List ℕ) : Type 0 where
   pub captured : Captured p b
-  pub good : slotsSay p b ≡ Good
+  pub good : slotsSay p b ≡ Done
   pub one : j < p .words
   pub room : length word ≡ 1890

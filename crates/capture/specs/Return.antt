@@ -7,20 +7,20 @@ use native.Mathlib.Omega.{arith}
 use lib.Dec.{eqb}
 use lib.ListN.{length}
 use borrow.Author.Tests.{eq-eqb, eqb-true}
-use Rattle.bits.specs.Choice.{pick, pick-yes}
-use Rattle.bits.specs.First.{all-pass, none-fails}
+use Rattle.bits.specs.First.{all-pass, none-fails, up-to-le}
 use Rattle.bits.specs.Pack.{Bytes}
 use Rattle.channel.specs.Return as channel
 use Rattle.channel.specs.Symbols as words
 use Rattle.pulses.specs.Groups.{passed}
 use Rattle.pulses.specs.Laws as pulses
-use Rattle.slots.specs.declared.Plan.{Plan}
-use Rattle.slots.specs.Plan.{Fine, total, symbolCount, slotBytes}
+use Rattle.pulses.specs.Pulses as asked
+use Rattle.plan.specs.declared.Plan.{Plan}
+use Rattle.plan.specs.Plan.{Fine, total, symbolCount, slotBytes}
 use Rattle.slots.specs.Bounds.{Bounds, bounds}
 use Rattle.slots.specs.Laws.{symbol-below}
 use Rattle.slots.specs.Slots.{dataAt, place, symbolOf, symbolAt, slotsOf}
-use Rattle.capture.specs.declared.SlotsAnswer.{SlotsAnswer}
-use Rattle.capture.specs.declared.SlotsAnswer.the-variants.{Good, SpareSlots, BadGroup, BadMark, BadRest}
+use Rattle.answers.specs.Answer.{ask, then-done, ask-done, Fits, fits-ask, fits-then}
+use Rattle.answers.specs.declared.Answer.the-variants.{Done}
 use Rattle.capture.specs.Capture.{spareEmpty, symbolIn, firstBadGroup, markRight, firstBadMark, restZero, firstBadRest, dataIn, wordOut}
 use Rattle.capture.specs.Answer.{slotsSay}
 
@@ -31,27 +31,23 @@ pub record Clean (p : Plan) (b : List ℕ) : Type 0 where
   pub marks : firstBadMark p b ≡ symbolCount p
   pub rest : firstBadRest p b ≡ symbolCount p
 
-pub clean-good : (p : Plan) (b : List ℕ) → Clean p b → slotsSay p b ≡ Good
+pub clean-good : (p : Plan) (b : List ℕ) → Clean p b → slotsSay p b ≡ Done
 unfolding slotsSay
 clean-good p b c =
     rw (c .spare, eq-eqb (firstBadGroup p b) (symbolCount p) (c .groups), eq-eqb (firstBadMark p b) (symbolCount p) (c .marks), eq-eqb (firstBadRest p b) (symbolCount p) (c .rest)) refl
 
-pub good-clean : (p : Plan) (b : List ℕ) → slotsSay p b ≡ Good → Clean p b
+pub good-clean : (p : Plan) (b : List ℕ) → slotsSay p b ≡ Done → Clean p b
 unfolding slotsSay
 good-clean p b e =
     let n : ℕ = symbolCount p in
-    let r12 : SlotsAnswer = pick (eqb (firstBadRest p b) n) Good (BadRest (firstBadRest p b)) in
-    let r11 : SlotsAnswer = pick (eqb (firstBadMark p b) n) r12 (BadMark (firstBadMark p b)) in
-    let r10 : SlotsAnswer = pick (eqb (firstBadGroup p b) n) r11 (BadGroup (firstBadGroup p b)) in
-    let y9 = pick-yes (spareEmpty p b) r10 SpareSlots Good e (λ z. let w : _≡_ {A = ℕ} 0 1 = cc in omega arith) in
-    let y10 = pick-yes (eqb (firstBadGroup p b) n) r11 (BadGroup (firstBadGroup p b)) Good (y9 .1) (λ z. let w : _≡_ {A = ℕ} 0 1 = cc in omega arith) in
-    let y11 = pick-yes (eqb (firstBadMark p b) n) r12 (BadMark (firstBadMark p b)) Good (y10 .1) (λ z. let w : _≡_ {A = ℕ} 0 1 = cc in omega arith) in
-    let y12 = pick-yes (eqb (firstBadRest p b) n) Good (BadRest (firstBadRest p b)) Good (y11 .1) (λ z. let w : _≡_ {A = ℕ} 0 1 = cc in omega arith) in
+    let y9 = then-done (ask (spareEmpty p b) 9 0) _ e in
+    let y10 = then-done (ask (eqb (firstBadGroup p b) n) 10 (firstBadGroup p b)) _ (y9 .1) in
+    let y11 = then-done (ask (eqb (firstBadMark p b) n) 11 (firstBadMark p b)) (ask (eqb (firstBadRest p b) n) 12 (firstBadRest p b)) (y10 .1) in
     record {
-      spare = y9 .0;
-      groups = eqb-true (firstBadGroup p b) n (y10 .0);
-      marks = eqb-true (firstBadMark p b) n (y11 .0);
-      rest = eqb-true (firstBadRest p b) n (y12 .0);
+      spare = ask-done (spareEmpty p b) 9 0 (y9 .0);
+      groups = eqb-true (firstBadGroup p b) n (ask-done (eqb (firstBadGroup p b) n) 10 (firstBadGroup p b) (y10 .0));
+      marks = eqb-true (firstBadMark p b) n (ask-done (eqb (firstBadMark p b) n) 11 (firstBadMark p b) (y11 .0));
+      rest = eqb-true (firstBadRest p b) n (ask-done (eqb (firstBadRest p b) n) 12 (firstBadRest p b) (y11 .1));
     }
 
 pub word-out-bytes : (p : Plan) (b : List ℕ) (j : ℕ) → Bytes (wordOut p b j)
@@ -114,7 +110,7 @@ module _ (p : Plan) (fine : Fine p) where
 
 -- what was written is good, and its words come back
 pub captured-good : (p : Plan) (word : ℕ → List ℕ) → Fine p → ((j : ℕ) → j < p .words → length (word j) ≡ 1890) → ((j : ℕ) → j < p .words → Bytes (word j))
-    → (slotsSay p (slotsOf p word) ≡ Good) × ((j : ℕ) → j < p .words → wordOut p (slotsOf p word) j ≡ word j)
+    → (slotsSay p (slotsOf p word) ≡ Done) × ((j : ℕ) → j < p .words → wordOut p (slotsOf p word) j ≡ word j)
 unfolding wordOut
 captured-good p word fine long bytes = (
   clean-good p (slotsOf p word) record { spare = pass-spare p fine word; groups = pass-groups p fine word; marks = pass-marks p fine word; rest = pass-rest p fine word },
@@ -122,10 +118,24 @@ captured-good p word fine long bytes = (
 )
 
 -- what is good is what is written of its words
-pub good-captured : (p : Plan) (b : List ℕ) → Fine p → length b ≡ slotBytes p → Bytes b → slotsSay p b ≡ Good → slotsOf p (wordOut p b) ≡ b
+pub good-captured : (p : Plan) (b : List ℕ) → Fine p → length b ≡ slotBytes p → Bytes b → slotsSay p b ≡ Done → slotsOf p (wordOut p b) ≡ b
 unfolding slotsOf
 good-captured p b fine long bytes good =
     let clean = good-clean p b good in
     let k = bounds p fine in
     sym (pulses.slots-made (p .group) (symbolCount p) (symbolAt p (wordOut p b)) (p .order) (k .order-least) (k .group-least) b long bytes
     (clean .spare) (passed (p .order) (p .group) (symbolCount p) b (clean .groups)) (symbol-again p fine b clean))
+
+-- the answer fits the number that C gets
+pub slots-fit : (p : Plan) (b : List ℕ) → Fine p → Fits (slotsSay p b)
+unfolding slotsSay asked.firstBadGroup firstBadMark firstBadRest
+slots-fit p b fine =
+    let n : ℕ = symbolCount p in
+    let most = fine .symbols-bound in
+    let x : firstBadGroup p b ≤ n = up-to-le _ n in
+    let y : firstBadMark p b ≤ n = up-to-le _ n in
+    let z : firstBadRest p b ≤ n = up-to-le _ n in
+    fits-then (ask (spareEmpty p b) 9 0) _ (fits-ask (spareEmpty p b) 9 0 (omega arith) (omega arith))
+    (λ e. fits-then (ask (eqb (firstBadGroup p b) n) 10 (firstBadGroup p b)) _ (fits-ask (eqb (firstBadGroup p b) n) 10 (firstBadGroup p b) (omega arith) (omega arith))
+    (λ f. fits-then (ask (eqb (firstBadMark p b) n) 11 (firstBadMark p b)) _ (fits-ask (eqb (firstBadMark p b) n) 11 (firstBadMark p b) (omega arith) (omega arith))
+    (λ g. fits-ask (eqb (firstBadRest p b) n) 12 (firstBadRest p b) (omega arith) (omega arith))))

@@ -11,7 +11,7 @@ use Rattle.bits.specs.Loops.{Spread}
 use Rattle.bits.specs.Pack.{bytesOf, bytes-same}
 use Rattle.channel.specs.Channel as channel
 use Rattle.channel.specs.Symbols.{word-bit-lt}
-use Rattle.slots.specs.declared.Plan.{Plan}
+use Rattle.plan.specs.declared.Plan.{Plan}
 use Rattle.capture.specs.Capture.{dataIn, wordBit, wordOut}
 
 -- one symbol more of a word

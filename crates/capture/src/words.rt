@@ -2,14 +2,14 @@
 ghost use mathlib.Core.Path.{_≡_};
 ghost use Prim.Native.Nat.{ℕ, _+_, _*_, _<_};
 ghost use lib.ListN.{length, getD};
-ghost use Rattle.slots.specs.Plan.{Fine, total};
+ghost use Rattle.plan.specs.Plan.{Fine, total};
 ghost use Rattle.slots.specs.Slots.{place, symbolOf};
 ghost use Rattle.capture.specs.Needs.{Grouped};
 ghost use Rattle.capture.specs.Capture.{dataIn, wordBit};
 ghost use Rattle.capture.specs.Firsts.{windowOf, Seen};
 
 // The symbol, markers counted, at which symbol t of all words stands.
-fn stands_at(p: slots::Plan, t: usize) -> usize
+fn stands_at(p: plan::Plan, t: usize) -> usize
     requires { ⌜ Fine p × (t < total p) ⌝ }
     ensures { λ r. ⌜ r ≡ symbolOf p (place p t) ⌝ }
 {
@@ -20,7 +20,7 @@ fn stands_at(p: slots::Plan, t: usize) -> usize
 }
 
 // The first slots of symbol i of word j, as the first bits of a number.
-fn window_of(p: slots::Plan, b: &[u8], j: usize, i: usize) -> u64
+fn window_of(p: plan::Plan, b: &[u8], j: usize, i: usize) -> u64
     requires { ⌜ Grouped p (now b) × (j < p .words) × (i < p .symbols) ⌝ }
     ensures { λ r. ⌜ r ≡ windowOf p (now (b .entry)) j i ⌝ }
 {
@@ -29,7 +29,7 @@ fn window_of(p: slots::Plan, b: &[u8], j: usize, i: usize) -> u64
 }
 
 // Those of all symbols of word j. The symbols stand far apart; fetched by themselves, none waits for another.
-pub fn windows(p: slots::Plan, b: &[u8], j: usize, firsts: &mut [u64])
+pub fn windows(p: plan::Plan, b: &[u8], j: usize, firsts: &mut [u64])
     requires { ⌜ Grouped p (now b) × (j < p .words) × (length (now firsts) ≡ 7560) ⌝ }
     ensures { λ _. ⌜ ((i : ℕ) → i < p .symbols → getD (now (firsts .exit)) i 0 ≡ windowOf p (now (b .entry)) j i) ⌝ }
 {
@@ -42,7 +42,7 @@ pub fn windows(p: slots::Plan, b: &[u8], j: usize, firsts: &mut [u64])
 }
 
 // Symbol i of word j, whose first slots are v: they tell, if its pulse is among them.
-fn symbol_of_word(p: slots::Plan, b: &[u8], j: usize, i: usize, v: u64) -> usize
+fn symbol_of_word(p: plan::Plan, b: &[u8], j: usize, i: usize, v: u64) -> usize
     requires { ⌜ Grouped p (now b) × (j < p .words) × (i < p .symbols) × (v ≡ windowOf p (now b) j i) ⌝ }
     ensures { λ r. ⌜ r ≡ dataIn p (now (b .entry)) (j * p .symbols + i) ⌝ }
 {
@@ -54,7 +54,7 @@ fn symbol_of_word(p: slots::Plan, b: &[u8], j: usize, i: usize, v: u64) -> usize
 }
 
 // The bits of word j, one to a place.
-pub fn take_out(p: slots::Plan, b: &[u8], j: usize, firsts: &[u64], room: &mut [u8])
+pub fn take_out(p: plan::Plan, b: &[u8], j: usize, firsts: &[u64], room: &mut [u8])
     requires { ⌜ Seen p (now b) j (now firsts) × (length (now room) ≡ 15120) ⌝ }
     ensures { λ _. ⌜ ((y : ℕ) → y < 15120 → getD (now (room .exit)) y 0 ≡ wordBit p (now (b .entry)) j y) ⌝ }
 {

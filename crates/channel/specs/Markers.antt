@@ -5,13 +5,14 @@ use mathlib.Core.List.{List}
 use mathlib.Core.Logic.{⊎-elim}
 use Prim.Native.Nat.{ℕ, _+_, _-_, _*_, _/_, _%_, _≤_, _<_}
 use native.Mathlib.Omega.{arith}
-use native.Mathlib.Nat.{le-refl, mul-le-mul, mod-lt, div-add-mod', div-lt-iff-lt-mul}
+use native.Mathlib.Nat.{le-refl, mul-le-mul, mod-lt, div-add-mod', div-lt-iff-lt-mul, le-div-iff-mul-le}
 use lib.Arith.{digits-lt, digits-div, digits-mod}
 use lib.Dec.{ltb, eqb}
 use lib.ListN.{getD}
 use borrow.Author.Tests.{lt-ltb, le-ltb}
 use Rattle.bits.specs.Choice.{pick, lt-or-le}
 use Rattle.channel.specs.Channel.{hitBy, placeAt, symbolOf, marked, markRight, restZero}
+use Rattle.channel.specs.Places.{delay, hit-middle}
 
 -- ---- places and symbols
 
@@ -148,6 +149,26 @@ module _ (symbols count line : ℕ) where
     rest-else k a l =
         let e : k % (symbols + count) ≡ k - line * (symbols + count) = split k a (omega arith) in
         rw (lt-ltb (k % (symbols + count)) count (omega arith)) refl
+
+-- where all places of two lines are hit, their symbols are right
+pub rest-middle : (rows step total symbols count line : ℕ) (read : ℕ → ℕ) → 1 ≤ rows → 1 ≤ symbols → delay rows step (rows - 1) ≤ line * symbols → line * symbols + 2 * symbols ≤ total
+    → (s : ℕ) → line * (symbols + count) ≤ s → s < line * (symbols + count) + 2 * (symbols + count) → restZero rows step total symbols count read s ≡ true
+unfolding restZero placeAt
+rest-middle rows step total symbols count line read least some from to s a l =
+    let u : ℕ = symbols + count in
+    let pos : 0 < u = omega arith in
+    let m : s % u < u = mod-lt s pos in
+    let low : line ≤ s / u = le-div-iff-mul-le pos .1 a in
+    let high : s / u < line + 2 = div-lt-iff-lt-mul pos .1 (omega arith) in
+    let lowest : line * symbols ≤ s / u * symbols = mul-le-mul low (le-refl symbols) in
+    let up : s / u ≤ line + 1 = omega arith in
+    let highest : s / u * symbols ≤ (line + 1) * symbols = mul-le-mul up (le-refl symbols) in
+    ⊎-elim
+    (λ (h : s % u < count). rw (lt-ltb (s % u) count h) refl)
+    (λ (h : count ≤ s % u).
+    let hit : hitBy rows step total (s / u * symbols + (s % u - count)) < total = hit-middle rows step total least (s / u * symbols + (s % u - count)) (omega arith) (omega arith) in
+    rw (le-ltb (s % u) count h, lt-ltb (hitBy rows step total (s / u * symbols + (s % u - count))) total hit) refl)
+    (lt-or-le (s % u) count)
 
 -- a symbol that is 0 is right wherever it stands
 pub rest-zero : (rows step total symbols count : ℕ) (read : ℕ → ℕ) (s : ℕ) → read s ≡ 0 → restZero rows step total symbols count read s ≡ true

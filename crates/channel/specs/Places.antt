@@ -100,6 +100,15 @@ place-lt rows step total least t l =
     let b : t % rows ≤ rows - 1 = omega arith in
     omega (arith, mul-le-mul b (le-refl (step * rows)))
 
+-- between the last delay and the last symbol every place is hit
+pub hit-middle : (rows step total : ℕ) → 1 ≤ rows → (x : ℕ) → delay rows step (rows - 1) ≤ x → x < total → hitBy rows step total x < total
+unfolding source
+hit-middle rows step total least x from to =
+    let m : x % rows < rows = mod-lt x least in
+    let b : x % rows ≤ rows - 1 = omega arith in
+    let d : delay rows step (x % rows) ≤ delay rows step (rows - 1) = mul-le-mul b (le-refl (step * rows)) in
+    rw (hit-is rows step total x, le-ltb x (delay rows step (x % rows)) (omega arith), lt-ltb (x - delay rows step (x % rows)) total (omega arith)) (omega arith)
+
 -- ---- what stands there
 
 module _ (rows step total : ℕ) where

@@ -10,7 +10,8 @@ use borrow.Author.Tests.{eq-eqb, ne-eqb}
 use Rattle.bits.specs.Choice.{pick, bit-cases}
 use Rattle.bits.specs.Sum.{xor-assoc, xor-cancel-r, xor-cross, xor-bit}
 use Rattle.bits.specs.Pack.{Bits, cut}
-use Rattle.rates.specs.Rate.{infoBits, inputBits, inputsPer, codedPer, by-rate}
+use Rattle.sizes.specs.Rate.{infoBits, inputBits, inputsPer, codedPer, by-rate}
+use Rattle.sizes.specs.Sizes.{wordBits}
 
 -- Step 3, termination: m bits, and zeros behind them
 abbrev pub terminated : ℕ → (ℕ → ℕ) → ℕ → ℕ
@@ -181,17 +182,17 @@ second-same x y (suc zero) h = ap₂ (λ (b c : ℕ). bitXor (bitXor b c) 0) (h 
 second-same x y (suc (suc i)) h =
     ap₂ bitXor (ap₂ bitXor (h (suc (suc i)) (omega arith)) (h (suc i) (omega arith))) (h i (omega arith))
 
-pub step-lt : (rate j : ℕ) → rate < 3 → j < 15120 → stepOf rate j < inputBits rate
+pub step-lt : (rate j : ℕ) → rate < 3 → j < wordBits → stepOf rate j < inputBits rate
 unfolding stepOf inputBits infoBits inputsPer codedPer
 step-lt rate j h l =
     by-rate (λ (r : ℕ). stepOf r j < inputBits r) (omega arith) (omega arith) (omega arith) rate h
 
-pub second-lt : (rate i : ℕ) → rate < 3 → i < inputBits rate → secondPlace rate i < 15120
+pub second-lt : (rate i : ℕ) → rate < 3 → i < inputBits rate → secondPlace rate i < wordBits
 unfolding secondPlace inputBits infoBits inputsPer codedPer
 second-lt rate i h l =
-    by-rate (λ (r : ℕ). i < inputBits r → secondPlace r i < 15120) (omega arith) (omega arith) (omega arith) rate h l
+    by-rate (λ (r : ℕ). i < inputBits r → secondPlace r i < wordBits) (omega arith) (omega arith) (omega arith) rate h l
 
-pub encode-same : (rate : ℕ) (x y : ℕ → ℕ) → rate < 3 → ((i : ℕ) → i < inputBits rate → x i ≡ y i) → (j : ℕ) → j < 15120 → encode rate x j ≡ encode rate y j
+pub encode-same : (rate : ℕ) (x y : ℕ → ℕ) → rate < 3 → ((i : ℕ) → i < inputBits rate → x i ≡ y i) → (j : ℕ) → j < wordBits → encode rate x j ≡ encode rate y j
 unfolding encode
 encode-same rate x y hr h j l =
     let s : stepOf rate j < inputBits rate = step-lt rate j hr l in
@@ -210,7 +211,7 @@ unfolding recover
 recover-same s t zero h = h 0 (omega arith)
 recover-same s t (suc i) h = recover-same2 s t i h .1
 
-pub decode-same : (rate : ℕ) (c d : ℕ → ℕ) → rate < 3 → ((j : ℕ) → j < 15120 → c j ≡ d j) → (i : ℕ) → i < inputBits rate → decode rate c i ≡ decode rate d i
+pub decode-same : (rate : ℕ) (c d : ℕ → ℕ) → rate < 3 → ((j : ℕ) → j < wordBits → c j ≡ d j) → (i : ℕ) → i < inputBits rate → decode rate c i ≡ decode rate d i
 unfolding decode
 decode-same rate c d hr h i l =
     recover-same (λ i. c (secondPlace rate i)) (λ i. d (secondPlace rate i)) i (λ k b. h (secondPlace rate k) (second-lt rate k hr (omega arith)))

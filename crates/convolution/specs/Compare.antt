@@ -11,6 +11,7 @@ use borrow.Author.Tests.{eq-eqb, eqb-true}
 use Rattle.bits.specs.First.{upTo, first-same}
 use Rattle.bits.specs.Sum.{same-more}
 use Rattle.bits.specs.Table.{tab, getD-tab}
+use Rattle.sizes.specs.Sizes.{wordBits}
 
 -- place j holds the same in both
 abbrev pub sameAt : List ℕ → List ℕ → ℕ → Bool
@@ -22,8 +23,8 @@ Same made coded i n = (k : ℕ) → i ≤ k → k < i + n → sameAt made coded 
 
 -- two lists of coded bits
 pub record Both (made coded : List ℕ) : Type 0 where
-  pub made-size : length made ≡ 15120
-  pub coded-size : length coded ≡ 15120
+  pub made-size : length made ≡ wordBits
+  pub coded-size : length coded ≡ wordBits
 
 pub same-none : (made coded : List ℕ) (i : ℕ) → Same made coded i 0
 same-none made coded i k l h = absurd (omega arith)
@@ -37,7 +38,7 @@ same-on made coded i n d before e k l h =
     ap (sameAt made coded) (sym at) ∙ eq-eqb (getD coded (i + (k - i)) 0) (getD made (i + (k - i)) 0) agree
 
 -- where one list is made by a function, the comparison is with its values
-pub same-made : (f : ℕ → ℕ) (made coded : List ℕ) → made ≡ tab 15120 f → upTo (sameAt made coded) 0 15120 ≡ upTo (λ j. eqb (getD coded j 0) (f j)) 0 15120
+pub same-made : (f : ℕ → ℕ) (made coded : List ℕ) → made ≡ tab wordBits f → upTo (sameAt made coded) 0 wordBits ≡ upTo (λ j. eqb (getD coded j 0) (f j)) 0 wordBits
 same-made f made coded e =
-    first-same (sameAt made coded) (λ j. eqb (getD coded j 0) (f j)) 15120 (λ k l.
-    ap (eqb (getD coded k 0)) (ap (λ (xs : List ℕ). getD xs k 0) e ∙ getD-tab 15120 f k l))
+    first-same (sameAt made coded) (λ j. eqb (getD coded j 0) (f j)) wordBits (λ k l.
+    ap (eqb (getD coded k 0)) (ap (λ (xs : List ℕ). getD xs k 0) e ∙ getD-tab wordBits f k l))

@@ -19,7 +19,8 @@ use Rattle.bits.specs.Choice.{pick, lt-or-le}
 use Rattle.bits.specs.Table.{allBelow, below-all}
 use Rattle.bits.specs.Pack.{Bits}
 use Rattle.bits.specs.Weight.{weight, weight-two, weight-three}
-use Rattle.rates.specs.Rate.{infoBits, by-rate}
+use Rattle.sizes.specs.Rate.{infoBits, by-rate}
+use Rattle.sizes.specs.Sizes.{wordBits}
 use Rattle.convolution.specs.Code.{delay, first, second, encode, delay-bits, third-first, third-second, third-third, half-first, half-second, two-first, two-second, two-odd}
 
 -- the least number of places in which coded bits of two blocks differ
@@ -194,8 +195,8 @@ module _ (δ : ℕ → ℕ) (bits : Bits δ) where
               inr (omega (arith, after, ones-grow r q h, e, left r u v h (bits (2 * q)) (bits (suc (2 * q))) p))
 
   -- at the end, after t times two input bits, the state is the zero state again
-  at-end : (r t : ℕ) → r < 3 → codedPerTwo r * t ≡ 15120 → 2 * t ≡ infoBits r + 34 → δ (infoBits r + 32) ≡ 0 → δ (infoBits r + 33) ≡ 0
-      → (i : ℕ) → i < infoBits r + 34 → δ i ≡ 1 → distance r ≤ weight (encode r δ) 15120
+  at-end : (r t : ℕ) → r < 3 → codedPerTwo r * t ≡ wordBits → 2 * t ≡ infoBits r + 34 → δ (infoBits r + 32) ≡ 0 → δ (infoBits r + 33) ≡ 0
+      → (i : ℕ) → i < infoBits r + 34 → δ i ≡ 1 → distance r ≤ weight (encode r δ) wordBits
   unfolding Quiet newer older delay ones
   at-end r t h size turns e f i l one =
       let n : 2 * t ≡ suc (suc (infoBits r + 32)) = omega arith in
@@ -206,16 +207,16 @@ module _ (δ : ℕ → ℕ) (bits : Bits δ) where
       (λ (z : (k : ℕ) → k < 2 * t → δ k ≡ 0). absurd (let q : δ i ≡ 0 = z i (omega arith) in omega arith))
       (λ (g : gained r (delay δ (2 * t)) (delay (delay δ) (2 * t)) ≤ weight (encode r δ) (codedPerTwo r * t)).
       let d : gained r (delay δ (2 * t)) (delay (delay δ) (2 * t)) ≡ distance r = ap₂ (gained r) a b ∙ zero-state r in
-      let w : weight (encode r δ) (codedPerTwo r * t) ≡ weight (encode r δ) 15120 = ap (weight (encode r δ)) size in
+      let w : weight (encode r δ) (codedPerTwo r * t) ≡ weight (encode r δ) wordBits = ap (weight (encode r δ)) size in
       omega arith)
       (climb r h t)
 
   -- a difference with a 1 in it that ends in two zeros
   pub weight-distance : (r : ℕ) → r < 3 → δ (infoBits r + 32) ≡ 0 → δ (infoBits r + 33) ≡ 0 → (i : ℕ) → i < infoBits r + 34 → δ i ≡ 1
-      → distance r ≤ weight (encode r δ) 15120
+      → distance r ≤ weight (encode r δ) wordBits
   unfolding infoBits codedPerTwo
   weight-distance r h =
       by-rate
-      (λ (r : ℕ). δ (infoBits r + 32) ≡ 0 → δ (infoBits r + 33) ≡ 0 → (i : ℕ) → i < infoBits r + 34 → δ i ≡ 1 → distance r ≤ weight (encode r δ) 15120)
+      (λ (r : ℕ). δ (infoBits r + 32) ≡ 0 → δ (infoBits r + 33) ≡ 0 → (i : ℕ) → i < infoBits r + 34 → δ i ≡ 1 → distance r ≤ weight (encode r δ) wordBits)
       (at-end 0 2520 (omega arith) refl refl) (at-end 1 3780 (omega arith) refl refl) (at-end 2 5040 (omega arith) refl refl)
       r h

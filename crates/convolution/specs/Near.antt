@@ -11,7 +11,8 @@ use borrow.Author.Tests.{eqb-true, eqb-false}
 use Rattle.bits.specs.Choice.{bit-cases, lt-or-le}
 use Rattle.bits.specs.First.{upTo, up-to-le, one-fails, passes-before, none-fails}
 use Rattle.bits.specs.Pack.{Bits}
-use Rattle.rates.specs.Rate.{infoBits, by-rate}
+use Rattle.sizes.specs.Rate.{infoBits, by-rate}
+use Rattle.sizes.specs.Sizes.{wordBits}
 use Rattle.convolution.specs.Code.{delay, first, second, encode, third-first, third-second, half-first, half-second, two-first, two-second, two-odd}
 
 -- two ones of c, below 15,120, one or two places apart
@@ -20,7 +21,7 @@ pub record Near (c : ℕ → ℕ) : Type 0 where
   pub apart : ℕ
   pub some : 1 ≤ apart
   pub few : apart ≤ 2
-  pub inside : at + apart < 15120
+  pub inside : at + apart < wordBits
   pub this : c at ≡ 1
   pub that : c (at + apart) ≡ 1
 

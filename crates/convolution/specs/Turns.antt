@@ -10,7 +10,8 @@ use lib.ListN.{length, getD, set, length-set}
 use Rattle.bits.specs.Choice.{lt-or-le}
 use Rattle.bits.specs.Sum.{xor-assoc}
 use Rattle.bits.specs.Table.{tab, tab-made, fill}
-use Rattle.rates.specs.Rate.{inputsPer, codedPer}
+use Rattle.sizes.specs.Rate.{inputsPer, codedPer}
+use Rattle.sizes.specs.Sizes.{wordBits}
 use Rattle.convolution.specs.Code.{delay, first, second, encode, third-first, third-second, third-third, two-first, two-second, two-odd, secondPlace, recover, decode}
 
 -- ---- an output by the input bits that are read
@@ -180,8 +181,8 @@ module _ (step i : ℕ) (low : 2 ≤ step) (high : step ≤ 3) where
   unfolding secondPlace inputsPer codedPer
   steps-place = by-step (λ (p : ℕ). secondPlace (3 - p) i ≡ p * i + 1) (omega arith) (omega arith)
 
-  pub steps-fit : (n : ℕ) → step * n ≡ 15120 → i < n → step * i + 1 < 15120
-  steps-fit n e l = by-step (λ (p : ℕ). p * n ≡ 15120 → p * i + 1 < 15120) (λ f. omega arith) (λ f. omega arith) e
+  pub steps-fit : (n : ℕ) → step * n ≡ wordBits → i < n → step * i + 1 < wordBits
+  steps-fit n e l = by-step (λ (p : ℕ). p * n ≡ wordBits → p * i + 1 < wordBits) (λ f. omega arith) (λ f. omega arith) e
 
 pub pairs-even : (q : ℕ) → secondPlace 2 (2 * q) ≡ 3 * q + 1
 unfolding secondPlace inputsPer codedPer

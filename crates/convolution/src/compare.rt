@@ -2,9 +2,8 @@
 ghost use mathlib.Core.Path.{_≡_};
 ghost use Prim.Native.Nat.{_≤_, _+_};
 ghost use Rattle.bits.specs.First.{upTo};
+ghost use Rattle.sizes.specs.Sizes.{wordBits};
 ghost use Rattle.convolution.specs.Compare.{Both, Same, sameAt};
-
-const CODED: usize = 15120;
 
 // A stretch of places is compared with no branch; so many of them are all places.
 const STRETCH: usize = 240;
@@ -14,7 +13,7 @@ const STRETCHES: usize = 63;
 // All differences of the stretch from `start` on, joined: 0 where there is none.
 fn difference(made: &[u8], coded: &[u8], start: usize) -> u8
     requires { ⌜ Both (now made) (now coded) ⌝ }
-    requires { ⌜ start + 240 ≤ 15120 ⌝ }
+    requires { ⌜ start + 240 ≤ wordBits ⌝ }
     ensures { λ r. ⌜ (r ≡ 0 → Same (now (made .entry)) (now (coded .entry)) start 240) ⌝ }
 {
     let mut joined = 0;
@@ -29,11 +28,11 @@ fn difference(made: &[u8], coded: &[u8], start: usize) -> u8
 // The first difference from `start` on, place by place.
 fn search(made: &[u8], coded: &[u8], start: usize) -> usize
     requires { ⌜ Both (now made) (now coded) ⌝ }
-    requires { ⌜ start ≤ 15120 ⌝ }
-    ensures { λ r. ⌜ r ≡ upTo (sameAt (now (made .entry)) (now (coded .entry))) start 15120 ⌝ }
+    requires { ⌜ start ≤ wordBits ⌝ }
+    ensures { λ r. ⌜ r ≡ upTo (sameAt (now (made .entry)) (now (coded .entry))) start wordBits ⌝ }
 {
     let mut j = start;
-    while j < CODED {
+    while j < sizes::WORD_BITS {
         if coded[j] != made[j] {
             return j;
         }
@@ -45,7 +44,7 @@ fn search(made: &[u8], coded: &[u8], start: usize) -> usize
 // The first difference; 15120 where there is none.
 pub fn first_apart(made: &[u8], coded: &[u8]) -> usize
     requires { ⌜ Both (now made) (now coded) ⌝ }
-    ensures { λ r. ⌜ r ≡ upTo (sameAt (now (made .entry)) (now (coded .entry))) 0 15120 ⌝ }
+    ensures { λ r. ⌜ r ≡ upTo (sameAt (now (made .entry)) (now (coded .entry))) 0 wordBits ⌝ }
 {
     let mut t = 0;
     while t < STRETCHES {
@@ -54,5 +53,5 @@ pub fn first_apart(made: &[u8], coded: &[u8]) -> usize
         }
         t += 1;
     }
-    CODED
+    sizes::WORD_BITS
 }

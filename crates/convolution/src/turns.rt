@@ -5,6 +5,7 @@ ghost use mathlib.Core.Path.{_≡_};
 ghost use Prim.Native.Nat.{_-_, _*_, _<_};
 ghost use lib.ListN.{getD};
 ghost use Rattle.bits.specs.Table.{tab};
+ghost use Rattle.sizes.specs.Sizes.{wordBits};
 ghost use Rattle.convolution.specs.Code.{encode};
 ghost use Rattle.convolution.specs.Ready.{Threes, Twos};
 ghost use Rattle.convolution.specs.Turns.{putTwo, putThree};
@@ -31,7 +32,7 @@ fn three(per: usize, q: usize, input: &[u8], coded: &mut [u8])
 // Rate 1/3. The first two turns stand before the loop, which then has no test for the bits before the first.
 pub fn thirds(input: &[u8], coded: &mut [u8])
     requires { ⌜ Threes 1 (now input) (now coded) ⌝ }
-    ensures { λ _. ⌜ now (coded .exit) ≡ tab 15120 (encode 0 (λ i. getD (now (input .entry)) i 0)) ⌝ }
+    ensures { λ _. ⌜ now (coded .exit) ≡ tab wordBits (encode 0 (λ i. getD (now (input .entry)) i 0)) ⌝ }
 {
     three(1, 0, input, coded);
     three(1, 1, input, coded);
@@ -45,7 +46,7 @@ pub fn thirds(input: &[u8], coded: &mut [u8])
 // Rate 2/3.
 pub fn two_thirds(input: &[u8], coded: &mut [u8])
     requires { ⌜ Threes 2 (now input) (now coded) ⌝ }
-    ensures { λ _. ⌜ now (coded .exit) ≡ tab 15120 (encode 2 (λ i. getD (now (input .entry)) i 0)) ⌝ }
+    ensures { λ _. ⌜ now (coded .exit) ≡ tab wordBits (encode 2 (λ i. getD (now (input .entry)) i 0)) ⌝ }
 {
     let mut q = 0;
     while q < THREES {
@@ -69,7 +70,7 @@ fn two(q: usize, input: &[u8], coded: &mut [u8])
 // Rate 1/2.
 pub fn halves(input: &[u8], coded: &mut [u8])
     requires { ⌜ Twos (now input) (now coded) ⌝ }
-    ensures { λ _. ⌜ now (coded .exit) ≡ tab 15120 (encode 1 (λ i. getD (now (input .entry)) i 0)) ⌝ }
+    ensures { λ _. ⌜ now (coded .exit) ≡ tab wordBits (encode 1 (λ i. getD (now (input .entry)) i 0)) ⌝ }
 {
     let mut q = 0;
     while q < TWOS {

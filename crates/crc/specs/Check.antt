@@ -8,7 +8,7 @@ use lib.Dec.{ltb}
 use borrow.Author.Tests.{lt-ltb, le-ltb}
 use Rattle.bits.specs.Choice.{pick, bit-cases, lt-or-le}
 use Rattle.bits.specs.Sum.{xor-cross, xor-bit, xor-digit, sum3, sum3-self}
-use Rattle.bits.specs.Pack.{Bits}
+use Rattle.bits.specs.Pack.{Bits, val}
 
 -- D^32 + D^29 + D^18 + D^14 + D^3 + 1, without its highest term
 abbrev pub polynomial : ℕ
@@ -30,6 +30,11 @@ checkBit r i = r / 2 ^ (31 - i) % 2
 -- the k bits of x, and their check field behind them
 unfoldable pub checked : ℕ → (ℕ → ℕ) → ℕ → ℕ
 checked k x i = pick (ltb i k) (x i) (checkBit (register x k) (i - k))
+
+-- the single bit 1, and its check field FFFFFFFE behind it: all ones, and then the 0
+pub check-example : val (checked 1 (λ i. 1)) 33 ≡ 0x1FFFFFFFE
+unfolding checked checkBit register advance val
+check-example = refl
 
 -- ---- laws
 

@@ -15,8 +15,8 @@ use Rattle.bits.specs.First.{upTo, all-pass, none-fails, found-none, none-found
 use Rattle.bits.specs.Pack.{Bits, Bytes, val, bitAt, bit-lt, val-same, val-bits, bit-val, bit-bytes, bytes-are, bytes-made, length-bytes}
 use Rattle.frames.specs.Stream.{frameMarker, markerBit, span, streamBit, marked, firstUnmarked, fillZero, framesIn}
 use Rattle.frames.specs.Answer.{framesSay, zeroAt}
-use Rattle.frames.specs.declared.FramesAnswer.{FramesAnswer}
-use Rattle.frames.specs.declared.FramesAnswer.the-variants as F
+use Rattle.answers.specs.Answer.{ask, then-done, ask-done}
+use Rattle.answers.specs.declared.Answer.the-variants.{Done}
 
 pick-bit : (b : Bool) (x y : ℕ) → x < 2 → y < 2 → pick b x y < 2
 pick-bit true x y hx hy = hx
@@ -58,28 +58,13 @@ marker-val : val markerBit 64 ≡ frameMarker
 unfolding markerBit
 marker-val = val-bits frameMarker 64 (omega arith)
 
--- the other answers are not `Good`
-abbrev isGood : FramesAnswer → ℕ
-isGood F.Good = 1
-isGood (F.Unmarked j) = 0
-isGood F.BadFill = 0
-
-bad-good : F.BadFill ≡ F.Good → ⊥
-bad-good e = let z : isGood F.BadFill ≡ isGood F.Good = ap isGood e in omega arith
-
-unmarked-good : (j : ℕ) → F.Unmarked j ≡ F.Good → ⊥
-unmarked-good j e = let z : isGood (F.Unmarked j) ≡ isGood F.Good = ap isGood e in omega arith
-
--- questions 16 and 18 are both answered yes where the answer is `Good`
-good-parts : (size count end : ℕ) (st : ℕ → ℕ) → framesSay size count end st ≡ F.Good → (firstUnmarked size count st ≡ count) × (fillZero size count end st ≡ true)
+-- questions 16 and 18 are both answered yes on acceptance
+done-parts : (size count end : ℕ) (st : ℕ → ℕ) → framesSay size count end st ≡ Done → (firstUnmarked size count st ≡ count) × (fillZero size count end st ≡ true)
 unfolding framesSay
-good-parts size count end st e = cases (eqb (firstUnmarked size count st) count) (fillZero size count end st) refl refl e
-  where
-    cases : (a b : Bool) → eqb (firstUnmarked size count st) count ≡ a → fillZero size count end st ≡ b
-        → pick a (pick b F.Good F.BadFill) (F.Unmarked (firstUnmarked size count st)) ≡ F.Good → (firstUnmarked size count st ≡ count) × (fillZero size count end st ≡ true)
-    cases true true p q e = (eqb-true (firstUnmarked size count st) count p, q)
-    cases true false p q e = absurd (bad-good e)
-    cases false b p q e = absurd (unmarked-good (firstUnmarked size count st) e)
+done-parts size count end st e =
+    let n : ℕ = firstUnmarked size count st in
+    let d = then-done (ask (eqb n count) 16 n) (ask (fillZero size count end st) 18 0) e in
+    (eqb-true n count (ask-done (eqb n count) 16 n (d .0)), ask-done (fillZero size count end st) 18 0 (d .1))
 
 -- the place in the stream of bit y of the frames
 abbrev pub framePlace : ℕ → ℕ → ℕ
@@ -114,7 +99,7 @@ module _ (size count end : ℕ) (size1 : 1 ≤ size) (fit : count * span size �
         (found-none (zeroAt st) (count * span size) end fit (λ x l h.
         eq-eqb (st x) 0 (agree x h ∙ stream-fill size count frames x l)))
 
-    pub frames-back : length frames ≡ count * size → Bytes frames → (framesSay size count end st ≡ F.Good) × (framesIn size count st ≡ frames)
+    pub frames-back : length frames ≡ count * size → Bytes frames → (framesSay size count end st ≡ Done) × (framesIn size count st ≡ frames)
     unfolding framesSay framesIn
     frames-back long bytes = (
       rw (eq-eqb (firstUnmarked size count st) count passes-16, passes-18) refl,
@@ -151,10 +136,10 @@ module _ (size count end : ℕ) (size1 : 1 ≤ size) (fit : count * span size �
         let e : upTo (zeroAt st) (count * span size) end ≡ end = eqb-true (upTo (zeroAt st) (count * span size) end) end h in
         eqb-true (st x) 0 (none-found (zeroAt st) (count * span size) end fit e x l k)
 
-    pub stream-made : framesSay size count end st ≡ F.Good → (x : ℕ) → x < end → streamBit size count (framesIn size count st) x ≡ st x
+    pub stream-made : framesSay size count end st ≡ Done → (x : ℕ) → x < end → streamBit size count (framesIn size count st) x ≡ st x
     unfolding firstUnmarked
     stream-made good x h =
-        let parts = good-parts size count end st good in
+        let parts = done-parts size count end st good in
         let fs : List ℕ = framesIn size count st in
         let j : ℕ = x / span size in
         let r : ℕ = x % span size in

@@ -10,7 +10,7 @@ use lib.ListN.{length, getD, take, drop}
 use lib.Seq.{getD-take, getD-drop}
 use Rattle.bits.specs.Choice.{lt-or-le}
 use Rattle.bits.specs.Pack.{Bits, Bytes, bitAt, cut, bit-lt, bit-bytes, bytes-are, bytes-made, bytes-same, length-bytes, cut-in, cut-past, cut-bits, cut-same}
-use Rattle.rates.specs.Rate.{infoBits, blockBytes, block-size}
+use Rattle.sizes.specs.Rate.{infoBits, blockBytes, block-size}
 use Rattle.frames.specs.Stream.{blockAt, joined}
 
 -- block j of blocks of h bytes that lie back to back

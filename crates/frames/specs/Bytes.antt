@@ -9,7 +9,7 @@ use lib.Bits.{bitAnd, bitOr, and-mask, or-shifted}
 use lib.ListN.{length, getD}
 use Rattle.bits.specs.Pack.{Bits, Bytes, val, bitAt, bit-lt, val-same, val-lt}
 use Rattle.bits.specs.Parts.{val-split, byte-val}
-use Rattle.rates.specs.Rate.{infoBits, blockBytes, block-size}
+use Rattle.sizes.specs.Rate.{infoBits, blockBytes, block-size}
 use Rattle.frames.specs.Stream.{joined}
 use Rattle.frames.specs.Blocks.{blockIn, joined-in}
 use Rattle.frames.specs.Ranges.{Stretch, Held, held}

@@ -10,7 +10,7 @@ use lib.Bits.{bitOr, or-shifted}
 use lib.Pow.{pow-mono}
 use lib.ListN.{length}
 use Rattle.bits.specs.Pack.{Bits, val, val-lt, val-same}
-use Rattle.rates.specs.Rate.{infoBits, blockBytes, block-size, info-le}
+use Rattle.sizes.specs.Rate.{infoBits, blockBytes, block-size, info-le}
 use Rattle.frames.specs.Stream.{span}
 use Rattle.frames.specs.Blocks.{info-pos}
 use Rattle.frames.specs.Back.{framePlace}

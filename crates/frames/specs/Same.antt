@@ -11,7 +11,7 @@ use Rattle.bits.specs.First.{same-from, first-same}
 use Rattle.bits.specs.Pack.{val-same, bytes-same}
 use Rattle.frames.specs.Stream.{span, frameMarker, marked, firstUnmarked, fillZero, framesIn}
 use Rattle.frames.specs.Answer.{framesSay}
-use Rattle.frames.specs.declared.FramesAnswer.the-variants as F
+use Rattle.answers.specs.Answer.{ask, then}
 
 module _ (size count end : ℕ) (size1 : 1 ≤ size) (fit : count * span size ≤ end) (s t : ℕ → ℕ) (agree : (x : ℕ) → x < end → s x ≡ t x) where
   unmarked-same : firstUnmarked size count s ≡ firstUnmarked size count t
@@ -30,7 +30,7 @@ module _ (size count end : ℕ) (size1 : 1 ≤ size) (fit : count * span size �
   pub say-same : framesSay size count end s ≡ framesSay size count end t
   unfolding framesSay
   say-same =
-      ap₂ (λ (n : ℕ) (b : Bool). pick (eqb n count) (pick b F.Good F.BadFill) (F.Unmarked n)) unmarked-same fill-same
+      ap₂ (λ (n : ℕ) (b : Bool). then (ask (eqb n count) 16 n) (ask b 18 0)) unmarked-same fill-same
 
   pub in-same : framesIn size count s ≡ framesIn size count t
   unfolding framesIn

@@ -6,7 +6,7 @@ use lib.Dec.{ltb, eqb}
 use Rattle.bits.specs.Choice.{pick}
 use Rattle.bits.specs.First.{upTo}
 use Rattle.bits.specs.Pack.{val, bitAt, bytesOf, cut}
-use Rattle.rates.specs.Rate.{infoBits, blockBytes}
+use Rattle.sizes.specs.Rate.{infoBits, blockBytes}
 
 -- the frame marker, 64 bits
 abbrev pub frameMarker : ℕ

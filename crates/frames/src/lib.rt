@@ -4,23 +4,17 @@ ghost use Prim.Native.Nat.{_+_, _-_, _*_, _/_, _%_, _^_, _≤_, _<_};
 ghost use lib.ListN.{length};
 ghost use Rattle.bits.specs.Pack.{val, bitAt};
 ghost use Rattle.bits.specs.First.{upTo};
-ghost use Rattle.rates.specs.Rate.{infoBits, blockBytes};
+ghost use Rattle.sizes.specs.Rate.{infoBits, blockBytes};
 ghost use Rattle.frames.specs.Stream.{markerBit, streamBit, blockAt, joined, firstUnmarked, framesIn};
 ghost use Rattle.frames.specs.Blocks.{blockIn, blockBit};
 ghost use Rattle.frames.specs.Back.{framePlace};
 ghost use Rattle.frames.specs.Answer.{framesSay, zeroAt};
 ghost use Rattle.frames.specs.Ranges.{Frames, Held, Stretch, Judged};
+use answers::Answer;
 use bits::packing;
 
 // The frame marker.
 const MARKER: u64 = 0x034776C7272895B0;
-
-// What questions 16 and 18 say: all is well; the marker before this frame is wrong; a fill bit is not zero.
-pub enum FramesAnswer {
-    Good,
-    Unmarked(usize),
-    BadFill,
-}
 
 // Bit r of the frame marker.
 fn marker_bit(r: usize) -> u8
@@ -107,7 +101,7 @@ pub fn fill_block(rate: u64, frames: &[u8], size: usize, count: usize, j: usize,
     requires { ⌜ (rate < 3) × (j < 256) × (length (now block) ≡ blockBytes rate) ⌝ }
     ensures { λ _. ⌜ now (block .exit) ≡ blockAt rate (streamBit size count (now (frames .entry))) j ⌝ }
 {
-    let k = rates::info_bits(rate);
+    let k = sizes::info_bits(rate);
     let mut i = 0;
     while i < block.len() {
         block[i] = block_byte(k, frames, size, count, j, i);
@@ -120,8 +114,8 @@ fn joined_bit(rate: u64, blocks: &[u8], x: usize) -> u8
     requires { ⌜ Held rate (now blocks) x ⌝ }
     ensures { λ b. ⌜ b ≡ joined rate (blockIn (blockBytes rate) (now (blocks .entry))) x ⌝ }
 {
-    let k = rates::info_bits(rate);
-    let h = rates::block_bytes(rate);
+    let k = sizes::info_bits(rate);
+    let h = sizes::block_bytes(rate);
     packing::bit_at(blocks, x / k * (8 * h) + x % k)
 }
 
@@ -173,19 +167,19 @@ fn first_fill(rate: u64, blocks: &[u8], total: usize, from: usize, end: usize) -
 }
 
 // Questions 16 and 18, put to the first `total` blocks.
-pub fn judge(rate: u64, blocks: &[u8], total: usize, size: usize, count: usize) -> FramesAnswer
+pub fn judge(rate: u64, blocks: &[u8], total: usize, size: usize, count: usize) -> Answer
     requires { ⌜ Judged rate total size count (now blocks) ⌝ }
     ensures { λ a. ⌜ a ≡ framesSay size count (total * infoBits rate) (joined rate (blockIn (blockBytes rate) (now (blocks .entry)))) ⌝ }
 {
     let j = first_unmarked(rate, blocks, total, size, count);
     if j != count {
-        return FramesAnswer::Unmarked(j);
+        return Answer::No(16, j);
     }
-    let end = total * rates::info_bits(rate);
+    let end = total * sizes::info_bits(rate);
     if first_fill(rate, blocks, total, count * (64 + 8 * size), end) != end {
-        return FramesAnswer::BadFill;
+        return Answer::No(18, 0);
     }
-    FramesAnswer::Good
+    Answer::Done
 }
 
 // The eight bits from bit y on, of packed bytes.
@@ -203,10 +197,10 @@ fn joined_byte(rate: u64, blocks: &[u8], total: usize, at: usize) -> u8
     requires { ⌜ Stretch rate total (now blocks) at 8 ⌝ }
     ensures { λ b. ⌜ b ≡ val (λ t. joined rate (blockIn (blockBytes rate) (now (blocks .entry))) (at + t)) 8 ⌝ }
 {
-    let k = rates::info_bits(rate);
+    let k = sizes::info_bits(rate);
     let r = at % k;
     if r + 8 <= k {
-        return byte_from(blocks, at / k * (8 * rates::block_bytes(rate)) + r);
+        return byte_from(blocks, at / k * (8 * sizes::block_bytes(rate)) + r);
     }
     (joined_number(rate, blocks, total, at, 8) % 256) as u8
 }

@@ -17,15 +17,16 @@ use Rattle.bits.specs.Table.{tab, length-tab, getD-tab, getD-tab-past, tab-made
 use Rattle.header.specs.Header.{fieldsOf, headerOf}
 use Rattle.header.specs.Layout.{made-read}
 use Rattle.header.specs.Quantities.{pulseOrder}
-use Rattle.header.specs.Questions.{headerNumber, ask, headerSays}
-use Rattle.header.specs.Valid.{Valid, GoodHeader, ask-good, header-good}
+use Rattle.header.specs.Questions.{question1, question2, question3, question4, question5, question6, question7, fieldsSay, headerSays}
+use Rattle.header.specs.Valid.{Valid, GoodHeader, header-good}
 use Rattle.header.specs.Shape.{order-least}
-use Rattle.header.specs.Marks.{lentMarks, below, allUnder, marksGood, andThen, runSays, parametersOf, noParameters, checkedOf, checked}
+use Rattle.header.specs.Marks.{lentMarks, below, allUnder, marksGood, runSays, parametersOf, noParameters, checkedOf, checked}
 use Rattle.header.specs.declared.Fields.{Fields}
 use Rattle.header.specs.declared.Parameters.{Parameters}
 use Rattle.header.specs.declared.Checked.{Checked}
-use Rattle.header.specs.declared.HeaderAnswer.{HeaderAnswer}
-use Rattle.header.specs.declared.HeaderAnswer.the-variants.{Good, BadHeader, BadRate, BadOrder, BadRows, BadSpread, BadFrames, BadMarkers}
+use Rattle.answers.specs.Answer.{ask, then, then-done, ask-done, Fits, fits-ask, fits-then}
+use Rattle.answers.specs.declared.Answer.{Answer}
+use Rattle.answers.specs.declared.Answer.the-variants.{Done, No}
 
 pub lent-le : (f : Fields) (marker : List ℕ) → lentMarks f marker ≤ length marker
 unfolding lentMarks
@@ -96,67 +97,34 @@ parameters-same f marker marks n e en h =
 
 module _ (header marker : List ℕ) where
   -- a header that is turned away: its own answer
-  pub checked-header : (a : HeaderAnswer) → a ≡ headerSays header → (a ≡ Good → ⊥) → (none : Parameters) → none ≡ noParameters
+  pub checked-header : (a : Answer) → a ≡ headerSays header → (a ≡ Done → ⊥) → (none : Parameters) → none ≡ noParameters
       → _≡_ {A = Checked} (record { answer = a; parameters = none }) (checked header marker)
   unfolding checked checkedOf runSays
-  checked-header a e n none en = cases a e n
-    where
-      rest : HeaderAnswer
-      rest = ask (marksGood (fieldsOf header) marker) BadMarkers Good
-
-      p : Parameters
-      p = parametersOf (fieldsOf header) marker
-
-      that : (a : HeaderAnswer) → a ≡ headerSays header → checkedOf (andThen a rest) p ≡ checked header marker
-      that a e = ap (λ (b : HeaderAnswer). checkedOf (andThen b rest) p) e
-
-      same : (a : HeaderAnswer) → _≡_ {A = Checked} (record { answer = a; parameters = none }) (record { answer = a; parameters = noParameters })
-      same a = ap (λ (q : Parameters). record { answer = a; parameters = q }) en
-
-      cases : (a : HeaderAnswer) → a ≡ headerSays header → (a ≡ Good → ⊥) → _≡_ {A = Checked} (record { answer = a; parameters = none }) (checked header marker)
-      cases Good e n = absurd (n refl)
-      cases BadHeader e n = same BadHeader ∙ that BadHeader e
-      cases BadRate e n = same BadRate ∙ that BadRate e
-      cases BadOrder e n = same BadOrder ∙ that BadOrder e
-      cases BadRows e n = same BadRows ∙ that BadRows e
-      cases BadSpread e n = same BadSpread ∙ that BadSpread e
-      cases BadFrames e n = same BadFrames ∙ that BadFrames e
-      cases BadMarkers e n = same BadMarkers ∙ that BadMarkers e
+  checked-header Done e n none en = absurd (n refl)
+  checked-header (No number place) e n none en =
+      ap (λ (q : Parameters). record { answer = No number place; parameters = q }) en
+      ∙ ap (λ (a : Answer). checkedOf (then a (ask (marksGood (fieldsOf header) marker) 7 0)) (parametersOf (fieldsOf header) marker)) e
 
   -- a marker symbol that is not below M
-  pub checked-marks : headerSays header ≡ Good → marksGood (fieldsOf header) marker ≡ false → (none : Parameters) → none ≡ noParameters
-      → _≡_ {A = Checked} (record { answer = BadMarkers; parameters = none }) (checked header marker)
+  pub checked-marks : headerSays header ≡ Done → marksGood (fieldsOf header) marker ≡ false → (none : Parameters) → none ≡ noParameters
+      → _≡_ {A = Checked} (record { answer = No 7 0; parameters = none }) (checked header marker)
   unfolding checked checkedOf runSays
-  checked-marks g b none en = ap (λ (q : Parameters). record { answer = BadMarkers; parameters = q }) en ∙ sym (rw (g, b) refl)
+  checked-marks g b none en = ap (λ (q : Parameters). record { answer = No 7 0; parameters = q }) en ∙ sym (rw (g, b) refl)
 
   -- acceptance
-  pub checked-good : headerSays header ≡ Good → marksGood (fieldsOf header) marker ≡ true → (p : Parameters) → p ≡ parametersOf (fieldsOf header) marker
-      → _≡_ {A = Checked} (record { answer = Good; parameters = p }) (checked header marker)
+  pub checked-good : headerSays header ≡ Done → marksGood (fieldsOf header) marker ≡ true → (p : Parameters) → p ≡ parametersOf (fieldsOf header) marker
+      → _≡_ {A = Checked} (record { answer = Done; parameters = p }) (checked header marker)
   unfolding checked checkedOf runSays
-  checked-good g b p e = ap (λ (q : Parameters). record { answer = Good; parameters = q }) e ∙ sym (rw (g, b) refl)
+  checked-good g b p e = ap (λ (q : Parameters). record { answer = Done; parameters = q }) e ∙ sym (rw (g, b) refl)
 
 -- ---- what acceptance gives
 
 -- an accepted call: the header is good, and the marker symbols that were looked at are below M
-pub run-good : (header marker : List ℕ) → runSays header marker ≡ Good → (headerSays header ≡ Good) × (marksGood (fieldsOf header) marker ≡ true)
+pub run-good : (header marker : List ℕ) → runSays header marker ≡ Done → (headerSays header ≡ Done) × (marksGood (fieldsOf header) marker ≡ true)
 unfolding runSays
-run-good header marker e = cases (headerSays header) refl e
-  where
-    rest : HeaderAnswer
-    rest = ask (marksGood (fieldsOf header) marker) BadMarkers Good
-
-    never : (a : HeaderAnswer) → a ≡ Good → 1 ≤ headerNumber a → ⊥
-    never a q l = let z : headerNumber a ≡ 0 = ap headerNumber q in omega arith
-
-    cases : (a : HeaderAnswer) → headerSays header ≡ a → andThen a rest ≡ Good → (headerSays header ≡ Good) × (marksGood (fieldsOf header) marker ≡ true)
-    cases Good q r = (q, ask-good (marksGood (fieldsOf header) marker) BadMarkers Good (omega arith) r .0)
-    cases BadHeader q r = absurd (never BadHeader r (omega arith))
-    cases BadRate q r = absurd (never BadRate r (omega arith))
-    cases BadOrder q r = absurd (never BadOrder r (omega arith))
-    cases BadRows q r = absurd (never BadRows r (omega arith))
-    cases BadSpread q r = absurd (never BadSpread r (omega arith))
-    cases BadFrames q r = absurd (never BadFrames r (omega arith))
-    cases BadMarkers q r = absurd (never BadMarkers r (omega arith))
+run-good header marker e =
+    let r = then-done (headerSays header) (ask (marksGood (fieldsOf header) marker) 7 0) e in
+    (r .0, ask-done (marksGood (fieldsOf header) marker) 7 0 (r .1))
 
 -- the checked parameters: 32 bytes, the lent symbols first, zeros behind them, all below M
 pub record CarriesMarks (f : Fields) (marker : List ℕ) (p : Parameters) : Type 0 where
@@ -203,13 +171,13 @@ pub record Accepted (header marker : List ℕ) : Type 0 where
   pub header-is : GoodHeader header
   pub carries : CarriesMarks (fieldsOf header) marker (checked header marker .parameters)
 
-pub check-accepted : (header marker : List ℕ) → checked header marker .answer ≡ Good → Accepted header marker
+pub check-accepted : (header marker : List ℕ) → checked header marker .answer ≡ Done → Accepted header marker
 unfolding checked checkedOf
 check-accepted header marker e =
     let r = run-good header marker e in
     let g = header-good header (r .0) in
     let p : checked header marker .parameters ≡ parametersOf (fieldsOf header) marker =
-    ap (λ (a : HeaderAnswer). checkedOf a (parametersOf (fieldsOf header) marker) .parameters) e in
+    ap (λ (a : Answer). checkedOf a (parametersOf (fieldsOf header) marker) .parameters) e in
     record {
       header-is = g;
       carries = rw p (carries-marks (fieldsOf header) (g .valid) marker (r .1));
@@ -220,6 +188,32 @@ pub check-answer : (header marker : List ℕ) → checked header marker .answer 
 unfolding checked checkedOf
 check-answer header marker = refl
 
+-- and acceptance hands the parameters on
+pub check-parameters : (header marker : List ℕ) (c : Checked) → c ≡ checked header marker → c .answer ≡ Done → c .parameters ≡ parametersOf (fieldsOf header) marker
+unfolding checked checkedOf
+check-parameters header marker c e g =
+    let a : runSays header marker ≡ Done = sym (check-answer header marker) ∙ ap (λ (x : Checked). x .answer) (sym e) ∙ g in
+    ap (λ (x : Checked). x .parameters) e ∙ rw a refl
+
 -- a good header is the one that its fields make
-pub good-made : (header : List ℕ) → Bytes header → headerSays header ≡ Good → headerOf (fieldsOf header) ≡ header
+pub good-made : (header : List ℕ) → Bytes header → headerSays header ≡ Done → headerOf (fieldsOf header) ≡ header
 good-made header b e = let g = header-good header e in made-read header (g .long) b (g .spare)
+
+-- ---- the answers fit the number that C gets
+
+fields-fit : (f : Fields) → Fits (fieldsSay f)
+unfolding fieldsSay
+fields-fit f =
+    fits-then (ask (question2 f) 2 0) _ (fits-ask (question2 f) 2 0 (omega arith) (omega arith))
+    (λ a. fits-then (ask (question3 f) 3 0) _ (fits-ask (question3 f) 3 0 (omega arith) (omega arith))
+    (λ b. fits-then (ask (question4 f) 4 0) _ (fits-ask (question4 f) 4 0 (omega arith) (omega arith))
+    (λ c. fits-then (ask (question5 f) 5 0) _ (fits-ask (question5 f) 5 0 (omega arith) (omega arith))
+    (λ d. fits-then (ask (question6 f) 6 0) (ask (question7 f) 7 0) (fits-ask (question6 f) 6 0 (omega arith) (omega arith))
+    (λ e. fits-ask (question7 f) 7 0 (omega arith) (omega arith))))))
+
+pub run-fits : (header marker : List ℕ) → Fits (runSays header marker)
+unfolding runSays headerSays
+run-fits header marker =
+    fits-then (headerSays header) (ask (marksGood (fieldsOf header) marker) 7 0)
+    (fits-then (ask (question1 header) 1 0) (fieldsSay (fieldsOf header)) (fits-ask (question1 header) 1 0 (omega arith) (omega arith)) (λ e. fields-fit (fieldsOf header)))
+    (λ e. fits-ask (marksGood (fieldsOf header) marker) 7 0 (omega arith) (omega arith))

@@ -3,7 +3,8 @@ use mathlib.Core.Path.{_≡_, refl, ap, _∙_}
 use Prim.Native.Nat.{ℕ, zero, suc, _+_, _-_, _*_, _/_, _%_, _^_, _≤_, _<_}
 use native.Mathlib.Omega.{arith}
 use native.Mathlib.Nat.{mul-le-mul, mul-le-mul-left, mul-le-mul-right, mul-assoc, div-mul-le-self, lt-div-mul-add, lt-of-mul-lt-mul-right, div-add-mod', mul-add-mod-self-right}
-use Rattle.rates.specs.Rate.{infoBits, by-rate}
+use Rattle.sizes.specs.Rate.{infoBits, by-rate}
+use Rattle.sizes.specs.Sizes.{wordBits, wordBytes, span}
 use Rattle.header.specs.Quantities.{symbolsPerWord, markedBits, blockCount, spread, sequenceLength, sequenceRows, symbolCount, slotCount, slotBytes, frameBytes}
 use Rattle.header.specs.Valid.{Valid}
 use Rattle.header.specs.Shape.{word-symbols, symbols-least, symbols-most, group-most, spread-most, spread-steps}
@@ -52,11 +53,11 @@ module _ (f : Fields) (v : Valid f) where
   -- T = A (8F + 64) is 72 to 1,052,672
   pub marked-least : 72 ≤ markedBits f
   unfolding markedBits
-  marked-least = let one : 72 ≤ 8 * f .size + 64 = let s = v .size-least in omega arith in mul-le-mul {n₁ = 1} (v .frames-least) one
+  marked-least = let one : 72 ≤ span (f .size) = let s = v .size-least in omega arith in mul-le-mul {n₁ = 1} (v .frames-least) one
 
   pub marked-most : markedBits f ≤ 1052672
   unfolding markedBits
-  marked-most = let one : 8 * f .size + 64 ≤ 16448 = let s = v .size-most in omega arith in mul-le-mul (v .frames-most) one
+  marked-most = let one : span (f .size) ≤ 16448 = let s = v .size-most in omega arith in mul-le-mul (v .frames-most) one
 
   -- C blocks hold T bits, and one less do not: fewer than k bits are fill (question 17)
   pub blocks-hold : markedBits f ≤ blockCount f * infoBits (f .rate)
@@ -97,9 +98,9 @@ module _ (f : Fields) (v : Valid f) where
   coded-most = mul-le-mul blocks-most (symbols-most f (v .shaped))
 
   -- C words of 1,890 bytes hold the bits of the symbols
-  pub coded-bits : 8 * (1890 * blockCount f) ≡ blockCount f * symbolsPerWord f * f .bits
+  pub coded-bits : 8 * (wordBytes * blockCount f) ≡ blockCount f * symbolsPerWord f * f .bits
   coded-bits =
-      let e : blockCount f * (symbolsPerWord f * f .bits) ≡ blockCount f * 15120 = ap (λ (n : ℕ). blockCount f * n) (word-symbols f (v .shaped)) in
+      let e : blockCount f * (symbolsPerWord f * f .bits) ≡ blockCount f * wordBits = ap (λ (n : ℕ). blockCount f * n) (word-symbols f (v .shaped)) in
       let a = mul-assoc (blockCount f) (symbolsPerWord f) (f .bits) in
       omega arith
 
@@ -135,7 +136,7 @@ module _ (f : Fields) (v : Valid f) where
   rows-most =
       let m = sequence-most in
       let e = rows-whole in
-      let l : sequenceRows f * 1890 ≤ sequenceRows f * symbolsPerWord f = mul-le-mul-left (sequenceRows f) (symbols-least f (v .shaped)) in
+      let l : sequenceRows f * wordBytes ≤ sequenceRows f * symbolsPerWord f = mul-le-mul-left (sequenceRows f) (symbols-least f (v .shaped)) in
       omega arith
 
   -- ---- step 10

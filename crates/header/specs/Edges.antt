@@ -6,13 +6,13 @@ use Prim.Native.Nat.{ℕ}
 use Rattle.bits.specs.First.{firstFrom}
 use Rattle.bits.specs.Pack.{val, bitAt, bytesOf}
 use Rattle.bits.specs.Table.{tab}
-use Rattle.rates.specs.Rate.{infoBits}
+use Rattle.sizes.specs.Rate.{infoBits}
 use Rattle.header.specs.Header.{field, fieldsOf, packed, headerOf}
 use Rattle.header.specs.Quantities.{pulseOrder, symbolsPerWord, markedBits, blockCount, spread, sequenceLength, sequenceRows, symbolCount}
 use Rattle.header.specs.Questions.{question2, question3, question4, question5, question6, question7, fieldsSay}
 use Rattle.header.specs.Marks.{lentMarks, marksGood}
 use Rattle.header.specs.declared.Fields.{Fields}
-use Rattle.header.specs.declared.HeaderAnswer.the-variants.{Good, BadSpread, BadFrames, BadMarkers}
+use Rattle.answers.specs.declared.Answer.the-variants.{Done, No}
 
 -- 59 50 F0 1B E8 02 00 00
 abbrev example : List ℕ
@@ -38,19 +38,19 @@ abbrev edge : ℕ → ℕ → ℕ → Fields
 edge step size markers = record { rate = 1; bits = 8; rows = 10; step = step; size = size; markers = markers; frames = 2 }
 
 -- B = 21 passes, 20 gets 5; F = 0 gets 6; W = 32 passes, 33 gets 7
-pub step-21 : fieldsSay (edge 21 223 32) ≡ Good
+pub step-21 : fieldsSay (edge 21 223 32) ≡ Done
 unfolding fieldsSay question2 question3 question4 question5 question6 question7 spread symbolsPerWord
 step-21 = refl
 
-pub step-20 : fieldsSay (edge 20 223 32) ≡ BadSpread
+pub step-20 : fieldsSay (edge 20 223 32) ≡ No 5 0
 unfolding fieldsSay question2 question3 question4 question5 spread symbolsPerWord
 step-20 = refl
 
-pub size-0 : fieldsSay (edge 21 0 32) ≡ BadFrames
+pub size-0 : fieldsSay (edge 21 0 32) ≡ No 6 0
 unfolding fieldsSay question2 question3 question4 question5 question6 spread symbolsPerWord
 size-0 = refl
 
-pub markers-33 : fieldsSay (edge 21 223 33) ≡ BadMarkers
+pub markers-33 : fieldsSay (edge 21 223 33) ≡ No 7 0
 unfolding fieldsSay question2 question3 question4 question5 question6 question7 spread symbolsPerWord
 markers-33 = refl
 

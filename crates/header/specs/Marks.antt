@@ -9,12 +9,13 @@ use Rattle.bits.specs.Pack.{cut}
 use Rattle.bits.specs.Table.{tab}
 use Rattle.header.specs.Header.{fieldsOf}
 use Rattle.header.specs.Quantities.{pulseOrder}
-use Rattle.header.specs.Questions.{ask, headerSays}
+use Rattle.header.specs.Questions.{headerSays}
 use Rattle.header.specs.declared.Fields.{Fields}
 use Rattle.header.specs.declared.Parameters.{Parameters}
 use Rattle.header.specs.declared.Checked.{Checked}
-use Rattle.header.specs.declared.HeaderAnswer.{HeaderAnswer}
-use Rattle.header.specs.declared.HeaderAnswer.the-variants.{Good, BadHeader, BadRate, BadOrder, BadRows, BadSpread, BadFrames, BadMarkers}
+use Rattle.answers.specs.declared.Answer.{Answer}
+use Rattle.answers.specs.Answer.{ask, then}
+use Rattle.answers.specs.declared.Answer.the-variants.{Done, No}
 
 -- how many of the lent symbols are looked at: up to the W-th, whatever the slice's length
 unfoldable pub lentMarks : Fields → List ℕ → ℕ
@@ -31,20 +32,9 @@ allUnder order n marker = eqb (upTo (below order marker) 0 n) n
 unfoldable pub marksGood : Fields → List ℕ → Bool
 marksGood f marker = allUnder (pulseOrder f) (lentMarks f marker) marker
 
--- what the rest says, where nothing was answered no before
-abbrev pub andThen : HeaderAnswer → HeaderAnswer → HeaderAnswer
-andThen Good rest = rest
-andThen BadHeader rest = BadHeader
-andThen BadRate rest = BadRate
-andThen BadOrder rest = BadOrder
-andThen BadRows rest = BadRows
-andThen BadSpread rest = BadSpread
-andThen BadFrames rest = BadFrames
-andThen BadMarkers rest = BadMarkers
-
 -- questions 1 to 7, put to a header and its marker symbols
-unfoldable pub runSays : List ℕ → List ℕ → HeaderAnswer
-runSays header marker = andThen (headerSays header) (ask (marksGood (fieldsOf header) marker) BadMarkers Good)
+unfoldable pub runSays : List ℕ → List ℕ → Answer
+runSays header marker = then (headerSays header) (ask (marksGood (fieldsOf header) marker) 7 0)
 
 -- the fields and the marker symbols, with zeros behind them
 unfoldable pub parametersOf : Fields → List ℕ → Parameters
@@ -62,19 +52,13 @@ noParameters = record {
   count = 0;
 }
 
-abbrev pub whenGood : HeaderAnswer → Parameters → Parameters → Parameters
-whenGood Good p none = p
-whenGood BadHeader p none = none
-whenGood BadRate p none = none
-whenGood BadOrder p none = none
-whenGood BadRows p none = none
-whenGood BadSpread p none = none
-whenGood BadFrames p none = none
-whenGood BadMarkers p none = none
+abbrev pub whenDone : Answer → Parameters → Parameters → Parameters
+whenDone Done p none = p
+whenDone (No number place) p none = none
 
--- the answer, with the parameters where it is Good
-unfoldable pub checkedOf : HeaderAnswer → Parameters → Checked
-checkedOf answer p = record { answer = answer; parameters = whenGood answer p noParameters }
+-- the answer, with the parameters on acceptance
+unfoldable pub checkedOf : Answer → Parameters → Checked
+checkedOf answer p = record { answer = answer; parameters = whenDone answer p noParameters }
 
 unfoldable pub checked : List ℕ → List ℕ → Checked
 checked header marker = checkedOf (runSays header marker) (parametersOf (fieldsOf header) marker)

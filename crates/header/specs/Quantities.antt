@@ -1,6 +1,7 @@
 -- What a header implies, each quantity with its letter in document 01.
 use Prim.Native.Nat.{ℕ, _+_, _-_, _*_, _/_, _^_}
-use Rattle.rates.specs.Rate.{infoBits}
+use Rattle.sizes.specs.Rate.{infoBits}
+use Rattle.sizes.specs.Sizes.{wordBits, span}
 use Rattle.header.specs.declared.Fields.{Fields}
 
 -- M, the pulse order
@@ -9,11 +10,11 @@ pulseOrder f = 2 ^ f .bits
 
 -- S, the symbols of a word (step 8)
 unfoldable pub symbolsPerWord : Fields → ℕ
-symbolsPerWord f = 15120 / f .bits
+symbolsPerWord f = wordBits / f .bits
 
--- the bits of the A marked frames, each F bytes behind a marker of 64 bits (step 1)
+-- the bits of the A marked frames of F bytes each (step 1)
 unfoldable pub markedBits : Fields → ℕ
-markedBits f = f .frames * (8 * f .size + 64)
+markedBits f = f .frames * span (f .size)
 
 -- C, the blocks of k bits that hold them: the last one is filled (step 1)
 unfoldable pub blockCount : Fields → ℕ

@@ -1,29 +1,15 @@
 -- Questions 1 to 7, in order; the first no gives the answer. `headerSays` puts those that `runsheet` puts, and everything else builds on it.
-use mathlib.Core.Path.{_≡_, refl}
 use mathlib.Core.Bool.{Bool}
 use mathlib.Core.List.{List}
 use Prim.Native.Nat.{ℕ, _%_}
-use native.Mathlib.Omega.{arith}
 use lib.Dec.{ltb, leb, eqb}
 use lib.ListN.{length}
-use Rattle.bits.specs.Choice.{pick}
 use Rattle.bits.specs.Table.{both}
 use Rattle.header.specs.Header.{fieldsOf, spareOf}
 use Rattle.header.specs.Quantities.{symbolsPerWord, spread}
 use Rattle.header.specs.declared.Fields.{Fields}
-use Rattle.header.specs.declared.HeaderAnswer.{HeaderAnswer}
-use Rattle.header.specs.declared.HeaderAnswer.the-variants.{Good, BadHeader, BadRate, BadOrder, BadRows, BadSpread, BadFrames, BadMarkers}
-
--- the number of the question that was answered no; 0 where none was
-abbrev pub headerNumber : HeaderAnswer → ℕ
-headerNumber Good = 0
-headerNumber BadHeader = 1
-headerNumber BadRate = 2
-headerNumber BadOrder = 3
-headerNumber BadRows = 4
-headerNumber BadSpread = 5
-headerNumber BadFrames = 6
-headerNumber BadMarkers = 7
+use Rattle.answers.specs.declared.Answer.{Answer}
+use Rattle.answers.specs.Answer.{ask, then}
 
 -- x is one of the numbers least to most
 abbrev pub within : ℕ → ℕ → ℕ → Bool
@@ -57,32 +43,16 @@ question6 f = both (within 1 (f .size) 2048) (within 1 (f .frames) 64)
 unfoldable pub question7 : Fields → Bool
 question7 f = within 1 (f .markers) 32
 
--- where the test fails, its answer; else what the rest says
-abbrev pub ask : Bool → HeaderAnswer → HeaderAnswer → HeaderAnswer
-ask test bad rest = pick test rest bad
-
 -- the questions put to the fields
-unfoldable pub fieldsSay : Fields → HeaderAnswer
+unfoldable pub fieldsSay : Fields → Answer
 fieldsSay f =
-    ask (question2 f) BadRate
-    (ask (question3 f) BadOrder
-    (ask (question4 f) BadRows
-    (ask (question5 f) BadSpread
-    (ask (question6 f) BadFrames
-    (ask (question7 f) BadMarkers
-    Good)))))
+    then (ask (question2 f) 2 0)
+    (then (ask (question3 f) 3 0)
+    (then (ask (question4 f) 4 0)
+    (then (ask (question5 f) 5 0)
+    (then (ask (question6 f) 6 0)
+    (ask (question7 f) 7 0)))))
 
 -- the questions put to a header
-unfoldable pub headerSays : List ℕ → HeaderAnswer
-headerSays header = ask (question1 header) BadHeader (fieldsSay (fieldsOf header))
-
--- no other answer has the number 0
-pub number-good : (a : HeaderAnswer) → headerNumber a ≡ 0 → a ≡ Good
-number-good Good e = refl
-number-good BadHeader e = absurd (omega arith)
-number-good BadRate e = absurd (omega arith)
-number-good BadOrder e = absurd (omega arith)
-number-good BadRows e = absurd (omega arith)
-number-good BadSpread e = absurd (omega arith)
-number-good BadFrames e = absurd (omega arith)
-number-good BadMarkers e = absurd (omega arith)
+unfoldable pub headerSays : List ℕ → Answer
+headerSays header = then (ask (question1 header) 1 0) (fieldsSay (fieldsOf header))

@@ -5,6 +5,7 @@ use Prim.Native.Nat.{ℕ, zero, suc, _-_, _*_, _/_, _%_, _^_, _≤_}
 use native.Mathlib.Omega.{arith}
 use native.Mathlib.Nat.{mul-le-mul, mul-assoc, mul-comm, zero-mod, mod-eq-of-lt}
 use borrow.Author.Tests.{eq-eqb, ne-eqb}
+use Rattle.sizes.specs.Sizes.{wordBits, wordBytes}
 use Rattle.header.specs.Quantities.{pulseOrder, symbolsPerWord, spread, slotsPerSymbol}
 use Rattle.header.specs.Questions.{question5}
 use Rattle.header.specs.Valid.{Shaped}
@@ -27,20 +28,20 @@ by-bits P p2 p3 p4 p5 p6 p7 p8 (suc (suc (suc (suc (suc (suc (suc (suc (suc m)))
 
 module _ (f : Fields) (s : Shaped f) where
   -- S symbols of m bits are a word
-  pub word-symbols : symbolsPerWord f * f .bits ≡ 15120
+  pub word-symbols : symbolsPerWord f * f .bits ≡ wordBits
   unfolding symbolsPerWord
-  word-symbols = by-bits (λ (m : ℕ). 15120 / m * m ≡ 15120) refl refl refl refl refl refl refl (f .bits) (s .bits-least) (s .bits-most)
+  word-symbols = by-bits (λ (m : ℕ). wordBits / m * m ≡ wordBits) refl refl refl refl refl refl refl (f .bits) (s .bits-least) (s .bits-most)
 
-  pub symbols-least : 1890 ≤ symbolsPerWord f
+  pub symbols-least : wordBytes ≤ symbolsPerWord f
   unfolding symbolsPerWord
   symbols-least =
-      by-bits (λ (m : ℕ). 1890 ≤ 15120 / m) (omega arith) (omega arith) (omega arith) (omega arith) (omega arith) (omega arith) (omega arith)
+      by-bits (λ (m : ℕ). wordBytes ≤ wordBits / m) (omega arith) (omega arith) (omega arith) (omega arith) (omega arith) (omega arith) (omega arith)
       (f .bits) (s .bits-least) (s .bits-most)
 
   pub symbols-most : symbolsPerWord f ≤ 7560
   unfolding symbolsPerWord
   symbols-most =
-      by-bits (λ (m : ℕ). 15120 / m ≤ 7560) (omega arith) (omega arith) (omega arith) (omega arith) (omega arith) (omega arith) (omega arith)
+      by-bits (λ (m : ℕ). wordBits / m ≤ 7560) (omega arith) (omega arith) (omega arith) (omega arith) (omega arith) (omega arith) (omega arith)
       (f .bits) (s .bits-least) (s .bits-most)
 
   pub order-least : 4 ≤ pulseOrder f

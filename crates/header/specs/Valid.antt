@@ -11,10 +11,10 @@ use Rattle.bits.specs.Table.{both-true}
 use Rattle.header.specs.Header.{fieldsOf, spareOf, headerOf, Widths}
 use Rattle.header.specs.Layout.{length-header, made-spare, read-made}
 use Rattle.header.specs.Quantities.{symbolsPerWord, spread}
-use Rattle.header.specs.Questions.{headerNumber, within, question1, question2, question3, question4, question5, question6, question7, ask, fieldsSay, headerSays}
+use Rattle.header.specs.Questions.{within, question1, question2, question3, question4, question5, question6, question7, fieldsSay, headerSays}
 use Rattle.header.specs.declared.Fields.{Fields}
-use Rattle.header.specs.declared.HeaderAnswer.{HeaderAnswer}
-use Rattle.header.specs.declared.HeaderAnswer.the-variants.{Good, BadHeader, BadRate, BadOrder, BadRows, BadSpread, BadFrames, BadMarkers}
+use Rattle.answers.specs.Answer.{ask, then-done, ask-done}
+use Rattle.answers.specs.declared.Answer.the-variants.{Done, No}
 
 -- m, N and B are in range: questions 3 and 4
 pub record Shaped (f : Fields) : Type 0 where
@@ -57,29 +57,23 @@ shaped-by f q3 q4 =
     let b = within-range 1 (f .step) 256 (r .1) in
     record { bits-least = m .0; bits-most = m .1; rows-least = n .0; rows-most = n .1; step-least = b .0; step-most = b .1 }
 
--- a chain of questions says yes only if each does
-pub ask-good : (test : Bool) (bad rest : HeaderAnswer) → 1 ≤ headerNumber bad → ask test bad rest ≡ Good → (test ≡ true) × (rest ≡ Good)
-ask-good true bad rest n e = (refl, e)
-ask-good false bad rest n e = absurd (let z : headerNumber bad ≡ 0 = ap headerNumber e in omega arith)
-
 -- what is answered yes is valid
-pub fields-valid : (f : Fields) → fieldsSay f ≡ Good → Valid f
+pub fields-valid : (f : Fields) → fieldsSay f ≡ Done → Valid f
 unfolding fieldsSay question2 question5 question6 question7
 fields-valid f e =
-    let r2 = ask-good (question2 f) BadRate _ (omega arith) e in
-    let r3 = ask-good (question3 f) BadOrder _ (omega arith) (r2 .1) in
-    let r4 = ask-good (question4 f) BadRows _ (omega arith) (r3 .1) in
-    let r5 = ask-good (question5 f) BadSpread _ (omega arith) (r4 .1) in
-    let r6 = ask-good (question6 f) BadFrames _ (omega arith) (r5 .1) in
-    let r7 = ask-good (question7 f) BadMarkers Good (omega arith) (r6 .1) in
-    let t = both-true (within 1 (f .size) 2048) (within 1 (f .frames) 64) (r6 .0) in
+    let r2 = then-done (ask (question2 f) 2 0) _ e in
+    let r3 = then-done (ask (question3 f) 3 0) _ (r2 .1) in
+    let r4 = then-done (ask (question4 f) 4 0) _ (r3 .1) in
+    let r5 = then-done (ask (question5 f) 5 0) _ (r4 .1) in
+    let r6 = then-done (ask (question6 f) 6 0) (ask (question7 f) 7 0) (r5 .1) in
+    let t = both-true (within 1 (f .size) 2048) (within 1 (f .frames) 64) (ask-done (question6 f) 6 0 (r6 .0)) in
     let s = within-range 1 (f .size) 2048 (t .0) in
     let a = within-range 1 (f .frames) 64 (t .1) in
-    let w = within-range 1 (f .markers) 32 (r7 .0) in
+    let w = within-range 1 (f .markers) 32 (ask-done (question7 f) 7 0 (r6 .1)) in
     record {
-      rate = ltb-true (f .rate) 3 (r2 .0);
-      shaped = shaped-by f (r3 .0) (r4 .0);
-      whole = eqb-true (spread f % symbolsPerWord f) 0 (r5 .0);
+      rate = ltb-true (f .rate) 3 (ask-done (question2 f) 2 0 (r2 .0));
+      shaped = shaped-by f (ask-done (question3 f) 3 0 (r3 .0)) (ask-done (question4 f) 4 0 (r4 .0));
+      whole = eqb-true (spread f % symbolsPerWord f) 0 (ask-done (question5 f) 5 0 (r5 .0));
       size-least = s .0;
       size-most = s .1;
       frames-least = a .0;
@@ -89,7 +83,7 @@ fields-valid f e =
     }
 
 -- and what is valid is answered yes
-pub valid-fields : (f : Fields) → Valid f → fieldsSay f ≡ Good
+pub valid-fields : (f : Fields) → Valid f → fieldsSay f ≡ Done
 unfolding fieldsSay question2 question3 question4 question5 question6 question7
 valid-fields f v =
     let s : Shaped f = v .shaped in
@@ -121,35 +115,35 @@ failed r test e n = sym e ∙ not-true r n
 -- ---- the first no
 
 module _ (f : Fields) where
-  pub say2 : question2 f ≡ false → BadRate ≡ fieldsSay f
+  pub say2 : question2 f ≡ false → No 2 0 ≡ fieldsSay f
   unfolding fieldsSay
   say2 e2 = sym (rw (e2) refl)
 
-  pub say3 : question2 f ≡ true → question3 f ≡ false → BadOrder ≡ fieldsSay f
+  pub say3 : question2 f ≡ true → question3 f ≡ false → No 3 0 ≡ fieldsSay f
   unfolding fieldsSay
   say3 e2 e3 = sym (rw (e2, e3) refl)
 
-  pub say4 : question2 f ≡ true → question3 f ≡ true → question4 f ≡ false → BadRows ≡ fieldsSay f
+  pub say4 : question2 f ≡ true → question3 f ≡ true → question4 f ≡ false → No 4 0 ≡ fieldsSay f
   unfolding fieldsSay
   say4 e2 e3 e4 = sym (rw (e2, e3, e4) refl)
 
-  pub say5 : question2 f ≡ true → question3 f ≡ true → question4 f ≡ true → question5 f ≡ false → BadSpread ≡ fieldsSay f
+  pub say5 : question2 f ≡ true → question3 f ≡ true → question4 f ≡ true → question5 f ≡ false → No 5 0 ≡ fieldsSay f
   unfolding fieldsSay
   say5 e2 e3 e4 e5 = sym (rw (e2, e3, e4, e5) refl)
 
-  pub say6 : question2 f ≡ true → question3 f ≡ true → question4 f ≡ true → question5 f ≡ true → question6 f ≡ false → BadFrames ≡ fieldsSay f
+  pub say6 : question2 f ≡ true → question3 f ≡ true → question4 f ≡ true → question5 f ≡ true → question6 f ≡ false → No 6 0 ≡ fieldsSay f
   unfolding fieldsSay
   say6 e2 e3 e4 e5 e6 = sym (rw (e2, e3, e4, e5, e6) refl)
 
-  pub say7 : question2 f ≡ true → question3 f ≡ true → question4 f ≡ true → question5 f ≡ true → question6 f ≡ true → question7 f ≡ false → BadMarkers ≡ fieldsSay f
+  pub say7 : question2 f ≡ true → question3 f ≡ true → question4 f ≡ true → question5 f ≡ true → question6 f ≡ true → question7 f ≡ false → No 7 0 ≡ fieldsSay f
   unfolding fieldsSay
   say7 e2 e3 e4 e5 e6 e7 = sym (rw (e2, e3, e4, e5, e6, e7) refl)
 
-  pub say-good : question2 f ≡ true → question3 f ≡ true → question4 f ≡ true → question5 f ≡ true → question6 f ≡ true → question7 f ≡ true → Good ≡ fieldsSay f
+  pub say-good : question2 f ≡ true → question3 f ≡ true → question4 f ≡ true → question5 f ≡ true → question6 f ≡ true → question7 f ≡ true → Done ≡ fieldsSay f
   unfolding fieldsSay
   say-good e2 e3 e4 e5 e6 e7 = sym (rw (e2, e3, e4, e5, e6, e7) refl)
 
-pub say1 : (header : List ℕ) → question1 header ≡ false → headerSays header ≡ BadHeader
+pub say1 : (header : List ℕ) → question1 header ≡ false → headerSays header ≡ No 1 0
 unfolding headerSays
 say1 header e = rw e refl
 
@@ -168,18 +162,18 @@ pub record GoodHeader (header : List ℕ) : Type 0 where
   pub spare : spareOf header ≡ 0
   pub valid : Valid (fieldsOf header)
 
-pub header-good : (header : List ℕ) → headerSays header ≡ Good → GoodHeader header
+pub header-good : (header : List ℕ) → headerSays header ≡ Done → GoodHeader header
 unfolding headerSays question1
 header-good header e =
-    let r = ask-good (question1 header) BadHeader (fieldsSay (fieldsOf header)) (omega arith) e in
-    let t = both-true (eqb (length header) 8) (eqb (spareOf header) 0) (r .0) in
+    let r = then-done (ask (question1 header) 1 0) (fieldsSay (fieldsOf header)) e in
+    let t = both-true (eqb (length header) 8) (eqb (spareOf header) 0) (ask-done (question1 header) 1 0 (r .0)) in
     record {
       long = eqb-true (length header) 8 (t .0);
       spare = eqb-true (spareOf header) 0 (t .1);
       valid = fields-valid (fieldsOf header) (r .1);
     }
 
-pub good-header : (header : List ℕ) → GoodHeader header → headerSays header ≡ Good
+pub good-header : (header : List ℕ) → GoodHeader header → headerSays header ≡ Done
 unfolding headerSays question1
 good-header header g =
     rw (eq-eqb (length header) 8 (g .long), eq-eqb (spareOf header) 0 (g .spare)) (valid-fields (fieldsOf header) (g .valid))
@@ -196,7 +190,7 @@ valid-widths f v = let s = v .shaped in record {
   frames = omega arith;
 }
 
-pub made-good : (f : Fields) → Valid f → headerSays (headerOf f) ≡ Good
+pub made-good : (f : Fields) → Valid f → headerSays (headerOf f) ≡ Done
 made-good f v =
     let w : Widths f = valid-widths f v in
     good-header (headerOf f) (record {

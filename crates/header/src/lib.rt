@@ -6,6 +6,8 @@ pub mod marks;
 pub mod quantities;
 pub mod questions;
 
+use answers::Answer;
+
 // The header's fields, with their letters in the comments.
 pub struct Fields {
     // 0 for 1/3, 1 for 1/2, 2 for 2/3
@@ -24,25 +26,6 @@ pub struct Fields {
     pub frames: usize,
 }
 
-// What the questions 1 to 7 say: all yes, or the first no.
-pub enum HeaderAnswer {
-    Good,
-    // 1: not eight bytes, or a spare bit is set
-    BadHeader,
-    // 2: the rate
-    BadRate,
-    // 3: m
-    BadOrder,
-    // 4: N or B
-    BadRows,
-    // 5: N (N - 1) B is no multiple of S
-    BadSpread,
-    // 6: F or A
-    BadFrames,
-    // 7: W, or a marker symbol
-    BadMarkers,
-}
-
 // What a run carries along: the fields and up to 32 marker symbols, the first `count` of `marks`.
 pub struct Parameters {
     pub fields: Fields,
@@ -50,8 +33,8 @@ pub struct Parameters {
     pub count: usize,
 }
 
-// What a header and its marker symbols are found to be: the parameters count where the answer is Good.
+// What a header and its marker symbols are found to be: the parameters count where all is answered yes.
 pub struct Checked {
-    pub answer: HeaderAnswer,
+    pub answer: Answer,
     pub parameters: Parameters,
 }

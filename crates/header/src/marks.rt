@@ -1,11 +1,11 @@
 // The checked parameters of a run: the header's fields and the marker symbols that are lent beside it.
 use crate::Checked;
 use crate::Fields;
-use crate::HeaderAnswer;
 use crate::Parameters;
 use crate::layout;
 use crate::quantities;
 use crate::questions;
+use answers::Answer;
 ghost use mathlib.Core.Path.{_≡_};
 ghost use Rattle.header.specs.Marks.{lentMarks, marksGood, parametersOf, noParameters};
 ghost use Rattle.header.specs.Marks.{checked as Marks·checked};
@@ -84,7 +84,7 @@ pub fn check(header: &[u8], marker: &[u8]) -> Checked
     ensures { λ r. ⌜ r ≡ Marks·checked (now (header .entry)) (now (marker .entry)) ⌝ }
 {
     let answer = questions::header_says(header);
-    let HeaderAnswer::Good = answer else {
+    let Answer::Done = answer else {
         let parameters = nothing();
         return Checked { answer, parameters };
     };
@@ -92,7 +92,7 @@ pub fn check(header: &[u8], marker: &[u8]) -> Checked
     if !marks_good(f, marker) {
         let parameters = nothing();
         return Checked {
-            answer: HeaderAnswer::BadMarkers,
+            answer: Answer::No(7, 0),
             parameters,
         };
     }

@@ -5,10 +5,6 @@ ghost use Rattle.header.specs.Quantities.{pulseOrder, symbolsPerWord, ma
 ghost use Rattle.header.specs.Quantities.{spread as Quantities·spread};
 ghost use Rattle.header.specs.Valid.{Shaped, Valid};
 
-const WORD_BITS: usize = 15120;
-
-const MARKER_BITS: usize = 64;
-
 // M, the pulse order.
 pub fn pulse_order(f: Fields) -> usize
     requires { ⌜ Shaped f ⌝ }
@@ -22,7 +18,7 @@ pub fn symbols_per_word(f: Fields) -> usize
     requires { ⌜ Shaped f ⌝ }
     ensures { λ r. ⌜ r ≡ symbolsPerWord f ⌝ }
 {
-    WORD_BITS / f.bits
+    sizes::WORD_BITS / f.bits
 }
 
 // N (N - 1) B, the places of step 9 that are not hit.
@@ -38,7 +34,7 @@ pub fn marked_bits(f: Fields) -> usize
     requires { ⌜ Valid f ⌝ }
     ensures { λ r. ⌜ r ≡ markedBits f ⌝ }
 {
-    f.frames * (8 * f.size + MARKER_BITS)
+    f.frames * (sizes::MARKER_BITS + 8 * f.size)
 }
 
 // C, the blocks that hold them.
@@ -46,7 +42,7 @@ pub fn block_count(f: Fields) -> usize
     requires { ⌜ Valid f ⌝ }
     ensures { λ r. ⌜ r ≡ blockCount f ⌝ }
 {
-    let k = rates::info_bits(f.rate);
+    let k = sizes::info_bits(f.rate);
     (marked_bits(f) + (k - 1)) / k
 }
 

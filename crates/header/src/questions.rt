@@ -1,28 +1,12 @@
 // Questions 1 to 7, in order; the first no gives the answer. `header_says` puts those that `runsheet` puts.
 use crate::Fields;
-use crate::HeaderAnswer;
 use crate::layout;
 use crate::quantities;
+use answers::Answer;
 ghost use mathlib.Core.Path.{_≡_};
 ghost use Rattle.header.specs.Questions as asked;
-ghost use Rattle.header.specs.Questions.{headerNumber, fieldsSay, headerSays};
+ghost use Rattle.header.specs.Questions.{fieldsSay, headerSays};
 ghost use Rattle.header.specs.Valid.{Shaped};
-
-// The number of the question that was answered no.
-pub fn number(answer: HeaderAnswer) -> u64
-    ensures { λ r. ⌜ r ≡ headerNumber answer ⌝ }
-{
-    match answer {
-        HeaderAnswer::Good => 0,
-        HeaderAnswer::BadHeader => 1,
-        HeaderAnswer::BadRate => 2,
-        HeaderAnswer::BadOrder => 3,
-        HeaderAnswer::BadRows => 4,
-        HeaderAnswer::BadSpread => 5,
-        HeaderAnswer::BadFrames => 6,
-        HeaderAnswer::BadMarkers => 7,
-    }
-}
 
 // Whether x is one of the numbers least to most.
 fn within(least: usize, x: usize, most: usize) -> bool
@@ -87,36 +71,36 @@ fn question7(f: Fields) -> bool
 }
 
 // The questions put to the fields.
-pub fn fields_say(f: Fields) -> HeaderAnswer
+pub fn fields_say(f: Fields) -> Answer
     ensures { λ r. ⌜ r ≡ fieldsSay f ⌝ }
 {
     if !question2(f) {
-        return HeaderAnswer::BadRate;
+        return Answer::No(2, 0);
     }
     if !question3(f) {
-        return HeaderAnswer::BadOrder;
+        return Answer::No(3, 0);
     }
     if !question4(f) {
-        return HeaderAnswer::BadRows;
+        return Answer::No(4, 0);
     }
     if !question5(f) {
-        return HeaderAnswer::BadSpread;
+        return Answer::No(5, 0);
     }
     if !question6(f) {
-        return HeaderAnswer::BadFrames;
+        return Answer::No(6, 0);
     }
     if !question7(f) {
-        return HeaderAnswer::BadMarkers;
+        return Answer::No(7, 0);
     }
-    HeaderAnswer::Good
+    Answer::Done
 }
 
 // The questions put to a header.
-pub fn header_says(header: &[u8]) -> HeaderAnswer
+pub fn header_says(header: &[u8]) -> Answer
     ensures { λ r. ⌜ r ≡ headerSays (now (header .entry)) ⌝ }
 {
     if !question1(header) {
-        return HeaderAnswer::BadHeader;
+        return Answer::No(1, 0);
     }
     fields_say(layout::read(header))
 }

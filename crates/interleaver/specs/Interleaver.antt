@@ -7,10 +7,7 @@ use lib.Bits.{bitXor}
 use lib.Dec.{eqb, eqb→eq}
 use Rattle.bits.specs.Table.{below-all}
 use Rattle.bits.specs.Pack.{Bits}
-
--- the bits of a word
-abbrev pub wordBits : ℕ
-wordBits = 15120
+use Rattle.sizes.specs.Sizes.{wordBits}
 
 unfoldable pub place : ℕ → ℕ
 place j = (11 * j + 210 * (j * j)) % wordBits

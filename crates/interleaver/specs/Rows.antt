@@ -17,7 +17,8 @@ use borrow.Author.Tests.{lt-ltb, le-ltb, eq-eqb, ne-eqb}
 use Rattle.bits.specs.Choice.{pick, lt-or-le, eq-or-ne}
 use Rattle.bits.specs.Table.{both, tab, length-tab, getD-tab, getD-tab-past}
 use Rattle.bits.specs.Pack.{val, val-lt, val-same, Bits, bytesOf, bytes-same}
-use Rattle.interleaver.specs.Interleaver.{wordBits, place, place-lt, interleave, interleave-same}
+use Rattle.sizes.specs.Sizes.{wordBits, wordBytes}
+use Rattle.interleaver.specs.Interleaver.{place, place-lt, interleave, interleave-same}
 
 square : (r c : ℕ) → (72 * r + c) * (72 * r + c) ≡ 5184 * (r * r) + 144 * (r * c) + c * c
 square r c = rw (mul-add (72 * r + c) (72 * r) c, add-mul (72 * r) c (72 * r), add-mul (72 * r) c c) (omega (arith, mul-assoc 72 r (72 * r), mul-left-comm r 72 r, mul-assoc 72 r c, mul-comm c (72 * r)))
@@ -185,9 +186,9 @@ ready xs twice off h et eo =
 
 -- and the bits laid out twice make the same word
 pub same-word : (xs twice : List ℕ) → twice ≡ tab 30240 (λ p. getD xs (p % wordBits) 0)
-    → bytesOf 1890 (interleave (λ j. getD twice j 0)) ≡ bytesOf 1890 (interleave (λ j. getD xs j 0))
+    → bytesOf wordBytes (interleave (λ j. getD twice j 0)) ≡ bytesOf wordBytes (interleave (λ j. getD xs j 0))
 same-word xs twice e =
-    bytes-same 1890 (interleave (λ j. getD twice j 0)) (interleave (λ j. getD xs j 0)) (λ j l.
+    bytes-same wordBytes (interleave (λ j. getD twice j 0)) (interleave (λ j. getD xs j 0)) (λ j l.
     interleave-same (λ j. getD twice j 0) (λ j. getD xs j 0) (λ p h.
     let k : p % wordBits ≡ p = omega arith in
     ap (λ (t : List ℕ). getD t p 0) e ∙ getD-tab 30240 (λ p. getD xs (p % wordBits) 0) p (omega arith) ∙ ap (λ (x : ℕ). getD xs x 0) k) j)

@@ -13,7 +13,8 @@ use borrow.Author.Tests.{lt-ltb, le-ltb, eq-eqb, ne-eqb}
 use Rattle.bits.specs.Choice.{pick, lt-or-le, eq-or-ne}
 use Rattle.bits.specs.Table.{both, tab, getD-tab, tab-same}
 use Rattle.bits.specs.Pack.{bitAt}
-use Rattle.interleaver.specs.Interleaver.{wordBits, place, placeBack, back-place, place-back, back-lt, deinterleave}
+use Rattle.sizes.specs.Sizes.{wordBits}
+use Rattle.interleaver.specs.Interleaver.{place, placeBack, back-place, place-back, back-lt, deinterleave}
 use Rattle.interleaver.specs.Rows.{spot, spot-lt, spot-place}
 
 -- p is the spot of a bit below n
@@ -116,5 +117,5 @@ bit-shifted xs i t h =
 
 -- so joining the two places of each takes the word back
 pub spread-joined : (f : ℕ → ℕ) (twice : List ℕ) → Spread f twice wordBits
-    → tab 15120 (λ x. bitOr (getD twice x 0) (getD twice (x + 15120) 0)) ≡ tab 15120 (deinterleave f)
-spread-joined f twice s = tab-same 15120 (λ x. bitOr (getD twice x 0) (getD twice (x + 15120) 0)) (deinterleave f) (spread-all f twice s)
+    → tab wordBits (λ x. bitOr (getD twice x 0) (getD twice (x + wordBits) 0)) ≡ tab wordBits (deinterleave f)
+spread-joined f twice s = tab-same wordBits (λ x. bitOr (getD twice x 0) (getD twice (x + wordBits) 0)) (deinterleave f) (spread-all f twice s)

@@ -7,6 +7,7 @@ ghost use lib.ListN.{length, getD};
 ghost use Rattle.bits.specs.Choice.{pick};
 ghost use Rattle.bits.specs.Table.{tab};
 ghost use Rattle.bits.specs.Pack.{val, bitAt, bytesOf};
+ghost use Rattle.sizes.specs.Sizes.{wordBits, wordBytes};
 ghost use Rattle.interleaver.specs.Interleaver as step;
 ghost use Rattle.interleaver.specs.Interleaver.{place};
 ghost use Rattle.interleaver.specs.Rows.{Ready, bitFrom, wordByte};
@@ -14,10 +15,10 @@ ghost use Rattle.interleaver.specs.Spread.{Spread};
 
 // The coded bit that output place j takes.
 fn place_at(j: usize) -> usize
-    requires { ⌜ j < 15120 ⌝ }
+    requires { ⌜ j < wordBits ⌝ }
     ensures { λ r. ⌜ r ≡ place j ⌝ }
 {
-    (11 * j + 210 * (j * j)) % 15120
+    (11 * j + 210 * (j * j)) % sizes::WORD_BITS
 }
 
 // The places of the first row of 72; each further row stands 792 places on.
@@ -35,28 +36,32 @@ fn first_row(off: &mut [usize])
 // p modulo 15,120, by one subtraction.
 fn wrapped(p: usize) -> usize
     requires { ⌜ p < 30240 ⌝ }
-    ensures { λ r. ⌜ r ≡ p % 15120 ⌝ }
+    ensures { λ r. ⌜ r ≡ p % wordBits ⌝ }
 {
-    if p < 15120 { p } else { p - 15120 }
+    if p < sizes::WORD_BITS {
+        p
+    } else {
+        p - sizes::WORD_BITS
+    }
 }
 
 // The coded bits twice in a row, so that a place past the end needs no reduction.
 fn doubled(coded: &[u8], twice: &mut [u8])
-    requires { ⌜ (length (now coded) ≡ 15120) × (length (now twice) ≡ 30240) ⌝ }
-    ensures { λ _. ⌜ now (twice .exit) ≡ tab 30240 (λ p. getD (now (coded .entry)) (p % 15120) 0) ⌝ }
+    requires { ⌜ (length (now coded) ≡ wordBits) × (length (now twice) ≡ 30240) ⌝ }
+    ensures { λ _. ⌜ now (twice .exit) ≡ tab 30240 (λ p. getD (now (coded .entry)) (p % wordBits) 0) ⌝ }
 {
     let mut i = 0;
-    while i < 15120 {
+    while i < sizes::WORD_BITS {
         let b = coded[i];
         twice[i] = b;
-        twice[i + 15120] = b;
+        twice[i + sizes::WORD_BITS] = b;
         i += 1;
     }
 }
 
 // Eight bits from `base` on, by the places of columns `col`, `col` + 1, .., the first highest.
 fn gathered(twice: &[u8], off: &[usize], base: usize, col: usize) -> u8
-    requires { ⌜ Ready (now twice) (now off) × (base < 15120) × (col ≤ 64) ⌝ }
+    requires { ⌜ Ready (now twice) (now off) × (base < wordBits) × (col ≤ 64) ⌝ }
     ensures { λ r. ⌜ r ≡ val (bitFrom (now (twice .entry)) base col) 8 ⌝ }
 {
     let mut v: u8 = 0;
@@ -70,12 +75,12 @@ fn gathered(twice: &[u8], off: &[usize], base: usize, col: usize) -> u8
 
 // Column q of bytes: byte q of each row of nine.
 fn column(twice: &[u8], off: &[usize], q: usize, word: &mut [u8])
-    requires { ⌜ Ready (now twice) (now off) × (q < 9) × (length (now word) ≡ 1890) ⌝ }
-    ensures { λ _. ⌜ ((k : ℕ) → k < 1890 → getD (now (word .exit)) k 0 ≡ pick (eqb (k % 9) q) (wordByte (now (twice .entry)) k) (getD (now (word .entry)) k 0)) ⌝ }
+    requires { ⌜ Ready (now twice) (now off) × (q < 9) × (length (now word) ≡ wordBytes) ⌝ }
+    ensures { λ _. ⌜ ((k : ℕ) → k < wordBytes → getD (now (word .exit)) k 0 ≡ pick (eqb (k % 9) q) (wordByte (now (twice .entry)) k) (getD (now (word .entry)) k 0)) ⌝ }
 {
     let mut base = 0;
     let mut i = q;
-    while i < 1890 {
+    while i < sizes::WORD_BYTES {
         word[i] = gathered(twice, off, base, 8 * q);
         base = wrapped(base + 792);
         i += 9;
@@ -83,8 +88,8 @@ fn column(twice: &[u8], off: &[usize], q: usize, word: &mut [u8])
 }
 
 fn columns(twice: &[u8], off: &[usize], word: &mut [u8])
-    requires { ⌜ Ready (now twice) (now off) × (length (now word) ≡ 1890) ⌝ }
-    ensures { λ _. ⌜ now (word .exit) ≡ bytesOf 1890 (step.interleave (λ j. getD (now (twice .entry)) j 0)) ⌝ }
+    requires { ⌜ Ready (now twice) (now off) × (length (now word) ≡ wordBytes) ⌝ }
+    ensures { λ _. ⌜ now (word .exit) ≡ bytesOf wordBytes (step.interleave (λ j. getD (now (twice .entry)) j 0)) ⌝ }
 {
     let mut q = 0;
     while q < 9 {
@@ -95,8 +100,8 @@ fn columns(twice: &[u8], off: &[usize], word: &mut [u8])
 
 // Step 5, and packing: word place j takes coded bit place j.
 pub fn interleave(coded: &[u8], word: &mut [u8])
-    requires { ⌜ (length (now coded) ≡ 15120) × ((i : ℕ) → getD (now coded) i 0 < 2) × (length (now word) ≡ 1890) ⌝ }
-    ensures { λ _. ⌜ now (word .exit) ≡ bytesOf 1890 (step.interleave (λ j. getD (now (coded .entry)) j 0)) ⌝ }
+    requires { ⌜ (length (now coded) ≡ wordBits) × ((i : ℕ) → getD (now coded) i 0 < 2) × (length (now word) ≡ wordBytes) ⌝ }
+    ensures { λ _. ⌜ now (word .exit) ≡ bytesOf wordBytes (step.interleave (λ j. getD (now (coded .entry)) j 0)) ⌝ }
 {
     let mut twice = [0u8; 30240];
     doubled(coded, &mut twice);
@@ -107,7 +112,7 @@ pub fn interleave(coded: &[u8], word: &mut [u8])
 
 // Byte i of the word: its bits to their spots, by the start of its row and its first column.
 fn scatter_byte(word: &[u8], off: &[usize], i: usize, base: usize, col: usize, twice: &mut [u8])
-    requires { ⌜ (length (now word) ≡ 1890) × (now off ≡ tab 72 place) × (i < 1890) × (base ≡ 792 * (i / 9) % 15120) × (col ≡ 8 * (i % 9)) × Spread (bitAt (now word)) (now twice) (8 * i) ⌝ }
+    requires { ⌜ (length (now word) ≡ wordBytes) × (now off ≡ tab 72 place) × (i < wordBytes) × (base ≡ 792 * (i / 9) % wordBits) × (col ≡ 8 * (i % 9)) × Spread (bitAt (now word)) (now twice) (8 * i) ⌝ }
     ensures { λ _. ⌜ Spread (bitAt (now (word .entry))) (now (twice .exit)) (8 * i + 8) ⌝ }
 {
     let b = word[i];
@@ -120,7 +125,7 @@ fn scatter_byte(word: &[u8], off: &[usize], i: usize, base: usize, col: usize, t
 
 // Row r of the word, nine bytes.
 fn scatter_row(word: &[u8], off: &[usize], r: usize, base: usize, twice: &mut [u8])
-    requires { ⌜ (length (now word) ≡ 1890) × (now off ≡ tab 72 place) × (r < 210) × (base ≡ 792 * r % 15120) × Spread (bitAt (now word)) (now twice) (72 * r) ⌝ }
+    requires { ⌜ (length (now word) ≡ wordBytes) × (now off ≡ tab 72 place) × (r < 210) × (base ≡ 792 * r % wordBits) × Spread (bitAt (now word)) (now twice) (72 * r) ⌝ }
     ensures { λ _. ⌜ Spread (bitAt (now (word .entry))) (now (twice .exit)) (72 * r + 72) ⌝ }
 {
     let mut q = 0;
@@ -131,8 +136,8 @@ fn scatter_row(word: &[u8], off: &[usize], r: usize, base: usize, twice: &mut [u
 }
 
 fn scatter(word: &[u8], off: &[usize], twice: &mut [u8])
-    requires { ⌜ (length (now word) ≡ 1890) × (now off ≡ tab 72 place) × Spread (bitAt (now word)) (now twice) 0 ⌝ }
-    ensures { λ _. ⌜ Spread (bitAt (now (word .entry))) (now (twice .exit)) 15120 ⌝ }
+    requires { ⌜ (length (now word) ≡ wordBytes) × (now off ≡ tab 72 place) × Spread (bitAt (now word)) (now twice) 0 ⌝ }
+    ensures { λ _. ⌜ Spread (bitAt (now (word .entry))) (now (twice .exit)) wordBits ⌝ }
 {
     let mut start = 0;
     let mut r = 0;
@@ -145,20 +150,20 @@ fn scatter(word: &[u8], off: &[usize], twice: &mut [u8])
 
 // Of the two places of a coded bit one is 0.
 fn joined(twice: &[u8], coded: &mut [u8])
-    requires { ⌜ (length (now twice) ≡ 30240) × (length (now coded) ≡ 15120) ⌝ }
-    ensures { λ _. ⌜ now (coded .exit) ≡ tab 15120 (λ x. bitOr (getD (now (twice .entry)) x 0) (getD (now (twice .entry)) (x + 15120) 0)) ⌝ }
+    requires { ⌜ (length (now twice) ≡ 30240) × (length (now coded) ≡ wordBits) ⌝ }
+    ensures { λ _. ⌜ now (coded .exit) ≡ tab wordBits (λ x. bitOr (getD (now (twice .entry)) x 0) (getD (now (twice .entry)) (x + wordBits) 0)) ⌝ }
 {
     let mut x = 0;
-    while x < 15120 {
-        coded[x] = twice[x] | twice[x + 15120];
+    while x < sizes::WORD_BITS {
+        coded[x] = twice[x] | twice[x + sizes::WORD_BITS];
         x += 1;
     }
 }
 
 // Back: coded bit x is word bit placeBack x.
 pub fn deinterleave(word: &[u8], coded: &mut [u8])
-    requires { ⌜ (length (now word) ≡ 1890) × (length (now coded) ≡ 15120) ⌝ }
-    ensures { λ _. ⌜ now (coded .exit) ≡ tab 15120 (step.deinterleave (bitAt (now (word .entry)))) ⌝ }
+    requires { ⌜ (length (now word) ≡ wordBytes) × (length (now coded) ≡ wordBits) ⌝ }
+    ensures { λ _. ⌜ now (coded .exit) ≡ tab wordBits (step.deinterleave (bitAt (now (word .entry)))) ⌝ }
 {
     let mut off = [0usize; 72];
     first_row(&mut off);

@@ -67,3 +67,24 @@ module _ (order group n : ℕ) (b : List ℕ) (h : Slots order group n b) where
       let m : n * 1 ≤ n * group = mul-le-mul (le-refl n) (let q : 1 ≤ group = omega arith in q) in
       let w = h .bound in
       omega arith
+
+-- ---- groups as numbers
+
+-- group s has at most 40 slots, and eight bytes from its first on
+pub record Near (order group : ℕ) (b : List ℕ) (s : ℕ) : Type 0 where
+  pub order-least : 1 ≤ order
+  pub group-least : order ≤ group
+  pub group-most : group ≤ 40
+  pub inside : s * group + 64 ≤ 8 * length b
+  pub small : s * group < 2 ^ 31
+
+-- group s fills whole bytes: M slots that are whole numbers of 64 bits, and up to 64 guard slots
+pub record Far (order group : ℕ) (b : List ℕ) (s : ℕ) : Type 0 where
+  pub numbers : order ≡ 64 * (order / 64)
+  pub numbers-least : 1 ≤ order / 64
+  pub numbers-most : order / 64 ≤ 4
+  pub bytes : group ≡ 8 * (group / 8)
+  pub guard-least : order < group
+  pub guard-most : group ≤ order + 64
+  pub inside : s * group + group ≤ 8 * length b
+  pub small : s * group + group < 2 ^ 31

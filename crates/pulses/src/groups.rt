@@ -1,10 +1,10 @@
-// Question 10 over all symbols. Most places of a long run hold 0, and forty bytes hold whole groups at every pulse order: where they show nothing but zeros, those groups are passed at once.
+// Question 10. Most places of a long run hold 0, and forty bytes hold whole groups at every pulse order: where they show nothing but zeros, nothing has to be asked of those groups.
 ghost use mathlib.Core.Path.{_≡_};
-ghost use Prim.Native.Nat.{ℕ, _+_, _*_, _/_, _≤_, _<_};
+ghost use Prim.Native.Nat.{ℕ, _+_, _≤_, _<_};
 ghost use lib.ListN.{length, getD};
 ghost use Rattle.bits.specs.First.{upTo};
 ghost use Rattle.pulses.specs.Needs.{Slots};
-ghost use Rattle.pulses.specs.Pulses.{grouped, firstBadGroup};
+ghost use Rattle.pulses.specs.Pulses.{grouped};
 ghost use Rattle.pulses.specs.Zeros.{Zeros};
 
 // Forty bytes of zeros' slots.
@@ -50,34 +50,15 @@ pub fn bad_group_in(order: usize, group: usize, b: &[u8], from: usize, to: usize
     s
 }
 
-// The first bad group of those in forty bytes, the c-th forty, or the group behind them.
-fn bad_group_of_forty(order: usize, group: usize, b: &[u8], c: usize, given: &[u8]) -> usize
-    requires { ⌜ Slots order group (c * (320 / group) + 320 / group) (now b) × Zeros group (now given) ⌝ }
-    ensures { λ r. ⌜ r ≡ upTo (grouped order group (now (b .entry))) (c * (320 / group)) (c * (320 / group) + 320 / group) ⌝ }
+// The same, all at once where eight bytes stand behind them.
+pub fn bad_group_among(order: usize, group: usize, b: &[u8], from: usize, to: usize) -> usize
+    requires { ⌜ Slots order group to (now b) × (from ≤ to) ⌝ }
+    ensures { λ r. ⌜ r ≡ upTo (grouped order group (now (b .entry))) from to ⌝ }
 {
-    let count = 320 / group;
-    let from = c * count;
-    if difference(b, 40 * c, given) == 0 {
-        return from + count;
-    }
-    bad_group_in(order, group, b, from, from + count)
-}
-
-// Question 10, of n groups.
-pub fn first_bad_group(order: usize, group: usize, n: usize, b: &[u8]) -> usize
-    requires { ⌜ Slots order group n (now b) ⌝ }
-    ensures { λ r. ⌜ r ≡ firstBadGroup order group n (now (b .entry)) ⌝ }
-{
-    let count = 320 / group;
-    let whole = n / count;
-    let given = zeros(group);
-    let mut c = 0usize;
-    while c < whole {
-        let s = bad_group_of_forty(order, group, b, c, &given);
-        if s < c * count + count {
-            return s;
+    if to * group / 8 + 8 < b.len() {
+        if crate::numbers::all_good(order, group, b, from, to) {
+            return to;
         }
-        c += 1;
     }
-    bad_group_in(order, group, b, whole * count, n)
+    bad_group_in(order, group, b, from, to)
 }

@@ -1,4 +1,4 @@
-// Step 7, the randomizer: the bytes of its sequence are added to those of a word, one period after the other.
+// Step 7, the randomizer: the bytes of its sequence are added to those of a slice, one period after the other.
 ghost use mathlib.Core.Path.{_≡_};
 ghost use Prim.Native.Nat.{_+_, _%_, _≤_};
 ghost use lib.ListN.{length};
@@ -11,29 +11,28 @@ mod table;
 use table::PERIOD;
 
 // Adds the sequence to the n bytes from `start` on, at most one period; at `start` it begins anew.
-fn add_period(word: &mut [u8], start: usize, n: usize)
-    requires { ⌜ (start % 255 ≡ 0) × (n ≤ 255) × (start + n ≤ length (now word)) ⌝ }
-    ensures { λ _. ⌜ Added (now (word .entry)) (now (word .exit)) start (start + n) ⌝ }
+fn add_period(bytes: &mut [u8], start: usize, n: usize)
+    requires { ⌜ (start % 255 ≡ 0) × (n ≤ 255) × (start + n ≤ length (now bytes)) ⌝ }
+    ensures { λ _. ⌜ Added (now (bytes .entry)) (now (bytes .exit)) start (start + n) ⌝ }
 {
     let table = PERIOD;
     let mut i = 0;
     while i < n {
         let j = start + i;
-        word[j] = word[j] ^ table[i];
+        bytes[j] = bytes[j] ^ table[i];
         i += 1;
     }
 }
 
-// Step 7, which undoes itself. Adds the sequence to the bits of a word.
-pub fn randomize(word: &mut [u8])
-    requires { ⌜ length (now word) ≡ 1890 ⌝ }
-    ensures { λ _. ⌜ now (word .exit) ≡ bytesOf 1890 (randomize (bitAt (now (word .entry)))) ⌝ }
+// Step 7, which undoes itself. Adds the sequence to the bits of any number of bytes.
+pub fn randomize(bytes: &mut [u8])
+    ensures { λ _. ⌜ now (bytes .exit) ≡ bytesOf (length (now (bytes .entry))) (randomize (bitAt (now (bytes .entry)))) ⌝ }
 {
-    // seven whole periods, and the last 105 bytes
+    let n = bytes.len();
     let mut start = 0;
-    while start < 1785 {
-        add_period(word, start, 255);
+    while 255 <= n - start {
+        add_period(bytes, start, 255);
         start += 255;
     }
-    add_period(word, start, 105);
+    add_period(bytes, start, n - start);
 }

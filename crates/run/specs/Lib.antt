@@ -1,12 +1,4 @@
-pub mod Answer
 pub mod Run
 pub mod Steps
-pub mod Accepted
-pub mod Theorems
+pub mod Return
 pub mod Parts
-pub mod Rooms
-pub mod Coding
-pub mod Words
-pub mod Reading
-pub mod Calls
-pub mod Small

@@ -1,54 +1,25 @@
 -- Runs: the slots of frames under a header and its marker symbols, the way back, and the questions in document 01's order.
 -- Words are known by the names of crate `word` alone: its definitions are not opened here.
-use mathlib.Core.Bool.{Bool, true, false}
 use mathlib.Core.List.{List}
 use Prim.Native.Nat.{ℕ, _*_}
-use lib.Dec.{eqb}
 use lib.ListN.{length}
-use Rattle.bits.specs.Table.{both}
-use Rattle.bits.specs.First.{upTo}
-use Rattle.rates.specs.Rate.{infoBits, blockBytes}
+use Rattle.answers.specs.declared.Answer.{Answer}
+use Rattle.answers.specs.Answer.{then}
+use Rattle.answers.specs.InOrder.{inOrder}
+use Rattle.sizes.specs.Rate.{infoBits, blockBytes}
 use Rattle.word.specs.Word.{wordOf, blockIn}
 use Rattle.word.specs.Word.{readSays as wordReads}
-use Rattle.word.specs.Answer.{readNumber}
-use Rattle.word.specs.declared.ReadAnswer.{ReadAnswer}
-use Rattle.word.specs.declared.ReadAnswer.the-variants as R
 use Rattle.header.specs.Header.{fieldsOf}
-use Rattle.header.specs.Quantities as quantities
-use Rattle.header.specs.Questions.{headerNumber}
-use Rattle.header.specs.Marks.{runSays, parametersOf}
+use Rattle.header.specs.Quantities.{blockCount}
 use Rattle.header.specs.declared.Fields.{Fields}
-use Rattle.header.specs.declared.Parameters.{Parameters}
-use Rattle.header.specs.declared.HeaderAnswer.{HeaderAnswer}
+use Rattle.plan.specs.declared.Plan.{Plan}
+use Rattle.plan.specs.Plan.{planIn}
+use Rattle.plan.specs.Lengths.{callSays}
 use Rattle.frames.specs.Stream.{streamBit, blockAt, joined, framesIn}
-use Rattle.frames.specs.Answer.{framesSay, framesNumber, framesPlace}
-use Rattle.frames.specs.declared.FramesAnswer.{FramesAnswer}
-use Rattle.slots.specs.declared.Plan.{Plan}
+use Rattle.frames.specs.Answer.{framesSay}
 use Rattle.slots.specs.Slots.{slotsOf}
 use Rattle.capture.specs.Capture.{wordOut}
-use Rattle.capture.specs.Answer.{slotsSay, slotsNumber, slotsPlace}
-use Rattle.capture.specs.declared.SlotsAnswer.{SlotsAnswer}
-use Rattle.run.specs.declared.RunAnswer.{RunAnswer}
-use Rattle.run.specs.Answer.{ask, then}
-
--- what steps 8 to 10 ask of a run, from the checked parameters
-unfoldable pub planOf : Parameters → Plan
-planOf q = record {
-  bits = q .fields .bits;
-  order = quantities.pulseOrder (q .fields);
-  group = quantities.slotsPerSymbol (q .fields);
-  symbols = quantities.symbolsPerWord (q .fields);
-  words = quantities.blockCount (q .fields);
-  rows = q .fields .rows;
-  step = q .fields .step;
-  lines = quantities.sequenceRows (q .fields);
-  count = q .fields .markers;
-  marks = q .marks;
-}
-
--- a header with its marker symbols
-abbrev pub planIn : List ℕ → List ℕ → Plan
-planIn header marker = planOf (parametersOf (fieldsOf header) marker)
+use Rattle.capture.specs.Answer.{slotsSay}
 
 -- ---- from frames to slots
 
@@ -77,61 +48,25 @@ framesRead header marker slots = framesOf (fieldsOf header) (wordOut (planIn hea
 
 -- ---- the questions
 
--- what a part says by a number and a place, 0 where it accepts
-abbrev pub refusal : ℕ → ℕ → RunAnswer
-refusal number place = ask (eqb number 0) number place
-
--- 1 to 7, which have no place
-abbrev pub headerSaid : HeaderAnswer → RunAnswer
-headerSaid a = refusal (headerNumber a) 0
-
--- 9 to 12, each of the whole buffer; 16 and 18 (17, fewer than k fill bits, is answered by the header)
-abbrev pub slotsSaid : SlotsAnswer → RunAnswer
-slotsSaid a = refusal (slotsNumber a) (slotsPlace a)
-
-abbrev pub framesSaid : FramesAnswer → RunAnswer
-framesSaid a = refusal (framesNumber a) (framesPlace a)
-
--- 8: has every lent slice exactly the length that the header implies?
-unfoldable pub lengthsRight : Fields → ℕ → ℕ → ℕ → Bool
-lengthsRight f markerLength framesLength slotsLength =
-    both (eqb markerLength (quantities.markerBytes f))
-    (both (eqb framesLength (quantities.frameBytes f)) (eqb slotsLength (quantities.slotBytes f)))
-
--- 13 to 15, of one word after another: what the word reader says of word j, and the first word that gives no block
-abbrev pub isBlock : ReadAnswer → Bool
-isBlock R.Block = true
-isBlock R.BadRate = false
-isBlock R.BadLength = false
-isBlock (R.Miscoded at) = false
-isBlock R.Unterminated = false
-isBlock R.BadCheck = false
-
-unfoldable pub wordSays : Fields → (ℕ → List ℕ) → ℕ → ReadAnswer
+-- 13 to 15, of one word after another: what the word reader says of word j; the first word that gives no block is the place
+unfoldable pub wordSays : Fields → (ℕ → List ℕ) → ℕ → Answer
 wordSays f word j = wordReads (f .rate) (word j) (blockBytes (f .rate))
 
-unfoldable pub firstRefused : Fields → (ℕ → List ℕ) → ℕ
-firstRefused f word = upTo (λ j. isBlock (wordSays f word j)) 0 (quantities.blockCount f)
+unfoldable pub wordsSay : Fields → (ℕ → List ℕ) → Answer
+wordsSay f word = inOrder (blockCount f) (wordSays f word)
 
-unfoldable pub wordsSay : Fields → (ℕ → List ℕ) → RunAnswer
-wordsSay f word =
-    ask (eqb (firstRefused f word) (quantities.blockCount f)) (readNumber (wordSays f word (firstRefused f word))) (firstRefused f word)
-
--- the writer
-unfoldable pub writeSays : List ℕ → List ℕ → List ℕ → ℕ → RunAnswer
-writeSays header marker frames slotsLength =
-    then (headerSaid (runSays header marker))
-    (ask (lengthsRight (fieldsOf header) (length marker) (length frames) slotsLength) 8 0)
+-- 16 to 18, of the stream that the words hold
+unfoldable pub streamSays : Fields → (ℕ → List ℕ) → Answer
+streamSays f word = framesSay (f .size) (f .frames) (blockCount f * infoBits (f .rate)) (streamIn f word)
 
 -- the reader, of slots of the right length: 9 to 12, then 13 to 15, then 16 to 18
-unfoldable pub bufferSays : Fields → Plan → List ℕ → RunAnswer
-bufferSays f p slots =
-    then (slotsSaid (slotsSay p slots))
-    (then (wordsSay f (wordOut p slots))
-    (framesSaid (framesSay (f .size) (f .frames) (quantities.blockCount f * infoBits (f .rate)) (streamIn f (wordOut p slots)))))
+unfoldable pub bufferSays : Fields → Plan → List ℕ → Answer
+bufferSays f p slots = then (slotsSay p slots) (then (wordsSay f (wordOut p slots)) (streamSays f (wordOut p slots)))
 
-unfoldable pub readSays : List ℕ → List ℕ → List ℕ → ℕ → RunAnswer
+-- the two calls: 1 to 8, and the reader's own
+unfoldable pub writeSays : List ℕ → List ℕ → List ℕ → ℕ → Answer
+writeSays header marker frames slotsLength = callSays header marker (length frames) slotsLength
+
+unfoldable pub readSays : List ℕ → List ℕ → List ℕ → ℕ → Answer
 readSays header marker slots framesLength =
-    then (headerSaid (runSays header marker))
-    (then (ask (lengthsRight (fieldsOf header) (length marker) framesLength (length slots)) 8 0)
-    (bufferSays (fieldsOf header) (planIn header marker) slots))
+    then (callSays header marker framesLength (length slots)) (bufferSays (fieldsOf header) (planIn header marker) slots)

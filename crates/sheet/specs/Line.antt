@@ -4,13 +4,14 @@ use mathlib.Core.List.{List, [], _∷_, _++_}
 use Prim.Native.Nat.{ℕ}
 use native.Mathlib.Omega.{arith}
 use lib.ListN.{length, take}
-use Rattle.rates.specs.Rate.{inputsPer, codedPer}
+use Rattle.sizes.specs.Rate.{inputsPer, codedPer}
 use Rattle.header.specs.Header.{fieldsOf}
 use Rattle.header.specs.Quantities.{pulseOrder, blockCount, symbolCount, slotCount}
-use Rattle.header.specs.Questions.{headerNumber, headerSays}
+use Rattle.header.specs.Questions.{headerSays}
 use Rattle.header.specs.declared.Fields.{Fields}
-use Rattle.header.specs.declared.HeaderAnswer.{HeaderAnswer}
-use Rattle.header.specs.declared.HeaderAnswer.the-variants.{Good, BadHeader, BadRate, BadOrder, BadRows, BadSpread, BadFrames, BadMarkers}
+use Rattle.answers.specs.Answer.{numberOf}
+use Rattle.answers.specs.declared.Answer.{Answer}
+use Rattle.answers.specs.declared.Answer.the-variants.{Done, No}
 use Rattle.sheet.specs.Text.{digit, items, Put}
 
 -- `1/3`, `1/2` or `2/3`
@@ -28,15 +29,9 @@ runLine f = rateText (f .rate) ++ items (runNumbers f)
 unfoldable pub noLine : ℕ → List ℕ
 noLine number = 110 ∷ 111 ∷ items (number ∷ [])
 
-abbrev pub lineFor : HeaderAnswer → Fields → List ℕ
-lineFor Good f = runLine f
-lineFor BadHeader f = noLine (headerNumber BadHeader)
-lineFor BadRate f = noLine (headerNumber BadRate)
-lineFor BadOrder f = noLine (headerNumber BadOrder)
-lineFor BadRows f = noLine (headerNumber BadRows)
-lineFor BadSpread f = noLine (headerNumber BadSpread)
-lineFor BadFrames f = noLine (headerNumber BadFrames)
-lineFor BadMarkers f = noLine (headerNumber BadMarkers)
+abbrev pub lineFor : Answer → Fields → List ℕ
+lineFor Done f = runLine f
+lineFor (No number place) f = noLine number
 
 -- the questions that `runsheet` puts, and what it prints
 unfoldable pub lineOf : List ℕ → List ℕ
@@ -54,20 +49,11 @@ printed header before piece out n e p = record {
 }
 
 -- the two kinds of line
-pub line-no : (header : List ℕ) (n : ℕ) → n ≡ headerNumber (headerSays header) → (n ≡ 0 → ⊥) → noLine n ≡ lineOf header
+pub line-no : (header : List ℕ) (a : Answer) → a ≡ headerSays header → (a ≡ Done → ⊥) → noLine (numberOf a) ≡ lineOf header
 unfolding lineOf
-line-no header n e z = ap noLine e ∙ cases (headerSays header) (λ q. z (e ∙ q))
-  where
-    cases : (a : HeaderAnswer) → (headerNumber a ≡ 0 → ⊥) → noLine (headerNumber a) ≡ lineFor a (fieldsOf header)
-    cases Good y = absurd (y refl)
-    cases BadHeader y = refl
-    cases BadRate y = refl
-    cases BadOrder y = refl
-    cases BadRows y = refl
-    cases BadSpread y = refl
-    cases BadFrames y = refl
-    cases BadMarkers y = refl
+line-no header Done e n = absurd (n refl)
+line-no header (No number place) e n = ap (λ (a : Answer). lineFor a (fieldsOf header)) e
 
-pub line-run : (header : List ℕ) → headerSays header ≡ Good → runLine (fieldsOf header) ≡ lineOf header
+pub line-run : (header : List ℕ) → headerSays header ≡ Done → runLine (fieldsOf header) ≡ lineOf header
 unfolding lineOf
 line-run header e = sym (rw e refl)

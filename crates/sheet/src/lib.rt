@@ -1,6 +1,7 @@
 // The line that `runsheet` prints of a header: what a run with it holds, or the number of the question that it fails.
 mod text;
 
+use answers::Answer;
 use header::Fields;
 use header::layout;
 use header::quantities;
@@ -75,9 +76,9 @@ pub fn line(header: &[u8], out: &mut [u8]) -> usize
     ensures { λ r. ⌜ Printed (now (header .entry)) (now (out .exit)) r ⌝ }
     ensures { λ r. ⌜ Counts r (now (out .exit)) ⌝ }
 {
-    let number = questions::number(questions::header_says(header));
-    if number != 0 {
-        return put_no(number, out);
-    }
+    let answer = questions::header_says(header);
+    let Answer::Done = answer else {
+        return put_no(answers::number(answer), out);
+    };
     put_run(layout::read(header), out)
 }

@@ -13,8 +13,8 @@ use borrow.Author.Tests.{eq-eqb, ne-eqb}
 use Rattle.bits.specs.Change.{flipBit, length-flip, flip-bit}
 use Rattle.bits.specs.Choice.{bool, eq-or-ne}
 use Rattle.bits.specs.Pack.{bitAt, Bytes}
-use Rattle.slots.specs.declared.Plan.{Plan}
-use Rattle.slots.specs.Plan.{symbolCount, slotBytes}
+use Rattle.plan.specs.declared.Plan.{Plan}
+use Rattle.plan.specs.Plan.{symbolCount, slotBytes}
 use Rattle.slots.specs.Writing.{Holds}
 
 -- slot x is slot q of group s just where it is in that group and q is its place there

@@ -15,8 +15,8 @@ use Rattle.bits.specs.Pack.{bitAt, Bytes, bytes-made, cut, cut-in, cut-past}
 use Rattle.channel.specs.Markers.{line-place}
 use Rattle.channel.specs.Places.{delay, source, hit-is, placed-hit, placed-rest}
 use Rattle.pulses.specs.Pulses as pulses
-use Rattle.slots.specs.declared.Plan.{Plan}
-use Rattle.slots.specs.Plan.{Fine, unit, total, symbolCount, slotBytes}
+use Rattle.plan.specs.declared.Plan.{Plan}
+use Rattle.plan.specs.Plan.{Fine, unit, total, symbolCount, slotBytes}
 use Rattle.slots.specs.Bounds.{Bounds, bounds, delay-most}
 use Rattle.slots.specs.Laws.{placed-below}
 use Rattle.slots.specs.Slots.{dataAt, hitBy, placed, symbolAt, slotBit, slotsOf}

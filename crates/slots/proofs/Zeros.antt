@@ -11,8 +11,8 @@ use Rattle.bits.specs.Change.{Copied}
 use Rattle.bits.specs.Choice.{bool, lt-or-le}
 use Rattle.bits.specs.Pack.{bitAt, Bytes, cut-past}
 use Rattle.pulses.specs.Zeros as forty
-use Rattle.slots.specs.declared.Plan.{Plan}
-use Rattle.slots.specs.Plan.{Fine}
+use Rattle.plan.specs.declared.Plan.{Plan}
+use Rattle.plan.specs.Plan.{Fine}
 use Rattle.slots.specs.Bounds.{bounds, shape}
 use Rattle.slots.specs.Slots.{symbolAt}
 use Rattle.slots.specs.Writing.{Holds, front, Repeats, Laid, Zeros}

@@ -10,8 +10,8 @@ use Rattle.channel.specs.Needs.{Placing}
 use Rattle.channel.specs.Places.{delay}
 use Rattle.channel.specs.Symbols as symbols
 use Rattle.pulses.specs.Needs.{Order, Slots}
-use Rattle.slots.specs.declared.Plan.{Plan}
-use Rattle.slots.specs.Plan.{Fine, total, symbolCount, slotBytes}
+use Rattle.plan.specs.declared.Plan.{Plan}
+use Rattle.plan.specs.Plan.{Fine, total, symbolCount, slotBytes}
 
 pub record Bounds (p : Plan) : Type 0 where
   pub symbols-least : 1 ≤ p .symbols

@@ -8,8 +8,8 @@ use Rattle.channel.specs.Places as places
 use Rattle.channel.specs.Markers as markers
 use Rattle.channel.specs.Symbols as symbols
 use Rattle.pulses.specs.Laws as pulses
-use Rattle.slots.specs.declared.Plan.{Plan}
-use Rattle.slots.specs.Plan.{Fine, total, symbolCount, slotBytes}
+use Rattle.plan.specs.declared.Plan.{Plan}
+use Rattle.plan.specs.Plan.{Fine, total, symbolCount, slotBytes}
 use Rattle.slots.specs.Bounds.{bounds}
 use Rattle.slots.specs.Slots.{dataAt, placed, symbolAt, slotsOf}
 

@@ -1,4 +1,3 @@
-pub mod Plan
 pub mod Slots
 pub mod Bounds
 pub mod Writing

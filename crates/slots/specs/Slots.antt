@@ -3,8 +3,8 @@ use mathlib.Core.List.{List}
 use Prim.Native.Nat.{ℕ}
 use Rattle.channel.specs.Channel as channel
 use Rattle.pulses.specs.Pulses as pulses
-use Rattle.slots.specs.declared.Plan.{Plan}
-use Rattle.slots.specs.Plan.{total, symbolCount}
+use Rattle.plan.specs.declared.Plan.{Plan}
+use Rattle.plan.specs.Plan.{total, symbolCount}
 
 -- Step 8: symbol t of all words
 abbrev pub dataAt : Plan → (ℕ → List ℕ) → ℕ → ℕ

@@ -7,8 +7,8 @@ use lib.Dec.{ltb, eqb}
 use lib.ListN.{length, getD}
 use Rattle.bits.specs.Choice.{pick, bool}
 use Rattle.bits.specs.Pack.{bitAt, Bytes, cut}
-use Rattle.slots.specs.declared.Plan.{Plan}
-use Rattle.slots.specs.Plan.{unit, slotBytes}
+use Rattle.plan.specs.declared.Plan.{Plan}
+use Rattle.plan.specs.Plan.{unit, slotBytes}
 use Rattle.slots.specs.Slots.{symbolAt}
 
 -- the first `end` bytes hold the symbols f 0, f 1, ..; those behind hold anything

@@ -1,37 +1,15 @@
 // Steps 8 to 10: the words' symbols, spread by the channel interleaver, with markers before every row, as slots with one pulse to a symbol.
+use plan::Plan;
 ghost use mathlib.Core.Path.{_≡_};
 ghost use Prim.Native.Nat.{ℕ, _+_, _*_, _%_, _^_, _≤_, _<_};
 ghost use mathlib.Core.List.{List};
 ghost use lib.ListN.{length};
 ghost use Rattle.channel.specs.Symbols.{wordIn};
-ghost use Rattle.slots.specs.Plan.{Fine, unit, total, slotBytes};
+ghost use Rattle.plan.specs.Plan.{Fine, unit, total, slotBytes};
 ghost use Rattle.bits.specs.Change.{flipBit};
 ghost use Rattle.slots.specs.Slots.{dataAt, slotsOf};
 ghost use Rattle.slots.specs.Needs.{Given, Lent, Residue};
 ghost use Rattle.slots.specs.Writing.{Holds, front, rowEnd, Repeats, Laid, Zeros, stride, soFar};
-
-// What steps 8 to 10 ask of a run: the header's numbers and those that follow from them.
-pub struct Plan {
-    // m, the bits of a symbol
-    pub bits: usize,
-    // M, the pulse order
-    pub order: usize,
-    // the slots of a symbol: M, and M/4 guard slots
-    pub group: usize,
-    // S, the symbols of a word
-    pub symbols: usize,
-    // C, the words
-    pub words: usize,
-    // N
-    pub rows: usize,
-    // B
-    pub step: usize,
-    // R, the rows of S symbols that the places of step 9 make
-    pub lines: usize,
-    // W, the marker symbols before each
-    pub count: usize,
-    pub marks: [u8; 32],
-}
 
 // Zeros' slots in the bytes from `from` up to `to`: they repeat every forty bytes.
 fn lay_zeros(zeros: &[u8], slots: &mut [u8], from: usize, to: usize)

@@ -13,10 +13,11 @@ use borrow.Author.Tests.{eqb-true, eqb-false}
 use Rattle.bits.specs.Choice.{bit-cases, lt-or-le}
 use Rattle.bits.specs.First.{upTo, up-to-le, one-fails, none-fails}
 use Rattle.bits.specs.Pack.{Bits}
-use Rattle.rates.specs.Rate.{infoBits, inputBits}
+use Rattle.sizes.specs.Rate.{infoBits, inputBits}
+use Rattle.sizes.specs.Sizes.{wordBits}
 use Rattle.convolution.specs.Code.{encode, encode-same, encode-plus}
 use Rattle.convolution.specs.Near.{Near, near}
-use Rattle.interleaver.specs.Interleaver.{wordBits, place, placeBack, deinterleave, place-back, back-place, back-lt, place-lt, place-mod, taken-from}
+use Rattle.interleaver.specs.Interleaver.{place, placeBack, deinterleave, place-back, back-place, back-lt, place-lt, place-mod, taken-from}
 use Rattle.accumulator.specs.Accumulator.{accumulate, differentiate, accumulate-same, accumulate-differentiate, accumulate-plus}
 
 -- zeros make zeros

@@ -1,6 +1,8 @@
-pub mod Answer
 pub mod Word
-pub mod Rooms
-pub mod Bursts
-pub mod Theorems
+pub mod Needs
+pub mod Return
 pub mod Exports
+pub mod Sums
+pub mod Distances
+pub mod Bursts
+pub mod Flips

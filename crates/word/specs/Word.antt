@@ -1,32 +1,27 @@
 -- Words: the 15,120 bits made from one information block by steps 2 to 7, the way back, and the questions that the two calls put.
--- The definitions are shut: the crates above know them by the laws of `Word.Laws` and the theorems of `Theorems`.
+-- The definitions are shut: the crates above know them by the laws of `Exports`, and `promises` has what the customer is promised of them.
+use mathlib.Core.Path.{_≡_}
 use mathlib.Core.Bool.{Bool}
 use mathlib.Core.List.{List}
-use Prim.Native.Nat.{ℕ, _+_}
+use Prim.Native.Nat.{ℕ, _+_, _*_, _≤_, _<_}
 use lib.Dec.{ltb, eqb}
 use lib.ListN.{length}
-use Rattle.bits.specs.Choice.{pick}
 use Rattle.bits.specs.Table.{both}
 use Rattle.bits.specs.First.{upTo}
-use Rattle.bits.specs.Pack.{val, bitAt, bytesOf, cut}
-use Rattle.rates.specs.Rate.{infoBits, blockBytes}
+use Rattle.bits.specs.Pack.{val, bitAt, bytesOf, cut, Bytes}
+use Rattle.sizes.specs.Rate.{infoBits, blockBytes}
+use Rattle.sizes.specs.Sizes.{wordBits, wordBytes}
 use Rattle.crc.specs.Check.{register, checked}
 use Rattle.convolution.specs.Code.{terminated, encode, decode}
-use Rattle.interleaver.specs.Interleaver.{wordBits, interleave, deinterleave}
+use Rattle.interleaver.specs.Interleaver.{interleave, deinterleave}
 use Rattle.accumulator.specs.Accumulator.{accumulate, differentiate}
 use Rattle.randomizer.specs.Randomizer.{randomize}
-use Rattle.word.specs.declared.WriteAnswer.{WriteAnswer}
-use Rattle.word.specs.declared.WriteAnswer.the-variants as W
-use Rattle.word.specs.declared.ReadAnswer.{ReadAnswer}
-use Rattle.word.specs.declared.ReadAnswer.the-variants as R
+use Rattle.answers.specs.declared.Answer.{Answer}
+use Rattle.answers.specs.Answer.{ask, then}
 pub mod Laws
 pub mod Lists
 pub mod Answers
 pub mod Judging
-
--- the bytes of a word
-abbrev pub wordBytes : ℕ
-wordBytes = 1890
 
 -- ---- from a block to its word
 
@@ -62,11 +57,17 @@ packedBlock rate x = bytesOf (blockBytes rate) (cut (infoBits rate) x)
 pub blockIn : ℕ → List ℕ → List ℕ
 blockIn rate word = packedBlock rate (inputIn rate word)
 
+-- a packed block of a rate: as many bytes as the rate implies, its bits, and zeros behind them
+pub record Packed (rate : ℕ) (block : List ℕ) : Type 0 where
+  pub size : length block ≡ blockBytes rate
+  pub bytes : Bytes block
+  pub spare : (i : ℕ) → infoBits rate ≤ i → i < 8 * blockBytes rate → bitAt block i ≡ 0
+
 -- ---- the questions
 
 -- question 9: are the block's two spare bits zero?
-pub spareZero : ℕ → List ℕ → Bool
-spareZero rate block = both (eqb (bitAt block (infoBits rate)) 0) (eqb (bitAt block (infoBits rate + 1)) 0)
+pub blockSpareZero : ℕ → List ℕ → Bool
+blockSpareZero rate block = both (eqb (bitAt block (infoBits rate)) 0) (eqb (bitAt block (infoBits rate + 1)) 0)
 
 -- question 13, of coded bits c and the input bits x that were read from them: do these make coded bit j? And the first that they do not
 pub agrees : ℕ → (ℕ → ℕ) → (ℕ → ℕ) → ℕ → Bool
@@ -84,31 +85,21 @@ pub checkRight : ℕ → (ℕ → ℕ) → Bool
 checkRight rate x = eqb (val (λ i. x (infoBits rate + i)) 32) (register x (infoBits rate))
 
 -- the writer: questions 2, 8 and 9
-pub writeSays : ℕ → List ℕ → ℕ → WriteAnswer
+pub writeSays : ℕ → List ℕ → ℕ → Answer
 writeSays rate block wordLength =
-    pick (ltb rate 3)
-    (pick (both (eqb (length block) (blockBytes rate)) (eqb wordLength wordBytes))
-    (pick (spareZero rate block)
-    W.Written
-    W.SpareBits)
-    W.BadLength)
-    W.BadRate
+    then (ask (ltb rate 3) 2 0)
+    (then (ask (both (eqb (length block) (blockBytes rate)) (eqb wordLength wordBytes)) 8 0)
+    (ask (blockSpareZero rate block) 9 0))
 
 -- the reader: questions 13, 14 and 15, and before them 2 and 8
-pub judged : ℕ → (ℕ → ℕ) → (ℕ → ℕ) → ReadAnswer
+pub judged : ℕ → (ℕ → ℕ) → (ℕ → ℕ) → Answer
 judged rate c x =
-    pick (eqb (firstWrong rate c x) wordBits)
-    (pick (endsInZeros rate x)
-    (pick (checkRight rate x)
-    R.Block
-    R.BadCheck)
-    R.Unterminated)
-    (R.Miscoded (firstWrong rate c x))
+    then (ask (eqb (firstWrong rate c x) wordBits) 13 (firstWrong rate c x))
+    (then (ask (endsInZeros rate x) 14 0)
+    (ask (checkRight rate x) 15 0))
 
-pub readSays : ℕ → List ℕ → ℕ → ReadAnswer
+pub readSays : ℕ → List ℕ → ℕ → Answer
 readSays rate word blockLength =
-    pick (ltb rate 3)
-    (pick (both (eqb (length word) wordBytes) (eqb blockLength (blockBytes rate)))
-    (judged rate (codedIn word) (inputIn rate word))
-    R.BadLength)
-    R.BadRate
+    then (ask (ltb rate 3) 2 0)
+    (then (ask (both (eqb (length word) wordBytes) (eqb blockLength (blockBytes rate))) 8 0)
+    (judged rate (codedIn word) (inputIn rate word)))

@@ -1,18 +1,19 @@
 // Steps 7 to 2 undone, and the questions on the way: a word to its block.
-use crate::ReadAnswer;
+use answers::Answer;
 ghost use mathlib.Core.Path.{_≡_};
 ghost use Prim.Native.Nat.{_+_};
 ghost use lib.ListN.{getD};
 ghost use Rattle.bits.specs.Table.{tab};
+ghost use Rattle.sizes.specs.Sizes.{wordBits};
 ghost use Rattle.convolution.specs.Code as code;
-ghost use Rattle.word.specs.Answer.{afterRead};
+ghost use Rattle.answers.specs.Answer.{after};
 ghost use Rattle.word.specs.Word.{codedIn, inputIn, blockIn, packedBlock, judged};
-ghost use Rattle.word.specs.Rooms.{Undoes, Reads, Settles, Judges, Words};
+ghost use Rattle.word.specs.Needs.{Undoes, Reads, Settles, Judges, Words};
 
 // The coded bits taken back out: steps 7, 6 and 5 undone.
 fn take_out(word: &[u8], work: &mut [u8], coded: &mut [u8])
     requires { ⌜ Undoes (now word) (now work) (now coded) ⌝ }
-    ensures { λ _. ⌜ now (coded .exit) ≡ tab 15120 (codedIn (now (word .entry))) ⌝ }
+    ensures { λ _. ⌜ now (coded .exit) ≡ tab wordBits (codedIn (now (word .entry))) ⌝ }
 {
     bytes::copy(word, work);
     randomizer::randomize(work);
@@ -21,39 +22,39 @@ fn take_out(word: &[u8], work: &mut [u8], coded: &mut [u8])
 }
 
 // Questions 13, 14 and 15.
-fn judge(rate: u64, coded: &[u8], input: &[u8], block: &[u8]) -> ReadAnswer
+fn judge(rate: u64, coded: &[u8], input: &[u8], block: &[u8]) -> Answer
     requires { ⌜ Judges rate (now coded) (now input) (now block) ⌝ }
     ensures { λ r. ⌜ r ≡ judged rate (λ j. getD (now (coded .entry)) j 0) (λ i. getD (now (input .entry)) i 0) ⌝ }
 {
     let at = convolution::first_wrong(rate, input, coded);
-    if at != 15120 {
-        return ReadAnswer::Miscoded(at);
+    if at != sizes::WORD_BITS {
+        return Answer::No(13, at);
     }
-    let k = rates::info_bits(rate);
+    let k = sizes::info_bits(rate);
     if input[k + 32] != 0 {
-        return ReadAnswer::Unterminated;
+        return Answer::No(14, 0);
     }
     if input[k + 33] != 0 {
-        return ReadAnswer::Unterminated;
+        return Answer::No(14, 0);
     }
     let field = bits::packing::number(input, k, 32);
     let check = crc::check(block, k) as u64;
     if field != check {
-        return ReadAnswer::BadCheck;
+        return Answer::No(15, 0);
     }
-    ReadAnswer::Block
+    Answer::Done
 }
 
 // The block of the input bits, if the questions are answered yes. Nothing is written before they are.
-fn settle(rate: u64, coded: &[u8], input: &[u8], packed: &mut [u8], block: &mut [u8]) -> ReadAnswer
+fn settle(rate: u64, coded: &[u8], input: &[u8], packed: &mut [u8], block: &mut [u8]) -> Answer
     requires { ⌜ Settles rate (now coded) (now input) (now packed) (now block) ⌝ }
     ensures { λ r. ⌜ r ≡ judged rate (λ j. getD (now (coded .entry)) j 0) (λ i. getD (now (input .entry)) i 0) ⌝ }
-    ensures { λ r. ⌜ now (block .exit) ≡ afterRead r (packedBlock rate (λ i. getD (now (input .entry)) i 0)) (now (block .entry)) ⌝ }
+    ensures { λ r. ⌜ now (block .exit) ≡ after r (packedBlock rate (λ i. getD (now (input .entry)) i 0)) (now (block .entry)) ⌝ }
 {
-    let k = rates::info_bits(rate);
+    let k = sizes::info_bits(rate);
     bits::packing::pack(&input[..k], packed);
     let answer = judge(rate, coded, input, packed);
-    let ReadAnswer::Block = answer else {
+    let Answer::Done = answer else {
         return answer;
     };
     bytes::copy(packed, block);
@@ -67,22 +68,22 @@ fn read_coded(
     room: &mut [u8],
     packed: &mut [u8],
     block: &mut [u8],
-) -> ReadAnswer
+) -> Answer
     requires { ⌜ Reads rate (now coded) (now room) (now packed) (now block) ⌝ }
     ensures { λ r. ⌜ r ≡ judged rate (λ j. getD (now (coded .entry)) j 0) (code.decode rate (λ j. getD (now (coded .entry)) j 0)) ⌝ }
-    ensures { λ r. ⌜ now (block .exit) ≡ afterRead r (packedBlock rate (code.decode rate (λ j. getD (now (coded .entry)) j 0))) (now (block .entry)) ⌝ }
+    ensures { λ r. ⌜ now (block .exit) ≡ after r (packedBlock rate (code.decode rate (λ j. getD (now (coded .entry)) j 0))) (now (block .entry)) ⌝ }
 {
-    let n = rates::input_bits(rate);
+    let n = sizes::input_bits(rate);
     convolution::decode(rate, coded, &mut room[..n]);
     let size = block.len();
     settle(rate, coded, &room[..n], &mut packed[..size], block)
 }
 
 // The block of a word whose rate and lengths are right.
-pub fn decode(rate: u64, word: &[u8], block: &mut [u8]) -> ReadAnswer
+pub fn decode(rate: u64, word: &[u8], block: &mut [u8]) -> Answer
     requires { ⌜ Words rate (now word) (now block) ⌝ }
     ensures { λ r. ⌜ r ≡ judged rate (codedIn (now (word .entry))) (inputIn rate (now (word .entry))) ⌝ }
-    ensures { λ r. ⌜ now (block .exit) ≡ afterRead r (blockIn rate (now (word .entry))) (now (block .entry)) ⌝ }
+    ensures { λ r. ⌜ now (block .exit) ≡ after r (blockIn rate (now (word .entry))) (now (block .entry)) ⌝ }
 {
     let mut work = [0u8; 1890];
     let mut coded = [0u8; 15120];

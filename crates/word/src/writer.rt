@@ -1,33 +1,34 @@
 // Steps 2 to 7: a block to its word.
-use crate::WriteAnswer;
+use answers::Answer;
 ghost use mathlib.Core.Path.{_≡_};
 ghost use Prim.Native.Nat.{ℕ, _+_, _<_};
 ghost use lib.ListN.{length, getD};
 ghost use Rattle.bits.specs.Pack.{bytesOf};
 ghost use Rattle.bits.specs.Table.{tab};
-ghost use Rattle.rates.specs.Rate.{inputBits};
-ghost use Rattle.word.specs.Word.{wordBytes, inputOf, codedOf, shuffled, wordOf, writeSays};
+ghost use Rattle.sizes.specs.Rate.{inputBits};
+ghost use Rattle.sizes.specs.Sizes.{wordBits, wordBytes};
+ghost use Rattle.word.specs.Word.{inputOf, codedOf, shuffled, wordOf, writeSays};
 ghost use Rattle.word.specs.Word.Answers.{WriteAccepted};
-ghost use Rattle.word.specs.Rooms.{Inputs, Codes, Shuffles};
+ghost use Rattle.word.specs.Needs.{Inputs, Codes, Shuffles};
 
 // Questions 2, 8 and 9.
-pub fn judge(rate: u64, block: &[u8], word_length: usize) -> WriteAnswer
+pub fn judge(rate: u64, block: &[u8], word_length: usize) -> Answer
     ensures { λ r. ⌜ r ≡ writeSays rate (now (block .entry)) «word_length» ⌝ }
 {
     if 2 < rate {
-        return WriteAnswer::BadRate;
+        return Answer::No(2, 0);
     }
-    let size = rates::block_bytes(rate);
+    let size = sizes::block_bytes(rate);
     if block.len() != size {
-        return WriteAnswer::BadLength;
+        return Answer::No(8, 0);
     }
-    if word_length != 1890 {
-        return WriteAnswer::BadLength;
+    if word_length != sizes::WORD_BYTES {
+        return Answer::No(8, 0);
     }
     if block[size - 1] & 3 != 0 {
-        return WriteAnswer::SpareBits;
+        return Answer::No(9, 0);
     }
-    WriteAnswer::Written
+    Answer::Done
 }
 
 // Steps 2 and 3: the block's bits, its check and two zeros, one bit to a place.
@@ -35,7 +36,7 @@ fn take_in(rate: u64, block: &[u8], room: &mut [u8])
     requires { ⌜ Inputs rate (now block) (now room) ⌝ }
     ensures { λ _. ⌜ ((i : ℕ) → i < inputBits rate → getD (now (room .exit)) i 0 ≡ inputOf rate (now (block .entry)) i) ⌝ }
 {
-    let k = rates::info_bits(rate);
+    let k = sizes::info_bits(rate);
     let check = crc::check(block, k);
     bits::packing::unpack(block, k, room);
     bits::packing::put_number(room, k, 32, check as u64);
@@ -46,9 +47,9 @@ fn take_in(rate: u64, block: &[u8], room: &mut [u8])
 // Steps 2 to 4: the coded bits. `room` is for the input bits.
 fn encode(rate: u64, block: &[u8], room: &mut [u8], coded: &mut [u8])
     requires { ⌜ Codes rate (now block) (now room) (now coded) ⌝ }
-    ensures { λ _. ⌜ now (coded .exit) ≡ tab 15120 (codedOf rate (now (block .entry))) ⌝ }
+    ensures { λ _. ⌜ now (coded .exit) ≡ tab wordBits (codedOf rate (now (block .entry))) ⌝ }
 {
-    let n = rates::input_bits(rate);
+    let n = sizes::input_bits(rate);
     take_in(rate, block, room);
     convolution::encode(rate, &room[..n], coded);
 }

@@ -5,7 +5,7 @@ use Prim.Native.Nat.{ℕ}
 use native.Mathlib.Omega.{arith}
 use lib.ListN.{length}
 use borrow.Author.Needs.{needs}
-use Rattle.slots.specs.declared.Plan.{Plan}
+use Rattle.plan.specs.declared.Plan.{Plan}
 use Rattle.capture.specs.Needs.{Taken, Grouped}
 use Rattle.pulses.specs.Groups.{passed}
 use Rattle.capture.specs.Taking.{room-bits, word-made}

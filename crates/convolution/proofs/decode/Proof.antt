@@ -6,7 +6,7 @@ use native.Mathlib.Omega.{arith}
 use borrow.Author.Needs.{needs}
 use lib.ListN.{getD}
 use Rattle.bits.specs.Table.{tab}
-use Rattle.rates.specs.Rate.{infoBits, inputBits}
+use Rattle.sizes.specs.Rate.{infoBits, inputBits}
 use Rattle.convolution.specs.Code.{decode}
 use Rattle.convolution.specs.Ready.{decodes-third, decodes-half, decodes-two-thirds}
 use Rattle.convolution.proofs.decode.Statement.{statement}

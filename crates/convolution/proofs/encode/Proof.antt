@@ -6,6 +6,7 @@ use native.Mathlib.Omega.{arith}
 use borrow.Author.Needs.{needs}
 use lib.ListN.{getD}
 use Rattle.bits.specs.Table.{tab}
+use Rattle.sizes.specs.Sizes.{wordBits}
 use Rattle.convolution.specs.Code.{encode}
 use Rattle.convolution.specs.Ready.{encodes-third, encodes-half, encodes-two-thirds}
 use Rattle.convolution.proofs.encode.Statement.{statement}
@@ -13,7 +14,7 @@ use Rattle.convolution.proofs.encode.Tie as tie
 
 -- the coded bits at a rate
 abbrev at : (ℕ → ℕ) → ℕ → List ℕ
-at x r = tab 15120 (encode r x)
+at x r = tab wordBits (encode r x)
 
 thirds-requires : tie.Need-thirds-requires
 thirds-requires c κs =

@@ -6,7 +6,7 @@ use borrow.Author.Needs.{needs}
 use lib.ListN.{length, getD, length-set}
 use Rattle.bits.specs.Table.{fill}
 use Rattle.bits.specs.Pack.{val, bytes-by-byte}
-use Rattle.rates.specs.Rate.{infoBits, blockBytes, info-le, block-room}
+use Rattle.sizes.specs.Rate.{infoBits, blockBytes, info-le, block-room}
 use Rattle.frames.specs.Stream.{streamBit, blockAt}
 use Rattle.frames.specs.Blocks.{blockBit}
 use Rattle.frames.proofs.fill_block.Statement.{statement}

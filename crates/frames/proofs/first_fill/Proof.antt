@@ -5,7 +5,7 @@ use native.Mathlib.Omega.{arith}
 use borrow.Author.Needs.{needs}
 use borrow.Author.Tests.{eq-eqb, ne-eqb}
 use Rattle.bits.specs.First.{upTo, first-on, first-here, first-end}
-use Rattle.rates.specs.Rate.{blockBytes}
+use Rattle.sizes.specs.Rate.{blockBytes}
 use Rattle.frames.specs.Stream.{joined}
 use Rattle.frames.specs.Blocks.{blockIn}
 use Rattle.frames.specs.Answer.{zeroAt}

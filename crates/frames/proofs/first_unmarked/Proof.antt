@@ -6,7 +6,7 @@ use borrow.Author.Needs.{needs}
 use borrow.Author.Tests.{eq-eqb, ne-eqb}
 use Rattle.bits.specs.First.{upTo, first-on, first-here, first-end}
 use Rattle.bits.specs.Pack.{val}
-use Rattle.rates.specs.Rate.{blockBytes}
+use Rattle.sizes.specs.Rate.{blockBytes}
 use Rattle.frames.specs.Stream.{frameMarker, span, joined, marked, firstUnmarked}
 use Rattle.frames.specs.Blocks.{blockIn}
 use Rattle.frames.specs.Ranges.{mark-stretch, total-room}

@@ -3,7 +3,7 @@ use mathlib.Core.Path.{_∙_}
 use Prim.Native.Nat.{_%_, _<_}
 use native.Mathlib.Omega.{arith}
 use native.Mathlib.Nat.{mod-lt}
-use Rattle.rates.specs.Rate.{blockBytes}
+use Rattle.sizes.specs.Rate.{blockBytes}
 use Rattle.frames.specs.Stream.{joined}
 use Rattle.frames.specs.Blocks.{blockIn}
 use Rattle.frames.specs.Ranges.{byte-stretch, byte-value, total-room}

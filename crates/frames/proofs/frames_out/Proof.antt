@@ -6,7 +6,7 @@ use borrow.Author.Needs.{needs}
 use lib.ListN.{length, getD, length-set}
 use Rattle.bits.specs.Table.{fill}
 use Rattle.bits.specs.Pack.{val, bytes-by-byte}
-use Rattle.rates.specs.Rate.{blockBytes}
+use Rattle.sizes.specs.Rate.{blockBytes}
 use Rattle.frames.specs.Stream.{joined, framesIn}
 use Rattle.frames.specs.Blocks.{blockIn}
 use Rattle.frames.specs.Back.{framePlace}

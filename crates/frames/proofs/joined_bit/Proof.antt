@@ -3,7 +3,7 @@ use mathlib.Core.Path.{ap₂, sym, _∙_}
 use Prim.Native.Nat.{ℕ, _+_, _*_, _/_, _%_, _≤_}
 use native.Mathlib.Omega.{arith}
 use Rattle.bits.specs.Pack.{bitAt}
-use Rattle.rates.specs.Rate.{blockBytes, block-room}
+use Rattle.sizes.specs.Rate.{blockBytes, block-room}
 use Rattle.frames.specs.Blocks.{joined-in, info-pos}
 use Rattle.frames.specs.Ranges.{held-inside}
 use borrow.Author.Needs.{needs}

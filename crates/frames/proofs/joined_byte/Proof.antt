@@ -5,7 +5,7 @@ use native.Mathlib.Omega.{arith}
 use native.Mathlib.Nat.{mod-lt}
 use Rattle.bits.specs.Pack.{val, bitAt}
 use Rattle.bits.specs.Loops.{byte-mod}
-use Rattle.rates.specs.Rate.{infoBits, blockBytes, info-le, block-room}
+use Rattle.sizes.specs.Rate.{infoBits, blockBytes, info-le, block-room}
 use Rattle.frames.specs.Stream.{joined}
 use Rattle.frames.specs.Blocks.{blockIn, info-pos, joined-bits}
 use Rattle.frames.specs.Ranges.{held, held-inside}

@@ -3,7 +3,7 @@ use mathlib.Core.Path.{_≡_, sym, ap, _∙_}
 use Prim.Native.Nat.{ℕ, _-_, _*_}
 use native.Mathlib.Omega.{arith}
 use Rattle.bits.specs.First.{upTo}
-use Rattle.rates.specs.Rate.{infoBits, blockBytes}
+use Rattle.sizes.specs.Rate.{infoBits, blockBytes}
 use Rattle.frames.specs.Stream.{span, joined}
 use Rattle.frames.specs.Blocks.{blockIn}
 use Rattle.frames.specs.Answer.{zeroAt, say-unmarked, say-fill, say-good}

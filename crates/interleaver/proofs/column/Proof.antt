@@ -5,16 +5,17 @@ use native.Mathlib.Omega.{arith}
 use lib.ListN.{length, getD}
 use Rattle.bits.specs.Choice.{pick}
 use Rattle.bits.specs.Pack.{val}
+use Rattle.sizes.specs.Sizes.{wordBits, wordBytes}
 use Rattle.interleaver.specs.Rows.{bitFrom, wordByte, inColumn, row-on, byte-row, column-none, column-more, column-all}
 use borrow.Author.Needs.{needs}
 use Rattle.interleaver.proofs.column.Statement.{statement}
 use Rattle.interleaver.proofs.column.Tie as tie
 
 abbrev Inv-loop : tie.InvT-loop
-Inv-loop twice off q word₀ base₀ i₀ word base i = (i ≤ 1898) × (i % 9 ≡ q) × (length word ≡ 1890) × (base ≡ 792 * (i / 9) % 15120) × ((k : ℕ) → getD word k 0 ≡ pick (inColumn q i k) (wordByte twice k) (getD word₀ k 0))
+Inv-loop twice off q word₀ base₀ i₀ word base i = (i ≤ 1898) × (i % 9 ≡ q) × (length word ≡ wordBytes) × (base ≡ 792 * (i / 9) % wordBits) × ((k : ℕ) → getD word k 0 ≡ pick (inColumn q i k) (wordByte twice k) (getD word₀ k 0))
 
 abbrev μ-loop : tie.MeasureT-loop
-μ-loop twice off q word₀ base₀ i₀ word base i = 1890 + 9 - i
+μ-loop twice off q word₀ base₀ i₀ word base i = wordBytes + 9 - i
 
 loop-holds : tie.Need-loop-holds Inv-loop μ-loop
 loop-holds c =
@@ -54,7 +55,7 @@ loop-again c =
     ∙ byte-row (a .twice .now) (a .off .now) (s .pre .0) (l .i / 9) (a .q) (search needs)
     ∙ ap (wordByte (a .twice .now)) here in
     let next : l .i / 9 + 1 ≡ (l .i + 9) / 9 = omega arith in
-    (search needs, search needs, search needs, c .wrapped .ensures ∙ ap (λ (b : ℕ). (b + 792) % 15120) (l .inv .3) ∙ row-on (l .i / 9) ∙ ap (λ (r : ℕ). 792 * r % 15120) next, column-more (wordByte (a .twice .now)) (a .word .now) (l .word) (a .q) (l .i) (c .before .gathered .result) (l .inv .1) (search needs) made (l .inv .4))
+    (search needs, search needs, search needs, c .wrapped .ensures ∙ ap (λ (b : ℕ). (b + 792) % wordBits) (l .inv .3) ∙ row-on (l .i / 9) ∙ ap (λ (r : ℕ). 792 * r % wordBits) next, column-more (wordByte (a .twice .now)) (a .word .now) (l .word) (a .q) (l .i) (c .before .gathered .result) (l .inv .1) (search needs) made (l .inv .4))
 
 same-length : tie.Need-same-length Inv-loop μ-loop
 same-length c = search needs

@@ -6,6 +6,7 @@ use lib.Dec.{ltb}
 use lib.ListN.{length, getD}
 use Rattle.bits.specs.Choice.{pick}
 use Rattle.bits.specs.Pack.{bytes-by-byte}
+use Rattle.sizes.specs.Sizes.{wordBytes}
 use Rattle.interleaver.specs.Interleaver.{interleave}
 use Rattle.interleaver.specs.Rows.{wordByte, columns-none, columns-more, columns-all}
 use borrow.Author.Needs.{needs}
@@ -13,7 +14,7 @@ use Rattle.interleaver.proofs.columns.Statement.{statement}
 use Rattle.interleaver.proofs.columns.Tie as tie
 
 abbrev Inv-loop : tie.InvT-loop
-Inv-loop twice off word₀ q₀ word q = (q ≤ 9) × (length word ≡ 1890) × ((k : ℕ) → k < 1890 → getD word k 0 ≡ pick (ltb (k % 9) q) (wordByte twice k) (getD word₀ k 0))
+Inv-loop twice off word₀ q₀ word q = (q ≤ 9) × (length word ≡ wordBytes) × ((k : ℕ) → k < wordBytes → getD word k 0 ≡ pick (ltb (k % 9) q) (wordByte twice k) (getD word₀ k 0))
 
 abbrev μ-loop : tie.MeasureT-loop
 μ-loop twice off word₀ q₀ word q = 9 - q
@@ -47,7 +48,7 @@ returns : tie.Need-returns Inv-loop μ-loop
 returns c =
     let a = c .before .before .before .before .before .args in
     let l = c .before .loop in
-    bytes-by-byte 1890 (interleave (λ j. getD (a .twice .now) j 0)) (l .word) (l .inv .1) (λ k h. l .inv .2 k h ∙ columns-all (l .q) k (wordByte (a .twice .now) k) (getD (a .word .now) k 0) (omega arith))
+    bytes-by-byte wordBytes (interleave (λ j. getD (a .twice .now) j 0)) (l .word) (l .inv .1) (λ k h. l .inv .2 k h ∙ columns-all (l .q) k (wordByte (a .twice .now) k) (getD (a .word .now) k 0) (omega arith))
 
 pub columns-spec : {M : Type 1} → statement M
 columns-spec =

@@ -4,16 +4,17 @@ use Prim.Native.Nat.{ℕ, _-_, _%_, _≤_, _<_}
 use native.Mathlib.Omega.{arith}
 use lib.ListN.{length, getD, length-set}
 use Rattle.bits.specs.Table.{tab-made}
+use Rattle.sizes.specs.Sizes.{wordBits}
 use Rattle.interleaver.specs.Rows.{double-more}
 use borrow.Author.Needs.{needs}
 use Rattle.interleaver.proofs.doubled.Statement.{statement}
 use Rattle.interleaver.proofs.doubled.Tie as tie
 
 abbrev Inv-loop : tie.InvT-loop
-Inv-loop coded twice₀ i₀ twice i = (i ≤ 15120) × (length twice ≡ 30240) × ((p : ℕ) → p < 30240 → p % 15120 < i → getD twice p 0 ≡ getD coded (p % 15120) 0)
+Inv-loop coded twice₀ i₀ twice i = (i ≤ wordBits) × (length twice ≡ 30240) × ((p : ℕ) → p < 30240 → p % wordBits < i → getD twice p 0 ≡ getD coded (p % wordBits) 0)
 
 abbrev μ-loop : tie.MeasureT-loop
-μ-loop coded twice₀ i₀ twice i = 15120 - i
+μ-loop coded twice₀ i₀ twice i = wordBits - i
 
 loop-holds : tie.Need-loop-holds Inv-loop μ-loop
 loop-holds c = (search needs, search needs, λ p l h. absurd (omega arith))
@@ -49,7 +50,7 @@ returns : tie.Need-returns Inv-loop μ-loop
 returns c =
     let l = c .before .loop in
     let xs = c .before .before .args .coded .now in
-    tab-made 30240 (λ p. getD xs (p % 15120) 0) (l .twice) (l .inv .1) (λ p h. l .inv .2 p h (omega arith))
+    tab-made 30240 (λ p. getD xs (p % wordBits) 0) (l .twice) (l .inv .1) (λ p h. l .inv .2 p h (omega arith))
 
 pub doubled-spec : {M : Type 1} → statement M
 doubled-spec =

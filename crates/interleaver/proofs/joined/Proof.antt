@@ -7,18 +7,19 @@ use lib.Bits.{bitOr}
 use lib.ListN.{length, getD}
 use borrow.Author.Count.{below-none}
 use Rattle.bits.specs.Table.{fill, tab-made}
+use Rattle.sizes.specs.Sizes.{wordBits}
 use borrow.Author.Needs.{needs}
 use Rattle.interleaver.proofs.joined.Statement.{statement}
 use Rattle.interleaver.proofs.joined.Tie as tie
 
 abbrev either : List ℕ → ℕ → ℕ
-either twice x = bitOr (getD twice x 0) (getD twice (x + 15120) 0)
+either twice x = bitOr (getD twice x 0) (getD twice (x + wordBits) 0)
 
 abbrev Inv-loop : tie.InvT-loop
-Inv-loop twice coded₀ x₀ coded x = (x ≤ 15120) × (length coded ≡ 15120) × ((k : ℕ) → k < x → getD coded k 0 ≡ either twice k)
+Inv-loop twice coded₀ x₀ coded x = (x ≤ wordBits) × (length coded ≡ wordBits) × ((k : ℕ) → k < x → getD coded k 0 ≡ either twice k)
 
 abbrev μ-loop : tie.MeasureT-loop
-μ-loop twice coded₀ x₀ coded x = 15120 - x
+μ-loop twice coded₀ x₀ coded x = wordBits - x
 
 loop-holds : tie.Need-loop-holds Inv-loop μ-loop
 loop-holds c = (search needs, search needs, below-none _)
@@ -53,7 +54,7 @@ same-length c = search needs
 returns : tie.Need-returns Inv-loop μ-loop
 returns c =
     let l = c .before .loop in
-    tab-made 15120 (either (c .before .before .args .twice .now)) (l .coded) (l .inv .1) (λ k h. l .inv .2 k (omega arith))
+    tab-made wordBits (either (c .before .before .args .twice .now)) (l .coded) (l .inv .1) (λ k h. l .inv .2 k (omega arith))
 
 pub joined-spec : {M : Type 1} → statement M
 joined-spec =

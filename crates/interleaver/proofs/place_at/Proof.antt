@@ -4,11 +4,12 @@ use native.Mathlib.Omega.{arith}
 use native.Mathlib.Nat.{mul-le-mul}
 use Rattle.interleaver.specs.Interleaver.{place}
 use borrow.Author.Needs.{needs}
+use Rattle.sizes.specs.Sizes.{wordBits}
 use Rattle.interleaver.proofs.place_at.Statement.{statement}
 use Rattle.interleaver.proofs.place_at.Tie as tie
 
-bound : (j : ℕ) → j < 15120 → j * j ≤ 15120 * 15120
-bound j h = let l : j ≤ 15120 = omega arith in mul-le-mul l l
+bound : (j : ℕ) → j < wordBits → j * j ≤ wordBits * wordBits
+bound j h = let l : j ≤ wordBits = omega arith in mul-le-mul l l
 
 mul-result : tie.Need-mul-result
 mul-result c = search needs

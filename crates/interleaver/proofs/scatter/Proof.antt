@@ -3,6 +3,7 @@ use mathlib.Core.Path.{_≡_, sym, ap, _∙_}
 use Prim.Native.Nat.{ℕ, _+_, _-_, _*_, _%_, _≤_}
 use native.Mathlib.Omega.{arith}
 use Rattle.bits.specs.Pack.{bitAt}
+use Rattle.sizes.specs.Sizes.{wordBits}
 use Rattle.interleaver.specs.Rows.{row-on}
 use Rattle.interleaver.specs.Spread.{Spread, spread-is}
 use borrow.Author.Needs.{needs}
@@ -10,7 +11,7 @@ use Rattle.interleaver.proofs.scatter.Statement.{statement}
 use Rattle.interleaver.proofs.scatter.Tie as tie
 
 abbrev Inv-loop : tie.InvT-loop
-Inv-loop word off twice₀ start₀ r₀ twice start r = (r ≤ 210) × (start ≡ 792 * r % 15120) × Spread (bitAt word) twice (72 * r)
+Inv-loop word off twice₀ start₀ r₀ twice start r = (r ≤ 210) × (start ≡ 792 * r % wordBits) × Spread (bitAt word) twice (72 * r)
 
 abbrev μ-loop : tie.MeasureT-loop
 μ-loop word off twice₀ start₀ r₀ twice start r = 210 - r
@@ -41,7 +42,7 @@ loop-again c =
     let a = c .before .before .before .before .before .before .before .before .before .before .args in
     let l = c .before .before .before .before .before .before .loop in
     let o = c .before .before .before .scatter-row in
-    (search needs, c .wrapped .ensures ∙ ap (λ (b : ℕ). (b + 792) % 15120) (l .inv .1) ∙ row-on (l .r), spread-is (bitAt (a .word .now)) (o .last .1 .1 .1 .1 .0) (72 * l .r + 72) (72 * (l .r + 1)) (omega arith) (o .ensures))
+    (search needs, c .wrapped .ensures ∙ ap (λ (b : ℕ). (b + 792) % wordBits) (l .inv .1) ∙ row-on (l .r), spread-is (bitAt (a .word .now)) (o .last .1 .1 .1 .1 .0) (72 * l .r + 72) (72 * (l .r + 1)) (omega arith) (o .ensures))
 
 same-length : tie.Need-same-length Inv-loop μ-loop
 same-length c = c .before .loop .inv .2 .size ∙ sym (c .before .before .before .before .before .pre .2 .size)
@@ -50,7 +51,7 @@ returns : tie.Need-returns Inv-loop μ-loop
 returns c =
     let a = c .before .before .before .before .before .args in
     let l = c .before .loop in
-    spread-is (bitAt (a .word .now)) (l .twice) (72 * l .r) 15120 (omega arith) (l .inv .2)
+    spread-is (bitAt (a .word .now)) (l .twice) (72 * l .r) wordBits (omega arith) (l .inv .2)
 
 pub scatter-spec : {M : Type 1} → statement M
 scatter-spec =

@@ -3,6 +3,7 @@ use mathlib.Core.Path.{_≡_, sym, ap, _∙_}
 use Prim.Native.Nat.{ℕ, _+_, _-_, _*_, _/_, _%_, _≤_}
 use native.Mathlib.Omega.{arith}
 use Rattle.bits.specs.Pack.{bitAt}
+use Rattle.sizes.specs.Sizes.{wordBits}
 use Rattle.interleaver.specs.Spread.{Spread, spread-is}
 use borrow.Author.Needs.{needs}
 use Rattle.interleaver.proofs.scatter_row.Statement.{statement}
@@ -33,7 +34,7 @@ scatter-byte-requires c κs =
     let s = c .before .before .before .before .before .before in
     let l = c .before .before .loop in
     let row : s .args .r ≡ (9 * s .args .r + l .q) / 9 = omega arith in
-    (s .pre .0, s .pre .1, search needs, s .pre .3 ∙ ap (λ (r : ℕ). 792 * r % 15120) row, omega arith, spread-is (bitAt (s .args .word .now)) (l .twice) (72 * s .args .r + 8 * l .q) (8 * (9 * s .args .r + l .q)) (omega arith) (l .inv .1))
+    (s .pre .0, s .pre .1, search needs, s .pre .3 ∙ ap (λ (r : ℕ). 792 * r % wordBits) row, omega arith, spread-is (bitAt (s .args .word .now)) (l .twice) (72 * s .args .r + 8 * l .q) (8 * (9 * s .args .r + l .q)) (omega arith) (l .inv .1))
 
 add-q : tie.Need-add-q Inv-loop μ-loop
 add-q c = search needs

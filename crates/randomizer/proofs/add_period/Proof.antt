@@ -11,27 +11,27 @@ use Rattle.randomizer.proofs.add_period.Statement.{statement}
 use Rattle.randomizer.proofs.add_period.Tie as tie
 
 abbrev Inv-loop : tie.InvT-loop
-Inv-loop word₀ start n table i₀ word i = (i ≤ n) × Period table × Added word₀ word start (start + i)
+Inv-loop bytes₀ start n table i₀ bytes i = (i ≤ n) × Period table × Added bytes₀ bytes start (start + i)
 
 abbrev μ-loop : tie.MeasureT-loop
-μ-loop word₀ start n table i₀ word i = n - i
+μ-loop bytes₀ start n table i₀ bytes i = n - i
 
 loop-holds : tie.Need-loop-holds Inv-loop μ-loop
 unfolding next window val
 loop-holds c =
-    (search needs, table-right _ refl refl, rw (add-zero (c .args .start)) (added-none (c .args .word .now) (c .args .start)))
+    (search needs, table-right _ refl refl, rw (add-zero (c .args .start)) (added-none (c .args .bytes .now) (c .args .start)))
 
 add-j : tie.Need-add-j Inv-loop μ-loop
 add-j c = search needs
 
-slice-read-word : tie.Need-slice-read-word Inv-loop μ-loop
-slice-read-word c = search needs
+slice-read-bytes : tie.Need-slice-read-bytes Inv-loop μ-loop
+slice-read-bytes c = search needs
 
-array-read-word : tie.Need-array-read-word Inv-loop μ-loop
-array-read-word c = search needs
+array-read-bytes : tie.Need-array-read-bytes Inv-loop μ-loop
+array-read-bytes c = search needs
 
-slice-write-word : tie.Need-slice-write-word Inv-loop μ-loop
-slice-write-word c = search needs
+slice-write-bytes : tie.Need-slice-write-bytes Inv-loop μ-loop
+slice-write-bytes c = search needs
 
 add-i : tie.Need-add-i Inv-loop μ-loop
 add-i c = search needs
@@ -46,7 +46,7 @@ loop-again c =
     let byte = c .slice-known .given (s .args .start + l .i) .fits in (
       omega arith,
       l .inv .1,
-      added-entry _ (s .args .word .now) (l .word) (s .args .start) (l .i) (l .inv .1) (s .pre .0) (omega arith) (omega arith) byte (l .inv .2),
+      added-entry _ (s .args .bytes .now) (l .bytes) (s .args .start) (l .i) (l .inv .1) (s .pre .0) (omega arith) (omega arith) byte (l .inv .2),
     )
 
 same-length : tie.Need-same-length Inv-loop μ-loop
@@ -67,9 +67,9 @@ add-period-spec =
     μ-loop
     loop-holds
     add-j
-    slice-read-word
-    array-read-word
-    slice-write-word
+    slice-read-bytes
+    array-read-bytes
+    slice-write-bytes
     add-i
     loop-less
     loop-again

@@ -1,20 +1,24 @@
 -- One period a turn, by the law `added-part`, and the rest; what was added to every byte is the definition's sum.
-use mathlib.Core.Path.{_≡_}
+use mathlib.Core.Path.{_≡_, refl}
 use Prim.Native.Nat.{_+_, _-_, _%_, _≤_}
 use native.Mathlib.Omega.{arith}
+use lib.ListN.{length}
 use borrow.Author.Needs.{needs}
 use Rattle.randomizer.specs.Bytes.{Added, added-none, added-part, added-all}
 use Rattle.randomizer.proofs.randomize.Statement.{statement}
 use Rattle.randomizer.proofs.randomize.Tie as tie
 
 abbrev Inv-loop : tie.InvT-loop
-Inv-loop word₀ start₀ word start = (start % 255 ≡ 0) × (start ≤ 1785) × Added word₀ word 0 start
+Inv-loop bytes₀ n start₀ bytes start = (start % 255 ≡ 0) × (start ≤ n) × Added bytes₀ bytes 0 start
 
 abbrev μ-loop : tie.MeasureT-loop
-μ-loop word₀ start₀ word start = 1785 - start
+μ-loop bytes₀ n start₀ bytes start = n - start
 
 loop-holds : tie.Need-loop-holds Inv-loop μ-loop
-loop-holds c = (search needs, search needs, added-none (c .before .args .word .now) 0)
+loop-holds c = (search needs, search needs, added-none _ 0)
+
+sub-loop : tie.Need-sub-loop Inv-loop μ-loop
+sub-loop c = search needs
 
 add-period-requires : tie.Need-add-period-requires Inv-loop μ-loop
 add-period-requires c κs = search needs
@@ -28,9 +32,12 @@ loop-less c = search needs
 loop-again : tie.Need-loop-again Inv-loop μ-loop
 loop-again c =
     let l = c .before .before .before .before .before .loop in
-    let word₀ = c .before .before .before .before .before .before .before .args .word .now in
+    let xs = c .before .before .before .before .before .before .before .args .bytes .now in
     let part = c .before .before .add-period in
-    (omega arith, omega arith, added-part word₀ (l .word) (part .last .0) (l .start) (l .start + 255) (omega arith) (l .inv .2) (part .ensures))
+    (omega arith, omega arith, added-part xs (l .bytes) (part .last .0) (l .start) (l .start + 255) (omega arith) (l .inv .2) (part .ensures))
+
+sub-add-period : tie.Need-sub-add-period Inv-loop μ-loop
+sub-add-period c = search needs
 
 add-period-requires-2 : tie.Need-add-period-requires-2 Inv-loop μ-loop
 add-period-requires-2 c κs = search needs
@@ -41,11 +48,11 @@ same-length c = search needs
 returns : tie.Need-returns Inv-loop μ-loop
 returns c =
     let l = c .before .before .before .before .before .loop in
-    let s = c .before .before .before .before .before .before .before in
+    let xs = c .before .before .before .before .before .before .before .args .bytes .now in
     let part = c .before .before .add-period2 in
-    let done : l .start + 105 ≡ 1890 = omega arith in
-    added-all 1890 (s .args .word .now) (part .last .0) (s .pre)
-    (rw done at (added-part (s .args .word .now) (l .word) (part .last .0) (l .start) (l .start + 105) (omega arith) (l .inv .2) (part .ensures)))
+    let done : l .start + (length xs - l .start) ≡ length xs = omega arith in
+    added-all (length xs) xs (part .last .0) refl
+    (rw done at (added-part xs (l .bytes) (part .last .0) (l .start) (l .start + (length xs - l .start)) (omega arith) (l .inv .2) (part .ensures)))
 
 pub randomize-spec : {M : Type 1} → statement M
 randomize-spec =
@@ -54,10 +61,12 @@ randomize-spec =
     Inv-loop
     μ-loop
     loop-holds
+    sub-loop
     add-period-requires
     add-start
     loop-less
     loop-again
+    sub-add-period
     add-period-requires-2
     same-length
     returns)

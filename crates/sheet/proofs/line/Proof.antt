@@ -1,21 +1,27 @@
--- A number other than 0 is the refusal's; with 0 the header is good, and its fields are valid.
+-- A refusal's line is `no` and its number; past it the header is good, and its fields are valid.
 use mathlib.Core.Path.{_≡_, sym, ap, _∙_}
-use Rattle.header.specs.Questions.{headerNumber, headerSays, number-good}
+use Rattle.answers.specs.Answer.{numberOf}
+use Rattle.answers.specs.declared.Answer.the-variants.{Done}
+use Rattle.answers.proofs.Refused.{not-done}
+use Rattle.header.specs.Questions.{headerSays}
 use Rattle.header.specs.Valid.{header-good}
-use Rattle.header.specs.declared.HeaderAnswer.the-variants.{Good}
 use Rattle.sheet.specs.Text.{put-counts}
 use Rattle.sheet.specs.Line.{noLine, runLine, printed, line-no, line-run}
 use borrow.Author.Needs.{needs}
 use Rattle.sheet.proofs.line.Statement.{statement}
 use Rattle.sheet.proofs.line.Tie as tie
 
-good : (c : tie.Else1) → headerSays (c .before .before .before .before .before .args .header .now) ≡ Good
-good c =
-    let h = c .before .before .header-says in
-    number-good (headerSays (c .before .before .before .before .before .args .header .now)) (sym (c .before .number .ensures ∙ ap headerNumber (h .ensures)) ∙ c .if1 .left)
+good : (c : tie.After-enum-told) → headerSays (c .before .before .before .before .before .args .header .now) ≡ Done
+good c = sym (c .before .before .header-says .ensures) ∙ c .enum-told .given .1
 
 header-says-requires : tie.Need-header-says-requires
 header-says-requires c κs = search needs
+
+enum-told : tie.Need-enum-told
+enum-told c = search needs
+
+enum-told-2 : tie.Need-enum-told-2
+enum-told-2 c = search needs
 
 number-requires : tie.Need-number-requires
 number-requires c κs = search needs
@@ -28,12 +34,12 @@ same-length c = search needs
 
 returns : tie.Need-returns
 returns c =
-    let a = c .before .before .before .before .before .before .before .before .before .args in
-    let n = c .before .before .before .before .before .number in
-    let h = c .before .before .before .before .before .before .header-says in
+    let a = c .before .before .before .before .before .before .before .before .before .before .args in
+    let h = c .before .before .before .before .before .before .before .header-says in
+    let n = c .before .before .before .before .number in
     let p = c .before .before .put-no in
-    let e : n .result ≡ headerNumber (headerSays (a .header .now)) = n .ensures ∙ ap headerNumber (h .ensures) in (
-      printed (a .header .now) (a .out .now) (noLine (n .result)) (p .last .1 .0) (p .result) (line-no (a .header .now) (n .result) e (c .before .before .before .before .if1 .taken)) (p .ensures),
+    let e = ap noLine (n .ensures) ∙ line-no (a .header .now) (h .result) (h .ensures) (not-done (h .result) (c .before .before .before .before .before .before .match .keys2)) in (
+      printed (a .header .now) (a .out .now) (noLine (n .result)) (p .last .1 .0) (p .result) e (p .ensures),
       put-counts (a .out .now) (noLine (n .result)) (p .last .1 .0) (p .result) (p .ensures),
     )
 
@@ -63,6 +69,8 @@ line-spec =
     tie.close
     (tie.spec
     header-says-requires
+    enum-told
+    enum-told-2
     number-requires
     put-no-requires
     same-length

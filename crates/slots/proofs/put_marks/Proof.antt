@@ -7,7 +7,7 @@ use native.Mathlib.Nat.{le-refl, mul-le-mul}
 use lib.ListN.{length, getD}
 use borrow.Author.Needs.{needs}
 use Rattle.channel.specs.Markers.{line-mark}
-use Rattle.slots.specs.Plan.{unit, symbolCount, slotBytes}
+use Rattle.plan.specs.Plan.{unit, symbolCount, slotBytes}
 use Rattle.slots.specs.Slots.{placed}
 use Rattle.slots.specs.Writing.{Holds, front}
 use Rattle.slots.proofs.Moves.{inside}

@@ -10,7 +10,7 @@ use Rattle.bits.specs.Window.{lesser-min}
 use Rattle.channel.specs.Places.{delay}
 use Rattle.channel.specs.Symbols.{wordIn}
 use Rattle.slots.specs.Laws.{placed-below}
-use Rattle.slots.specs.Plan.{total, symbolCount, slotBytes}
+use Rattle.plan.specs.Plan.{total, symbolCount, slotBytes}
 use Rattle.slots.specs.Writing.{Holds, stride, soFar}
 use Rattle.slots.proofs.Moves.{inside, holds-same}
 use Rattle.slots.proofs.Rows.{sizes, placed-at, residue-first, residue-begun, residue-more, residue-ended}

@@ -5,7 +5,7 @@ use native.Mathlib.Omega.{arith}
 use lib.ListN.{length}
 use borrow.Author.Needs.{needs}
 use Rattle.channel.specs.Symbols.{wordIn}
-use Rattle.slots.specs.Plan.{unit}
+use Rattle.plan.specs.Plan.{unit}
 use Rattle.slots.specs.Writing.{Holds, front, stride, soFar}
 use Rattle.slots.proofs.Moves.{holds-same}
 use Rattle.slots.proofs.Rows.{sizes, row-begun, row-ended}

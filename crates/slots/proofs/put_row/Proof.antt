@@ -4,7 +4,7 @@ use Prim.Native.Nat.{ℕ, _+_, _*_, _≤_}
 use native.Mathlib.Omega.{arith}
 use borrow.Author.Needs.{needs}
 use Rattle.channel.specs.Symbols.{wordIn}
-use Rattle.slots.specs.Plan.{unit}
+use Rattle.plan.specs.Plan.{unit}
 use Rattle.slots.specs.Writing.{rowEnd}
 use Rattle.slots.proofs.Rows.{sizes, row-end-inside, row-end-on}
 use Rattle.slots.proofs.Zeros.{holds-laid}

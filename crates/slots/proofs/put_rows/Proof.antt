@@ -4,7 +4,7 @@ use Prim.Native.Nat.{_*_, _-_, _≤_}
 use native.Mathlib.Omega.{arith}
 use borrow.Author.Needs.{needs}
 use Rattle.channel.specs.Symbols.{wordIn}
-use Rattle.slots.specs.Plan.{unit}
+use Rattle.plan.specs.Plan.{unit}
 use Rattle.slots.specs.Writing.{Holds, front, rowEnd}
 use Rattle.slots.proofs.Rows.{holds-none}
 use Rattle.slots.proofs.put_rows.Statement.{statement}

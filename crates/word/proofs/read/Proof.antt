@@ -1,30 +1,23 @@
 -- Questions 2 and 8 here, the others in `decode`.
-use mathlib.Core.Path.{_≡_, sym, ap, _∙_}
+use mathlib.Core.Path.{refl, sym, _∙_}
 use native.Mathlib.Omega.{arith}
 use lib.ListN.{length}
-use Rattle.word.specs.Answer.{afterRead}
-use Rattle.word.specs.Word.{blockIn}
 use Rattle.word.specs.Word.Answers.{read-rate, read-word-length, read-block-length, read-judged}
-use Rattle.word.specs.declared.ReadAnswer.{ReadAnswer}
 use borrow.Author.Needs.{needs}
 use Rattle.word.proofs.read.Statement.{statement}
 use Rattle.word.proofs.read.Tie as tie
-
--- what the block holds by an answer, it holds by an equal one
-after : (s : tie.Start) {a b : ReadAnswer} → a ≡ b → afterRead a (blockIn (s .args .rate) (s .args .word .now)) (s .args .block .now) ≡ afterRead b (blockIn (s .args .rate) (s .args .word .now)) (s .args .block .now)
-after s e = ap (λ (r : ReadAnswer). afterRead r (blockIn (s .args .rate) (s .args .word .now)) (s .args .block .now)) e
 
 returns : tie.Need-returns
 returns c =
     let s = c .before .before .before in
     let e = read-rate (s .args .rate) (s .args .word .now) (length (s .args .block .now)) (c .if1 .taken) in
-    (sym e, after s (sym e))
+    (sym e, refl)
 
 returns-2 : tie.Need-returns-2
 returns-2 c =
     let s = c .before .before .before .before in
     let e = read-word-length (s .args .rate) (s .args .word .now) (length (s .args .block .now)) (omega arith) (c .if2 .taken) in
-    (sym e, after s (sym e))
+    (sym e, refl)
 
 block-bytes-requires : tie.Need-block-bytes-requires
 block-bytes-requires c κs = search needs
@@ -33,7 +26,7 @@ returns-3 : tie.Need-returns-3
 returns-3 c =
     let s = c .before .before .before .before .before .before in
     let e = read-block-length (s .args .rate) (s .args .word .now) (length (s .args .block .now)) (omega arith) (omega arith) (λ q. c .if3 .taken (q ∙ sym (c .before .block-bytes .ensures))) in
-    (sym e, after s (sym e))
+    (sym e, refl)
 
 decode-requires : tie.Need-decode-requires
 decode-requires c κs = search needs
@@ -47,7 +40,7 @@ returns-4 c =
     let d = c .before .before .decode in
     let e = read-judged (s .args .rate) (s .args .word .now) (length (s .args .block .now)) (omega arith) (omega arith) (omega (arith, c .before .before .before .before .before .block-bytes .ensures)) in (
       d .ensures .0 ∙ sym e,
-      d .ensures .1 ∙ after s (d .ensures .0 ∙ sym e),
+      d .ensures .1,
     )
 
 pub read-spec : {M : Type 1} → statement M

@@ -1,11 +1,11 @@
 -- The questions' answer stands; the word is written only where it is acceptance.
 use mathlib.Core.Path.{sym, ap, _∙_}
 use lib.ListN.{length}
-use Rattle.word.specs.Answer.{afterWrite}
+use Rattle.answers.specs.Answer.{after}
 use Rattle.word.specs.Word.{wordOf}
 use Rattle.word.specs.Word.Answers.{write-accepted}
-use Rattle.word.proofs.Kept.{write-kept}
-use Rattle.word.specs.declared.WriteAnswer.{WriteAnswer}
+use Rattle.answers.proofs.Refused.{kept}
+use Rattle.answers.specs.declared.Answer.{Answer}
 use borrow.Author.Needs.{needs}
 use Rattle.word.proofs.write.Statement.{statement}
 use Rattle.word.proofs.write.Tie as tie
@@ -16,13 +16,15 @@ judge-requires c κs = search needs
 enum-told : tie.Need-enum-told
 enum-told c = search needs
 
+enum-told-2 : tie.Need-enum-told-2
+enum-told-2 c = search needs
+
 returns : tie.Need-returns
 returns c =
-    let s = c .before .before .before .before in
-    let j = c .before .judge in (
+    let s = c .before .before .before .before .before in
+    let j = c .before .before .judge in (
       j .ensures,
-      write-kept (j .result) (wordOf (s .args .rate) (s .args .block .now)) (s .args .word .now) (c .match .keys2)
-          ∙ ap (λ (a : WriteAnswer). afterWrite a (wordOf (s .args .rate) (s .args .block .now)) (s .args .word .now)) (j .ensures),
+      kept (j .result) (wordOf (s .args .rate) (s .args .block .now)) (s .args .word .now) (c .before .match .keys2),
     )
 
 code-requires : tie.Need-code-requires
@@ -41,9 +43,9 @@ returns-2 c =
     let done = c .before .before .before .before .enum-told .given .1 in (
       j .ensures,
       c .before .before .code .ensures
-          ∙ ap (λ (a : WriteAnswer). afterWrite a (wordOf (s .args .rate) (s .args .block .now)) (s .args .word .now)) (sym done ∙ j .ensures),
+          ∙ ap (λ (a : Answer). after a (wordOf (s .args .rate) (s .args .block .now)) (s .args .word .now)) (sym done),
     )
 
 pub write-spec : {M : Type 1} → statement M
 write-spec =
-    tie.close (tie.spec judge-requires enum-told returns code-requires same-length returns-2)
+    tie.close (tie.spec judge-requires enum-told enum-told-2 returns code-requires same-length returns-2)

@@ -9,43 +9,42 @@ use native.Mathlib.Nat.{div-one}
 use lib.Dec.{ltb, eqb}
 use lib.ListN.{length, getD}
 use borrow.Author.Tests.{lt-ltb, le-ltb, eq-eqb, ne-eqb, ltb-true, eqb-true}
-use Rattle.bits.specs.Choice.{pick, lt-or-le, bit-cases, pick-yes}
+use Rattle.bits.specs.Choice.{lt-or-le, bit-cases}
 use Rattle.bits.specs.Table.{both, both-true}
 use Rattle.bits.specs.First.{up-to-le}
 use Rattle.bits.specs.Pack.{bitAt, Bytes}
-use Rattle.rates.specs.Rate.{infoBits, blockBytes, block-size}
-use Rattle.interleaver.specs.Interleaver.{wordBits}
-use Rattle.word.specs.Word.{wordBytes, codedIn, inputIn, spareZero, agrees, firstWrong, endsInZeros, checkRight, writeSays, judged, readSays}
-use Rattle.word.specs.Word.Laws.{Packed, Sound, sound}
-use Rattle.word.specs.Answer.{writeNumber, readNumber, readPlace}
-use Rattle.word.specs.declared.WriteAnswer.{WriteAnswer}
-use Rattle.word.specs.declared.WriteAnswer.the-variants as W
-use Rattle.word.specs.declared.ReadAnswer.{ReadAnswer}
-use Rattle.word.specs.declared.ReadAnswer.the-variants as R
+use Rattle.sizes.specs.Rate.{infoBits, blockBytes, block-size}
+use Rattle.sizes.specs.Sizes.{wordBits, wordBytes}
+use Rattle.word.specs.Word.{codedIn, inputIn, blockSpareZero, agrees, firstWrong, endsInZeros, checkRight, writeSays, judged, readSays}
+use Rattle.word.specs.Word.{Packed}
+use Rattle.word.specs.Word.Laws.{Sound, sound}
+use Rattle.answers.specs.Answer.{ask, then-done, ask-done, Fits, fits-ask, fits-then}
+use Rattle.answers.specs.declared.Answer.{Answer}
+use Rattle.answers.specs.declared.Answer.the-variants.{Done, No}
 
 -- ---- the writer
 
 module _ (rate : ℕ) (block : List ℕ) (n : ℕ) where
-  pub write-rate : 3 ≤ rate → writeSays rate block n ≡ W.BadRate
+  pub write-rate : 3 ≤ rate → writeSays rate block n ≡ No 2 0
   unfolding writeSays
   write-rate h = rw (le-ltb rate 3 h) refl
 
   module _ (h : rate < 3) where
-    pub write-block-length : (length block ≡ blockBytes rate → ⊥) → writeSays rate block n ≡ W.BadLength
+    pub write-block-length : (length block ≡ blockBytes rate → ⊥) → writeSays rate block n ≡ No 8 0
     unfolding writeSays
     write-block-length ne = rw (lt-ltb rate 3 h, ne-eqb (length block) (blockBytes rate) ne) refl
 
     module _ (e : length block ≡ blockBytes rate) where
-      pub write-word-length : (n ≡ wordBytes → ⊥) → writeSays rate block n ≡ W.BadLength
+      pub write-word-length : (n ≡ wordBytes → ⊥) → writeSays rate block n ≡ No 8 0
       unfolding writeSays
       write-word-length ne = rw (lt-ltb rate 3 h, eq-eqb (length block) (blockBytes rate) e, ne-eqb n wordBytes ne) refl
 
       module _ (w : n ≡ wordBytes) where
-        pub write-spare : spareZero rate block ≡ false → writeSays rate block n ≡ W.SpareBits
+        pub write-spare : blockSpareZero rate block ≡ false → writeSays rate block n ≡ No 9 0
         unfolding writeSays
         write-spare s = rw (lt-ltb rate 3 h, eq-eqb (length block) (blockBytes rate) e, eq-eqb n wordBytes w, s) refl
 
-        pub write-done : spareZero rate block ≡ true → writeSays rate block n ≡ W.Written
+        pub write-done : blockSpareZero rate block ≡ true → writeSays rate block n ≡ Done
         unfolding writeSays
         write-done s = rw (lt-ltb rate 3 h, eq-eqb (length block) (blockBytes rate) e, eq-eqb n wordBytes w, s) refl
 
@@ -54,23 +53,24 @@ pub record WriteAccepted (rate : ℕ) (block : List ℕ) (n : ℕ) : Type 0 wher
   pub rate-is : rate < 3
   pub block-is : length block ≡ blockBytes rate
   pub word-is : n ≡ wordBytes
-  pub spare-is : spareZero rate block ≡ true
+  pub spare-is : blockSpareZero rate block ≡ true
 
-write-no : (a : WriteAnswer) (k : ℕ) → writeNumber a ≡ suc k → a ≡ W.Written → ⊥
-write-no a k e q = let z : writeNumber a ≡ 0 = ap writeNumber q in omega arith
-
-pub write-accepted : (rate : ℕ) (block : List ℕ) (n : ℕ) → writeSays rate block n ≡ W.Written → WriteAccepted rate block n
+pub write-accepted : (rate : ℕ) (block : List ℕ) (n : ℕ) → writeSays rate block n ≡ Done → WriteAccepted rate block n
 unfolding writeSays
 write-accepted rate block n e =
-    let q2 = pick-yes (ltb rate 3) _ _ W.Written e (write-no W.BadRate 1 refl) in
-    let q8 = pick-yes (both (eqb (length block) (blockBytes rate)) (eqb n wordBytes)) _ _ W.Written (q2 .1) (write-no W.BadLength 7 refl) in
-    let q9 = pick-yes (spareZero rate block) _ _ W.Written (q8 .1) (write-no W.SpareBits 8 refl) in
-    let l = both-true (eqb (length block) (blockBytes rate)) (eqb n wordBytes) (q8 .0) in
-    record { rate-is = ltb-true rate 3 (q2 .0); block-is = eqb-true (length block) (blockBytes rate) (l .0); word-is = eqb-true n wordBytes (l .1); spare-is = q9 .0 }
+    let q2 = then-done (ask (ltb rate 3) 2 0) _ e in
+    let q8 = then-done (ask (both (eqb (length block) (blockBytes rate)) (eqb n wordBytes)) 8 0) (ask (blockSpareZero rate block) 9 0) (q2 .1) in
+    let l = both-true (eqb (length block) (blockBytes rate)) (eqb n wordBytes) (ask-done (both (eqb (length block) (blockBytes rate)) (eqb n wordBytes)) 8 0 (q8 .0)) in
+    record {
+      rate-is = ltb-true rate 3 (ask-done (ltb rate 3) 2 0 (q2 .0));
+      block-is = eqb-true (length block) (blockBytes rate) (l .0);
+      word-is = eqb-true n wordBytes (l .1);
+      spare-is = ask-done (blockSpareZero rate block) 9 0 (q8 .1);
+    }
 
 -- the two spare bits are all that a packed block has behind its k bits
-pub accepted-packed : (rate : ℕ) (block : List ℕ) (n : ℕ) → Bytes block → writeSays rate block n ≡ W.Written → Packed rate block
-unfolding spareZero
+pub accepted-packed : (rate : ℕ) (block : List ℕ) (n : ℕ) → Bytes block → writeSays rate block n ≡ Done → Packed rate block
+unfolding blockSpareZero
 accepted-packed rate block n b e =
     let a = write-accepted rate block n e in
     let k : ℕ = infoBits rate in
@@ -85,8 +85,8 @@ accepted-packed rate block n b e =
           (lt-or-le i (k + 1));
     }
 
-pub packed-spare : (rate : ℕ) (block : List ℕ) → rate < 3 → Packed rate block → spareZero rate block ≡ true
-unfolding spareZero
+pub packed-spare : (rate : ℕ) (block : List ℕ) → rate < 3 → Packed rate block → blockSpareZero rate block ≡ true
+unfolding blockSpareZero
 packed-spare rate block h p =
     let k : ℕ = infoBits rate in
     let size : 8 * blockBytes rate ≡ k + 2 = block-size rate h in
@@ -94,7 +94,7 @@ packed-spare rate block h p =
     let f : bitAt block (k + 1) ≡ 0 = p .spare (k + 1) (omega arith) (omega arith) in
     rw (e, f) refl
 
-pub packed-accepted : (rate : ℕ) (block : List ℕ) → rate < 3 → Packed rate block → writeSays rate block wordBytes ≡ W.Written
+pub packed-accepted : (rate : ℕ) (block : List ℕ) → rate < 3 → Packed rate block → writeSays rate block wordBytes ≡ Done
 packed-accepted rate block h p = write-done rate block wordBytes h (p .size) refl (packed-spare rate block h p)
 
 -- the spare bits are the two lowest of the last byte
@@ -113,15 +113,15 @@ module _ (rate : ℕ) (block : List ℕ) (h : rate < 3) where
       let r1 : 7 - (k + 1) % 8 ≡ 0 = omega arith in
       (ap₂ (λ (i s : ℕ). getD block i 0 / 2 ^ s % 2) d0 r0, ap₂ (λ (i s : ℕ). getD block i 0 / 2 ^ s % 2) d1 r1 ∙ ap (λ (v : ℕ). v % 2) (div-one (getD block (blockBytes rate - 1) 0)))
 
-  pub spare-yes : getD block (blockBytes rate - 1) 0 % 4 ≡ 0 → spareZero rate block ≡ true
-  unfolding spareZero last
+  pub spare-yes : getD block (blockBytes rate - 1) 0 % 4 ≡ 0 → blockSpareZero rate block ≡ true
+  unfolding blockSpareZero last
   spare-yes z =
       let e : bitAt block (infoBits rate) ≡ 0 = spare-bits .0 ∙ omega arith in
       let f : bitAt block (infoBits rate + 1) ≡ 0 = spare-bits .1 ∙ omega arith in
       rw (e, f) refl
 
-  pub spare-no : (getD block (blockBytes rate - 1) 0 % 4 ≡ 0 → ⊥) → spareZero rate block ≡ false
-  unfolding spareZero last
+  pub spare-no : (getD block (blockBytes rate - 1) 0 % 4 ≡ 0 → ⊥) → blockSpareZero rate block ≡ false
+  unfolding blockSpareZero last
   spare-no ne =
       ⊎-elim
       (λ (z : last / 2 % 2 ≡ 0). ⊎-elim
@@ -134,36 +134,36 @@ module _ (rate : ℕ) (block : List ℕ) (h : rate < 3) where
 -- ---- the reader
 
 module _ (rate : ℕ) (c x : ℕ → ℕ) where
-  pub judged-miscoded : (firstWrong rate c x ≡ wordBits → ⊥) → judged rate c x ≡ R.Miscoded (firstWrong rate c x)
+  pub judged-miscoded : (firstWrong rate c x ≡ wordBits → ⊥) → judged rate c x ≡ (No 13 (firstWrong rate c x))
   unfolding judged
   judged-miscoded ne = rw (ne-eqb (firstWrong rate c x) wordBits ne) refl
 
   module _ (e : firstWrong rate c x ≡ wordBits) where
-    pub judged-unterminated : endsInZeros rate x ≡ false → judged rate c x ≡ R.Unterminated
+    pub judged-unterminated : endsInZeros rate x ≡ false → judged rate c x ≡ No 14 0
     unfolding judged
     judged-unterminated z = rw (eq-eqb (firstWrong rate c x) wordBits e, z) refl
 
     module _ (z : endsInZeros rate x ≡ true) where
-      pub judged-check : checkRight rate x ≡ false → judged rate c x ≡ R.BadCheck
+      pub judged-check : checkRight rate x ≡ false → judged rate c x ≡ No 15 0
       unfolding judged
       judged-check r = rw (eq-eqb (firstWrong rate c x) wordBits e, z, r) refl
 
-      pub judged-done : checkRight rate x ≡ true → judged rate c x ≡ R.Block
+      pub judged-done : checkRight rate x ≡ true → judged rate c x ≡ Done
       unfolding judged
       judged-done r = rw (eq-eqb (firstWrong rate c x) wordBits e, z, r) refl
 
 module _ (rate : ℕ) (word : List ℕ) (n : ℕ) where
-  pub read-rate : 3 ≤ rate → readSays rate word n ≡ R.BadRate
+  pub read-rate : 3 ≤ rate → readSays rate word n ≡ No 2 0
   unfolding readSays
   read-rate h = rw (le-ltb rate 3 h) refl
 
   module _ (h : rate < 3) where
-    pub read-word-length : (length word ≡ wordBytes → ⊥) → readSays rate word n ≡ R.BadLength
+    pub read-word-length : (length word ≡ wordBytes → ⊥) → readSays rate word n ≡ No 8 0
     unfolding readSays
     read-word-length ne = rw (lt-ltb rate 3 h, ne-eqb (length word) wordBytes ne) refl
 
     module _ (e : length word ≡ wordBytes) where
-      pub read-block-length : (n ≡ blockBytes rate → ⊥) → readSays rate word n ≡ R.BadLength
+      pub read-block-length : (n ≡ blockBytes rate → ⊥) → readSays rate word n ≡ No 8 0
       unfolding readSays
       read-block-length ne = rw (lt-ltb rate 3 h, eq-eqb (length word) wordBytes e, ne-eqb n (blockBytes rate) ne) refl
 
@@ -177,41 +177,42 @@ pub record ReadAccepted (rate : ℕ) (word : List ℕ) (n : ℕ) : Type 0 where
   pub block-is : n ≡ blockBytes rate
   pub sound-is : Sound rate word
 
-read-no : (a : ReadAnswer) (k : ℕ) → readNumber a ≡ suc k → a ≡ R.Block → ⊥
-read-no a k e q = let z : readNumber a ≡ 0 = ap readNumber q in omega arith
-
-pub read-accepted : (rate : ℕ) (word : List ℕ) (n : ℕ) → readSays rate word n ≡ R.Block → ReadAccepted rate word n
+pub read-accepted : (rate : ℕ) (word : List ℕ) (n : ℕ) → readSays rate word n ≡ Done → ReadAccepted rate word n
 unfolding readSays judged
 read-accepted rate word n e =
-    let q2 = pick-yes (ltb rate 3) _ _ R.Block e (read-no R.BadRate 1 refl) in
-    let q8 = pick-yes (both (eqb (length word) wordBytes) (eqb n (blockBytes rate))) _ _ R.Block (q2 .1) (read-no R.BadLength 7 refl) in
-    let q13 = pick-yes (eqb (firstWrong rate (codedIn word) (inputIn rate word)) wordBits) _ _ R.Block (q8 .1) (read-no (R.Miscoded (firstWrong rate (codedIn word) (inputIn rate word))) 12 refl) in
-    let q14 = pick-yes (endsInZeros rate (inputIn rate word)) _ _ R.Block (q13 .1) (read-no R.Unterminated 13 refl) in
-    let q15 = pick-yes (checkRight rate (inputIn rate word)) _ _ R.Block (q14 .1) (read-no R.BadCheck 14 refl) in
-    let l = both-true (eqb (length word) wordBytes) (eqb n (blockBytes rate)) (q8 .0) in
+    let x : ℕ → ℕ = inputIn rate word in
+    let at : ℕ = firstWrong rate (codedIn word) x in
+    let q2 = then-done (ask (ltb rate 3) 2 0) _ e in
+    let q8 = then-done (ask (both (eqb (length word) wordBytes) (eqb n (blockBytes rate))) 8 0) _ (q2 .1) in
+    let q13 = then-done (ask (eqb at wordBits) 13 at) _ (q8 .1) in
+    let q14 = then-done (ask (endsInZeros rate x) 14 0) (ask (checkRight rate x) 15 0) (q13 .1) in
+    let l = both-true (eqb (length word) wordBytes) (eqb n (blockBytes rate)) (ask-done (both (eqb (length word) wordBytes) (eqb n (blockBytes rate))) 8 0 (q8 .0)) in
     record {
-      rate-is = ltb-true rate 3 (q2 .0);
+      rate-is = ltb-true rate 3 (ask-done (ltb rate 3) 2 0 (q2 .0));
       word-is = eqb-true (length word) wordBytes (l .0);
       block-is = eqb-true n (blockBytes rate) (l .1);
-      sound-is = sound rate word (eqb-true (firstWrong rate (codedIn word) (inputIn rate word)) wordBits (q13 .0)) (q14 .0) (q15 .0);
+      sound-is = sound rate word (eqb-true at wordBits (ask-done (eqb at wordBits) 13 at (q13 .0))) (ask-done (endsInZeros rate x) 14 0 (q14 .0)) (ask-done (checkRight rate x) 15 0 (q14 .1));
     }
 
--- a place is no more than the number of coded bits
-pub read-place : (rate : ℕ) (word : List ℕ) (n : ℕ) → readPlace (readSays rate word n) ≤ 15120
+-- ---- the answers fit the number that C gets
+
+pub write-fits : (rate : ℕ) (block : List ℕ) (n : ℕ) → Fits (writeSays rate block n)
+unfolding writeSays
+write-fits rate block n =
+    fits-then (ask (ltb rate 3) 2 0) _ (fits-ask (ltb rate 3) 2 0 (omega arith) (omega arith))
+    (λ e. fits-then (ask (both (eqb (length block) (blockBytes rate)) (eqb n wordBytes)) 8 0) (ask (blockSpareZero rate block) 9 0)
+    (fits-ask (both (eqb (length block) (blockBytes rate)) (eqb n wordBytes)) 8 0 (omega arith) (omega arith))
+    (λ f. fits-ask (blockSpareZero rate block) 9 0 (omega arith) (omega arith)))
+
+pub read-fits : (rate : ℕ) (word : List ℕ) (n : ℕ) → Fits (readSays rate word n)
 unfolding readSays judged firstWrong
-read-place rate word n =
-    cases (ltb rate 3) (both (eqb (length word) wordBytes) (eqb n (blockBytes rate))) (eqb (firstWrong rate c x) wordBits) (endsInZeros rate x) (checkRight rate x)
-  where
-    c : ℕ → ℕ
-    c = codedIn word
-
-    x : ℕ → ℕ
-    x = inputIn rate word
-
-    cases : (a b d e f : Bool) → readPlace (pick a (pick b (pick d (pick e (pick f R.Block R.BadCheck) R.Unterminated) (R.Miscoded (firstWrong rate c x))) R.BadLength) R.BadRate) ≤ 15120
-    cases false b d e f = omega arith
-    cases true false d e f = omega arith
-    cases true true false e f = up-to-le (agrees rate c x) wordBits
-    cases true true true false f = omega arith
-    cases true true true true false = omega arith
-    cases true true true true true = omega arith
+read-fits rate word n =
+    let x : ℕ → ℕ = inputIn rate word in
+    let at : ℕ = firstWrong rate (codedIn word) x in
+    let small : at ≤ wordBits = up-to-le (agrees rate (codedIn word) x) wordBits in
+    fits-then (ask (ltb rate 3) 2 0) _ (fits-ask (ltb rate 3) 2 0 (omega arith) (omega arith))
+    (λ e. fits-then (ask (both (eqb (length word) wordBytes) (eqb n (blockBytes rate))) 8 0) _
+    (fits-ask (both (eqb (length word) wordBytes) (eqb n (blockBytes rate))) 8 0 (omega arith) (omega arith))
+    (λ f. fits-then (ask (eqb at wordBits) 13 at) _ (fits-ask (eqb at wordBits) 13 at (omega arith) (omega arith))
+    (λ g. fits-then (ask (endsInZeros rate x) 14 0) (ask (checkRight rate x) 15 0) (fits-ask (endsInZeros rate x) 14 0 (omega arith) (omega arith))
+    (λ h. fits-ask (checkRight rate x) 15 0 (omega arith) (omega arith)))))

@@ -9,12 +9,13 @@ use lib.ListN.{getD}
 use borrow.Author.Tests.{eq-eqb, ne-eqb}
 use Rattle.bits.specs.First.{upTo}
 use Rattle.bits.specs.Pack.{val, bitAt, cut, Bits, bit-bytes, cut-in, cut-bits}
-use Rattle.rates.specs.Rate.{infoBits, blockBytes, block-size}
+use Rattle.sizes.specs.Rate.{infoBits, blockBytes, block-size}
+use Rattle.sizes.specs.Sizes.{wordBits}
 use Rattle.crc.specs.Check.{register, register-same}
 use Rattle.convolution.specs.Code.{encode}
 use Rattle.word.specs.Word.{packedBlock, agrees, firstWrong, endsInZeros, checkRight, judged}
 use Rattle.word.specs.Word.Answers as Answers
-use Rattle.word.specs.declared.ReadAnswer.the-variants as R
+use Rattle.answers.specs.declared.Answer.the-variants.{Done, No}
 
 -- the bits of a packed block
 pub packed-bit : (rate : ℕ) (x : ℕ → ℕ) → rate < 3 → Bits x → (i : ℕ) → i < infoBits rate → bitAt (packedBlock rate x) i ≡ x i
@@ -24,7 +25,7 @@ packed-bit rate x h b i l =
     bit-bytes (blockBytes rate) (cut (infoBits rate) x) (cut-bits (infoBits rate) x b) i (omega arith) ∙ cut-in (infoBits rate) x i l
 
 -- the place that a scan found, and where the block ends
-module _ (rate : ℕ) (coded input : List ℕ) (at k : ℕ) (found : at ≡ upTo (λ j. eqb (getD coded j 0) (encode rate (λ i. getD input i 0) j)) 0 15120) (ek : k ≡ infoBits rate) where
+module _ (rate : ℕ) (coded input : List ℕ) (at k : ℕ) (found : at ≡ upTo (λ j. eqb (getD coded j 0) (encode rate (λ i. getD input i 0) j)) 0 wordBits) (ek : k ≡ infoBits rate) where
   c : ℕ → ℕ
   c j = getD coded j 0
 
@@ -35,19 +36,19 @@ module _ (rate : ℕ) (coded input : List ℕ) (at k : ℕ) (found : at ≡ upTo
   unfolding firstWrong agrees c x
   wrong = found
 
-  pub says-13 : (at ≡ 15120 → ⊥) → R.Miscoded at ≡ judged rate (λ j. getD coded j 0) (λ i. getD input i 0)
+  pub says-13 : (at ≡ wordBits → ⊥) → No 13 at ≡ judged rate (λ j. getD coded j 0) (λ i. getD input i 0)
   unfolding c x
-  says-13 ne = ap R.Miscoded wrong ∙ sym (Answers.judged-miscoded rate c x (λ e. ne (wrong ∙ e)))
+  says-13 ne = ap (λ (q : ℕ). No 13 q) wrong ∙ sym (Answers.judged-miscoded rate c x (λ e. ne (wrong ∙ e)))
 
-  module _ (all : at ≡ 15120) where
-    pub says-14 : (getD input (k + 32) 0 ≡ 0 → ⊥) → R.Unterminated ≡ judged rate (λ j. getD coded j 0) (λ i. getD input i 0)
+  module _ (all : at ≡ wordBits) where
+    pub says-14 : (getD input (k + 32) 0 ≡ 0 → ⊥) → No 14 0 ≡ judged rate (λ j. getD coded j 0) (λ i. getD input i 0)
     unfolding c x endsInZeros
     says-14 ne =
         sym (Answers.judged-unterminated rate c x (sym wrong ∙ all)
         (rw (← ek, ne-eqb (getD input (k + 32) 0) 0 ne) refl))
 
     module _ (end0 : getD input (k + 32) 0 ≡ 0) where
-      pub says-14-last : (getD input (k + 33) 0 ≡ 0 → ⊥) → R.Unterminated ≡ judged rate (λ j. getD coded j 0) (λ i. getD input i 0)
+      pub says-14-last : (getD input (k + 33) 0 ≡ 0 → ⊥) → No 14 0 ≡ judged rate (λ j. getD coded j 0) (λ i. getD input i 0)
       unfolding c x endsInZeros
       says-14-last ne =
           sym (Answers.judged-unterminated rate c x (sym wrong ∙ all)
@@ -71,13 +72,13 @@ module _ (rate : ℕ) (coded input : List ℕ) (at k : ℕ) (found : at ≡ upTo
           unfolding x
           field-is = ef ∙ ap (λ (n : ℕ). val (λ t. getD input (n + t) 0) 32) ek
 
-          pub says-15 : (field ≡ check → ⊥) → R.BadCheck ≡ judged rate (λ j. getD coded j 0) (λ i. getD input i 0)
+          pub says-15 : (field ≡ check → ⊥) → No 15 0 ≡ judged rate (λ j. getD coded j 0) (λ i. getD input i 0)
           unfolding c x checkRight
           says-15 ne =
               sym (Answers.judged-check rate c x (sym wrong ∙ all) ends
               (ne-eqb (val (λ t. x (infoBits rate + t)) 32) (register x (infoBits rate)) (λ e. ne (field-is ∙ e ∙ sym register-is))))
 
-          pub says-0 : field ≡ check → R.Block ≡ judged rate (λ j. getD coded j 0) (λ i. getD input i 0)
+          pub says-0 : field ≡ check → Done ≡ judged rate (λ j. getD coded j 0) (λ i. getD input i 0)
           unfolding c x checkRight
           says-0 e =
               sym (Answers.judged-done rate c x (sym wrong ∙ all) ends

@@ -14,13 +14,20 @@ use Rattle.bits.specs.Sum.{sum3}
 use Rattle.bits.specs.Table.{both-true, tab, getD-tab, tab-same}
 use Rattle.bits.specs.First.{none-fails, all-pass}
 use Rattle.bits.specs.Pack.{val, bitAt, bytesOf, cut, Bytes, Bits, bit-lt, bit-bytes, bit-val, val-bits, val-same, bytes-made, bytes-same, bytes-are, length-bytes, cut-in, cut-past, cut-bits, cut-same, cut-sum3}
-use Rattle.rates.specs.Rate.{infoBits, inputBits, blockBytes, block-size}
+use Rattle.sizes.specs.Rate.{infoBits, inputBits, blockBytes, block-size}
+use Rattle.sizes.specs.Sizes.{wordBits, wordBytes}
 use Rattle.crc.specs.Check.{register, register-same, register-lt, checkBit, checked, checked-block, checked-check, checked-bits, checked-same, checked-sum3}
 use Rattle.convolution.specs.Code.{encode, encode-bits, encode-same, encode-plus, decode-bits, decode-same, decode-encode}
-use Rattle.interleaver.specs.Interleaver.{wordBits, interleave, deinterleave, interleave-bits, deinterleave-bits, interleave-same, deinterleave-same, deinterleave-interleave, interleave-deinterleave, interleave-plus, deinterleave-plus}
+use Rattle.interleaver.specs.Interleaver.{interleave, deinterleave, interleave-bits, deinterleave-bits, interleave-same, deinterleave-same, deinterleave-interleave, interleave-deinterleave, interleave-plus, deinterleave-plus}
 use Rattle.accumulator.specs.Accumulator.{accumulate, differentiate, accumulate-bits, differentiate-bits, accumulate-same, differentiate-same, accumulate-plus, differentiate-plus, differentiate-accumulate, accumulate-differentiate}
-use Rattle.randomizer.specs.Randomizer.{randomize, randomize-bits, randomize-same, randomize-twice, randomize-plus, randomize-sum3}
-use Rattle.word.specs.Word.{wordBytes, inputOf, codedOf, shuffled, wordOf, codedIn, inputIn, packedBlock, blockIn, agrees, firstWrong, endsInZeros, checkRight}
+use Rattle.randomizer.specs.Randomizer.{sequence, window, next, randomize, randomize-bits, randomize-same, randomize-twice, randomize-plus, randomize-sum3}
+use Rattle.word.specs.Word.{Packed, inputOf, codedOf, shuffled, wordOf, codedIn, inputIn, packedBlock, blockIn, agrees, firstWrong, endsInZeros, checkRight}
+
+-- ---- the order of steps 6 and 7: where all coded bits are 0, the word is step 7's sequence, FF 48 ..
+
+pub order-example : val (shuffled (λ i. 0)) 16 ≡ 0xFF48
+unfolding shuffled randomize accumulate interleave sequence window next val
+order-example = refl
 
 -- ---- bits all the way
 
@@ -155,12 +162,6 @@ coded-sum3 rate a b c s h e j l =
     ∙ ap (λ (b : ℕ). bitXor b (encode rate z j)) (encode-plus rate x y j)
 
 -- ---- blocks
-
--- a packed block of a rate: as many bytes as the rate implies, its bits, and zeros behind them
-pub record Packed (rate : ℕ) (block : List ℕ) : Type 0 where
-  pub size : length block ≡ blockBytes rate
-  pub bytes : Bytes block
-  pub spare : (i : ℕ) → infoBits rate ≤ i → i < 8 * blockBytes rate → bitAt block i ≡ 0
 
 -- the three parts of the input bits
 pub input-block : (rate : ℕ) (block : List ℕ) (i : ℕ) → i < infoBits rate → inputOf rate block i ≡ bitAt block i

@@ -12,10 +12,10 @@ use Rattle.bits.specs.Table.{tab, getD-tab, tab-same}
 use Rattle.bits.specs.First.{first-same}
 use Rattle.bits.specs.Loops.{Spread}
 use Rattle.bits.specs.Pack.{val, bitAt, bytesOf, cut, val-same, bytes-same, length-bytes, cut-in, cut-past, cut-same}
-use Rattle.rates.specs.Rate.{infoBits, inputBits, blockBytes}
+use Rattle.sizes.specs.Rate.{infoBits, inputBits, blockBytes}
+use Rattle.sizes.specs.Sizes.{wordBits}
 use Rattle.crc.specs.Check.{register, register-same, checkBit}
 use Rattle.convolution.specs.Code.{encode, decode, encode-same, decode-same}
-use Rattle.interleaver.specs.Interleaver.{wordBits}
 use Rattle.word.specs.Word.{inputOf, codedOf, codedIn, inputIn, packedBlock, blockIn, agrees, firstWrong, endsInZeros, checkRight, judged}
 use Rattle.word.specs.Word.Laws.{input-block, input-check, input-end}
 

@@ -8,7 +8,7 @@ use Rattle.channel.specs.Return.{stands-lt}
 use Rattle.slots.specs.Bounds.{bounds, Bounds, delay-most}
 use Rattle.slots.specs.Slots.{place, symbolOf}
 use Prim.Native.Nat.{_*_, _%_, _≤_, _<_}
-use Rattle.slots.specs.Plan.{total, symbolCount}
+use Rattle.plan.specs.Plan.{total, symbolCount}
 use Rattle.capture.proofs.words.stands_at.Statement.{statement}
 use Rattle.capture.proofs.words.stands_at.Tie as tie
 

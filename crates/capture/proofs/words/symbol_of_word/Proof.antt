@@ -5,7 +5,7 @@ use borrow.Author.Needs.{needs}
 use Prim.Native.Nat.{_<_}
 use Rattle.pulses.specs.Needs.{held}
 use Rattle.slots.specs.Bounds.{bounds, lies}
-use Rattle.slots.specs.Plan.{symbolCount}
+use Rattle.plan.specs.Plan.{symbolCount}
 use Rattle.capture.specs.Capture.{symbolIn}
 use Rattle.capture.specs.Firsts.{stands-in, first-tells}
 use Rattle.capture.proofs.words.symbol_of_word.Statement.{statement}

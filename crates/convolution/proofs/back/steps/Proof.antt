@@ -4,6 +4,7 @@ use Prim.Native.Nat.{_+_, _-_, _*_, _≤_, _<_}
 use native.Mathlib.Omega.{arith}
 use borrow.Author.Needs.{needs}
 use lib.ListN.{getD}
+use Rattle.sizes.specs.Sizes.{wordBits}
 use Rattle.convolution.specs.Turns.{Decoded, filled-none, filled-all, carried-none, decoded-on, steps-place, steps-fit}
 use Rattle.convolution.proofs.back.steps.Statement.{statement}
 use Rattle.convolution.proofs.back.steps.Tie as tie
@@ -20,7 +21,7 @@ loop-holds : tie.Need-loop-holds Inv-loop μ-loop
 loop-holds c = (search needs, (filled-none _ _ _ (c .pre .input-size), carried-none _))
 
 -- the turn's second output is there
-inside : (c : tie.In-loop Inv-loop μ-loop) → c .before .before .args .step * c .before .loop .i + 1 < 15120
+inside : (c : tie.In-loop Inv-loop μ-loop) → c .before .before .args .step * c .before .loop .i + 1 < wordBits
 inside c =
     let s = c .before .before in
     steps-fit (s .args .step) (c .before .loop .i) (s .pre .low) (s .pre .high) (s .args .n) (s .pre .all) (c .loop-test .taken)

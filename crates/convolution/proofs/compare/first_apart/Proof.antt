@@ -4,12 +4,13 @@ use Prim.Native.Nat.{ℕ, _+_, _-_, _*_, _≤_}
 use native.Mathlib.Omega.{arith}
 use borrow.Author.Needs.{needs}
 use Rattle.bits.specs.First.{upTo, first-skip, first-end}
+use Rattle.sizes.specs.Sizes.{wordBits}
 use Rattle.convolution.specs.Compare.{sameAt}
 use Rattle.convolution.proofs.compare.first_apart.Statement.{statement}
 use Rattle.convolution.proofs.compare.first_apart.Tie as tie
 
 abbrev Inv-loop : tie.InvT-loop
-Inv-loop made coded t₀ t = (t ≤ 63) × (upTo (sameAt made coded) (t * 240) 15120 ≡ upTo (sameAt made coded) 0 15120)
+Inv-loop made coded t₀ t = (t ≤ 63) × (upTo (sameAt made coded) (t * 240) wordBits ≡ upTo (sameAt made coded) 0 wordBits)
 
 abbrev μ-loop : tie.MeasureT-loop
 μ-loop made coded t₀ t = 63 - t
@@ -45,14 +46,14 @@ loop-again c =
     let p = sameAt (s .args .made .now) (s .args .coded .now) in
     let e : (at .t + 1) * 240 ≡ at .t * 240 + 240 = omega arith in (
       search needs,
-      ap (λ (i : ℕ). upTo p i 15120) e ∙ first-skip p 240 15120 (at .t * 240) (omega arith) (c .before .difference .ensures (c .if1 .left)) ∙ at .inv .1,
+      ap (λ (i : ℕ). upTo p i wordBits) e ∙ first-skip p 240 wordBits (at .t * 240) (omega arith) (c .before .difference .ensures (c .if1 .left)) ∙ at .inv .1,
     )
 
 returns-2 : tie.Need-returns-2 Inv-loop μ-loop
 returns-2 c =
     let s = c .before .before .before .before in
     let at = c .before .loop in
-    sym (first-end (sameAt (s .args .made .now) (s .args .coded .now)) 15120 (at .t * 240) (omega arith) (omega arith)) ∙ at .inv .1
+    sym (first-end (sameAt (s .args .made .now) (s .args .coded .now)) wordBits (at .t * 240) (omega arith) (omega arith)) ∙ at .inv .1
 
 pub first-apart-spec : {M : Type 1} → statement M
 first-apart-spec =

@@ -5,15 +5,16 @@ use native.Mathlib.Omega.{arith}
 use borrow.Author.Needs.{needs}
 use borrow.Author.Tests.{eq-eqb, ne-eqb}
 use Rattle.bits.specs.First.{upTo, first-on, first-here, first-end}
+use Rattle.sizes.specs.Sizes.{wordBits}
 use Rattle.convolution.specs.Compare.{sameAt}
 use Rattle.convolution.proofs.compare.search.Statement.{statement}
 use Rattle.convolution.proofs.compare.search.Tie as tie
 
 abbrev Inv-loop : tie.InvT-loop
-Inv-loop made coded start j₀ j = (j ≤ 15120) × (upTo (sameAt made coded) j 15120 ≡ upTo (sameAt made coded) start 15120)
+Inv-loop made coded start j₀ j = (j ≤ wordBits) × (upTo (sameAt made coded) j wordBits ≡ upTo (sameAt made coded) start wordBits)
 
 abbrev μ-loop : tie.MeasureT-loop
-μ-loop made coded start j₀ j = 15120 - j
+μ-loop made coded start j₀ j = wordBits - j
 
 loop-holds : tie.Need-loop-holds Inv-loop μ-loop
 loop-holds c = (search needs, refl)
@@ -29,7 +30,7 @@ returns c =
     let s = c .before .before .before .before .before in
     let at = c .before .before .before .before .loop in
     let p = sameAt (s .args .made .now) (s .args .coded .now) in
-    sym (first-here p 15120 (at .j) (omega arith) (ne-eqb _ _ (c .if1 .taken))) ∙ at .inv .1
+    sym (first-here p wordBits (at .j) (omega arith) (ne-eqb _ _ (c .if1 .taken))) ∙ at .inv .1
 
 add-j : tie.Need-add-j Inv-loop μ-loop
 add-j c = search needs
@@ -42,14 +43,14 @@ loop-again c =
     let s = c .before .before .before .before .before in
     let at = c .before .before .before .before .loop in
     let p = sameAt (s .args .made .now) (s .args .coded .now) in
-    (search needs, first-on p 15120 (at .j) (omega arith) (eq-eqb _ _ (c .if1 .left)) ∙ at .inv .1)
+    (search needs, first-on p wordBits (at .j) (omega arith) (eq-eqb _ _ (c .if1 .left)) ∙ at .inv .1)
 
 returns-2 : tie.Need-returns-2 Inv-loop μ-loop
 returns-2 c =
     let s = c .before .before in
     let at = c .before .loop in
-    let e : at .j ≡ 15120 = omega arith in
-    e ∙ sym (first-end (sameAt (s .args .made .now) (s .args .coded .now)) 15120 (at .j) (omega arith) (omega arith)) ∙ at .inv .1
+    let e : at .j ≡ wordBits = omega arith in
+    e ∙ sym (first-end (sameAt (s .args .made .now) (s .args .coded .now)) wordBits (at .j) (omega arith) (omega arith)) ∙ at .inv .1
 
 pub search-spec : {M : Type 1} → statement M
 search-spec =

@@ -4,6 +4,7 @@ use Prim.Native.Nat.{_-_, _*_, _≤_}
 use native.Mathlib.Omega.{arith}
 use borrow.Author.Needs.{needs}
 use lib.ListN.{getD}
+use Rattle.sizes.specs.Sizes.{wordBits}
 use Rattle.convolution.specs.Code.{encode}
 use Rattle.convolution.specs.Turns.{Filled, filled-none, fill-two, filled-all}
 use Rattle.convolution.proofs.turns.halves.Statement.{statement}
@@ -11,13 +12,13 @@ use Rattle.convolution.proofs.turns.halves.Tie as tie
 
 abbrev Inv-loop : tie.InvT-loop
 Inv-loop input coded₀ q₀ coded q =
-    (q ≤ 7560) × Filled (encode 1 (λ i. getD input i 0)) 15120 coded (2 * q)
+    (q ≤ 7560) × Filled (encode 1 (λ i. getD input i 0)) wordBits coded (2 * q)
 
 abbrev μ-loop : tie.MeasureT-loop
 μ-loop input coded₀ q₀ coded q = 7560 - q
 
 loop-holds : tie.Need-loop-holds Inv-loop μ-loop
-loop-holds c = (search needs, filled-none _ 15120 _ (c .before .before .pre .coded-size))
+loop-holds c = (search needs, filled-none _ wordBits _ (c .before .before .pre .coded-size))
 
 two-requires : tie.Need-two-requires Inv-loop μ-loop
 two-requires c κs =
@@ -33,13 +34,13 @@ loop-less c = search needs
 loop-again : tie.Need-loop-again Inv-loop μ-loop
 loop-again c =
     let at = c .before .before .before .before .before in
-    (search needs, fill-two _ 15120 (at .loop .coded) _ (at .loop .q) (omega arith) (c .before .before .two .ensures) (at .loop .inv .1))
+    (search needs, fill-two _ wordBits (at .loop .coded) _ (at .loop .q) (omega arith) (c .before .before .two .ensures) (at .loop .inv .1))
 
 same-length : tie.Need-same-length Inv-loop μ-loop
 same-length c = c .before .loop .inv .1 .size ∙ sym (c .before .before .before .before .pre .coded-size)
 
 returns : tie.Need-returns Inv-loop μ-loop
-returns c = filled-all _ 15120 _ (2 * c .before .loop .q) (omega arith) (c .before .loop .inv .1)
+returns c = filled-all _ wordBits _ (2 * c .before .loop .q) (omega arith) (c .before .loop .inv .1)
 
 pub halves-spec : {M : Type 1} → statement M
 halves-spec =

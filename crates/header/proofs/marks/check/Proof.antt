@@ -1,4 +1,4 @@
--- Each way out is the answer of the questions so far, with the parameters where it is Good.
+-- Each way out is the answer of the questions so far, with the parameters where it is Done.
 use mathlib.Core.Path.{_≡_, sym, ap, _∙_}
 use borrow.Author.Tests.{not-true, not-false}
 use Rattle.header.specs.Header.{fieldsOf}
@@ -6,16 +6,16 @@ use Rattle.header.specs.Questions.{headerSays}
 use Rattle.header.specs.Valid.{Valid, header-good}
 use Rattle.header.specs.Marks.{marksGood, parametersOf}
 use Rattle.header.specs.Accepted.{checked-header, checked-marks, checked-good}
-use Rattle.header.proofs.Refused.{not-good}
+use Rattle.answers.proofs.Refused.{not-done}
 use Rattle.header.specs.declared.Fields.{Fields}
-use Rattle.header.specs.declared.HeaderAnswer.{HeaderAnswer}
-use Rattle.header.specs.declared.HeaderAnswer.the-variants.{Good}
+use Rattle.answers.specs.declared.Answer.{Answer}
+use Rattle.answers.specs.declared.Answer.the-variants.{Done, No}
 use borrow.Author.Needs.{needs}
 use Rattle.header.proofs.marks.check.Statement.{statement}
 use Rattle.header.proofs.marks.check.Tie as tie
 
 -- past the `let .. else` the header is good, and the fields read are its own
-good : (c : tie.After-enum-told) → headerSays (c .before .before .before .before .before .args .header .now) ≡ Good
+good : (c : tie.After-enum-told) → headerSays (c .before .before .before .before .before .args .header .now) ≡ Done
 good c = sym (c .before .before .header-says .ensures) ∙ c .enum-told .given .1
 
 valid : (c : tie.After-read) → Valid (c .read .result)
@@ -34,14 +34,17 @@ header-says-requires c κs = search needs
 enum-told : tie.Need-enum-told
 enum-told c = search needs
 
+enum-told-2 : tie.Need-enum-told-2
+enum-told-2 c = search needs
+
 nothing-requires : tie.Need-nothing-requires
 nothing-requires c κs = search needs
 
 returns : tie.Need-returns
 returns c =
-    let a = c .before .before .before .before .before .args in
-    let s = c .before .before .header-says in
-    checked-header (a .header .now) (a .marker .now) (s .result) (s .ensures) (not-good (s .result) (c .before .match .keys2)) (c .nothing .result) (c .nothing .ensures)
+    let a = c .before .before .before .before .before .before .args in
+    let s = c .before .before .before .header-says in
+    checked-header (a .header .now) (a .marker .now) (s .result) (s .ensures) (not-done (s .result) (c .before .before .match .keys2)) (c .nothing .result) (c .nothing .ensures)
 
 read-requires : tie.Need-read-requires
 read-requires c κs = header-good (c .before .before .before .before .before .args .header .now) (good c) .long
@@ -66,7 +69,7 @@ returns-3 c =
     let a = c .before .before .before .before .before .before .before .before .before .args in
     let f : Fields = c .before .before .before .read .result in
     let e : f ≡ fieldsOf (a .header .now) = c .before .before .before .read .ensures in
-    ap (λ (x : HeaderAnswer). record { answer = x; parameters = c .carry .result }) (c .before .before .before .before .enum-told .given .1)
+    ap (λ (x : Answer). record { answer = x; parameters = c .carry .result }) (c .before .before .before .before .enum-told .given .1)
     ∙ checked-good (a .header .now) (a .marker .now) (good (c .before .before .before .before))
     (looked (c .before .before) ∙ not-false _ (c .before .if1 .left)) (c .carry .result)
     (c .carry .ensures ∙ ap (λ (g : Fields). parametersOf g (a .marker .now)) e)
@@ -77,6 +80,7 @@ check-spec =
     (tie.spec
     header-says-requires
     enum-told
+    enum-told-2
     nothing-requires
     returns
     read-requires

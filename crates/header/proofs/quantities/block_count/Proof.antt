@@ -2,7 +2,7 @@
 use mathlib.Core.Path.{ap₂}
 use Prim.Native.Nat.{ℕ, _+_, _-_, _/_}
 use native.Mathlib.Omega.{arith}
-use Rattle.rates.specs.Rate.{info-le}
+use Rattle.sizes.specs.Rate.{info-le}
 use Rattle.header.specs.Quantities.{blockCount}
 use Rattle.header.specs.Bounds.{info-some, marked-most}
 use borrow.Author.Needs.{needs}

@@ -4,7 +4,8 @@ use mathlib.Core.List.{List}
 use Prim.Native.Nat.{ℕ}
 use lib.ListN.{length}
 use Rattle.bits.specs.Table.{length-tab, tab-bits}
-use Rattle.word.specs.Answer.{afterRead}
+use Rattle.sizes.specs.Sizes.{wordBits}
+use Rattle.answers.specs.Answer.{after}
 use Rattle.word.specs.Word.{codedIn}
 use Rattle.word.specs.Word.Laws.{coded-in-bits}
 use Rattle.word.specs.Word.Lists.{judged-coded, block-coded}
@@ -36,8 +37,8 @@ read-coded-requires c κs =
     let e = c .before .before .before .before .before .before .take-out .ensures in
     record {
       rate-is = s .pre .rate-is;
-      coded-is = ap length e ∙ length-tab 15120 (codedIn (s .args .word .now));
-      bits-are = λ i. rw e (tab-bits 15120 (codedIn (s .args .word .now)) (coded-in-bits (s .args .word .now)) i);
+      coded-is = ap length e ∙ length-tab wordBits (codedIn (s .args .word .now));
+      bits-are = λ i. rw e (tab-bits wordBits (codedIn (s .args .word .now)) (coded-in-bits (s .args .word .now)) i);
       room-is = refl;
       packed-is = refl;
       block-is = s .pre .block-is;
@@ -52,7 +53,7 @@ returns c =
     let e = c .before .before .before .before .before .before .before .before .before .before .before .take-out .ensures in
     let t = c .before .before .before .before .read-coded in (
       t .ensures .0 ∙ judged-coded (s .args .rate) (s .args .word .now) _ (s .pre .rate-is) e,
-      t .ensures .1 ∙ ap (λ (b : List ℕ). afterRead (t .result) b (s .args .block .now)) (block-coded (s .args .rate) (s .args .word .now) _ (s .pre .rate-is) e),
+      t .ensures .1 ∙ ap (λ (b : List ℕ). after (t .result) b (s .args .block .now)) (block-coded (s .args .rate) (s .args .word .now) _ (s .pre .rate-is) e),
     )
 
 pub decode-spec : {M : Type 1} → statement M

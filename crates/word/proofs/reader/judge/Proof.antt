@@ -2,7 +2,7 @@
 use mathlib.Core.Path.{refl, ap}
 use native.Mathlib.Omega.{arith}
 use lib.ListN.{length, getD}
-use Rattle.rates.specs.Rate.{infoBits, inputBits, block-size, input-room}
+use Rattle.sizes.specs.Rate.{infoBits, inputBits, block-size, input-room}
 use Rattle.word.specs.Word.Lists.{packed-length}
 use Rattle.word.specs.Word.Judging.{says-13, says-14, says-14-last, says-15, says-0}
 use borrow.Author.Needs.{needs}

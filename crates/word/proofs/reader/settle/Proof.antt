@@ -5,12 +5,12 @@ use native.Mathlib.Omega.{arith}
 use lib.ListN.{length, getD}
 use lib.Seq.{length-take-le}
 use Rattle.bits.specs.Table.{copied}
-use Rattle.rates.specs.Rate.{inputBits, block-room}
-use Rattle.word.specs.Answer.{afterRead}
+use Rattle.sizes.specs.Rate.{inputBits, block-room}
+use Rattle.answers.specs.Answer.{after}
 use Rattle.word.specs.Word.{packedBlock}
 use Rattle.word.specs.Word.Lists.{packed-made, front-bits}
-use Rattle.word.proofs.Kept.{read-kept}
-use Rattle.word.specs.declared.ReadAnswer.the-variants as R
+use Rattle.answers.proofs.Refused.{kept}
+use Rattle.answers.specs.declared.Answer.the-variants.{Done, No}
 use borrow.Author.Needs.{needs}
 use Rattle.word.proofs.reader.settle.Statement.{statement}
 use Rattle.word.proofs.reader.settle.Tie as tie
@@ -45,11 +45,14 @@ judge-requires c κs =
 enum-told : tie.Need-enum-told
 enum-told c = search needs
 
+enum-told-2 : tie.Need-enum-told-2
+enum-told-2 c = search needs
+
 same-length : tie.Need-same-length
 same-length c = search needs
 
 returns : tie.Need-returns
-returns c = (c .before .judge .ensures, read-kept (c .before .judge .result) _ _ (c .match .keys2))
+returns c = (c .before .before .judge .ensures, kept (c .before .before .judge .result) _ _ (c .before .match .keys2))
 
 copy-requires : tie.Need-copy-requires
 copy-requires c κs = search needs
@@ -68,12 +71,12 @@ returns-2 c =
     let x : ℕ → ℕ = λ i. getD (s .args .input .now) i 0 in
     let packed : p .pack .last .1 .0 ≡ packedBlock (s .args .rate) x =
     p .pack .ensures ∙ packed-made (s .args .rate) (s .args .input .now) (length (s .args .packed .now)) _ (s .pre .packed-is) (p .before .before .before .info-bits .ensures) in
-    let done : j .judge .result ≡ R.Block = c .before .before .before .before .before .enum-told .given .1 in (
+    let done : j .judge .result ≡ Done = c .before .before .before .before .before .enum-told .given .1 in (
       j .judge .ensures,
       c .before .before .copy .ensures .1
           ∙ copied (p .pack .last .1 .0) (s .args .block .now) (s .pre .block-is ∙ sym (s .pre .packed-is) ∙ sym (p .pack .kept .1 .0))
           ∙ packed
-          ∙ ap (λ (a : _). afterRead a (packedBlock (s .args .rate) x) (s .args .block .now)) (sym done),
+          ∙ ap (λ (a : _). after a (packedBlock (s .args .rate) x) (s .args .block .now)) (sym done),
     )
 
 pub settle-spec : {M : Type 1} → statement M
@@ -85,6 +88,7 @@ settle-spec =
     pack-requires
     judge-requires
     enum-told
+    enum-told-2
     same-length
     returns
     copy-requires

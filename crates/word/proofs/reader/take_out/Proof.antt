@@ -1,6 +1,9 @@
 -- The word is copied, and three steps are undone on the copy.
-use mathlib.Core.Path.{_∙_, sym}
+use mathlib.Core.Path.{_∙_, sym, ap}
+use Prim.Native.Nat.{ℕ}
+use Rattle.bits.specs.Pack.{bitAt, bytesOf}
 use Rattle.bits.specs.Table.{copied}
+use Rattle.randomizer.specs.Randomizer.{randomize}
 use Rattle.word.specs.Word.Laws.{coded-made}
 use borrow.Author.Needs.{needs}
 use Rattle.word.proofs.reader.take_out.Statement.{statement}
@@ -33,7 +36,7 @@ returns c =
     let w3 = c .before .before .deinterleave in
     coded-made (s .args .word .now) (p .copy .last .1 .0) (w1 .last .0) (w2 .last .0) (w3 .last .1 .0)
     (p .copy .ensures .1 ∙ copied (s .args .word .now) (s .args .work .now) (s .pre .work-is ∙ sym (s .pre .word-is)))
-    (w1 .ensures) (w2 .ensures) (w3 .ensures)
+    (w1 .ensures ∙ ap (λ (n : ℕ). bytesOf n (randomize (bitAt (p .copy .last .1 .0)))) (p .copy .kept .1 .0 ∙ s .pre .work-is)) (w2 .ensures) (w3 .ensures)
 
 pub take-out-spec : {M : Type 1} → statement M
 take-out-spec =

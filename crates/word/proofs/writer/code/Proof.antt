@@ -2,6 +2,7 @@
 use mathlib.Core.Path.{ap, _∙_}
 use lib.ListN.{length}
 use Rattle.bits.specs.Table.{length-tab, tab-bits}
+use Rattle.sizes.specs.Sizes.{wordBits}
 use Rattle.word.specs.Word.{codedOf}
 use Rattle.word.specs.Word.Laws.{coded-bits, word-from}
 use borrow.Author.Needs.{needs}
@@ -27,8 +28,8 @@ shuffle-requires c κs =
     let b = s .args .block .now in
     let e = c .before .before .before .before .encode .ensures in
     record {
-      coded-is = ap length e ∙ length-tab 15120 (codedOf r b);
-      bits-are = λ i. rw e (tab-bits 15120 (codedOf r b) (coded-bits r b) i);
+      coded-is = ap length e ∙ length-tab wordBits (codedOf r b);
+      bits-are = λ i. rw e (tab-bits wordBits (codedOf r b) (coded-bits r b) i);
       word-is = s .pre .word-is;
     }
 

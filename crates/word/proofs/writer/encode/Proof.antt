@@ -6,7 +6,7 @@ use native.Mathlib.Omega.{arith}
 use lib.ListN.{length, take, getD}
 use lib.Seq.{length-take-le}
 use Rattle.bits.specs.Table.{tab, length-tab, tab-bits, front-made}
-use Rattle.rates.specs.Rate.{inputBits, input-room}
+use Rattle.sizes.specs.Rate.{inputBits, input-room}
 use Rattle.word.specs.Word.{inputOf}
 use Rattle.word.specs.Word.Laws.{input-bits}
 use Rattle.word.specs.Word.Lists.{coded-list}

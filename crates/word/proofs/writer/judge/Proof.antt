@@ -4,7 +4,7 @@ use Prim.Native.Nat.{ℕ, _-_, _%_, _<_}
 use native.Mathlib.Omega.{arith}
 use lib.Bits.{and-mask}
 use lib.ListN.{getD}
-use Rattle.rates.specs.Rate.{blockBytes, block-size}
+use Rattle.sizes.specs.Rate.{blockBytes, block-size}
 use Rattle.word.specs.Word.Answers as Answers
 use borrow.Author.Needs.{needs}
 use Rattle.word.proofs.writer.judge.Statement.{statement}

@@ -1,5 +1,9 @@
 -- Three steps on packed bytes, one after another.
+use mathlib.Core.Path.{_∙_, ap}
+use Prim.Native.Nat.{ℕ}
 use lib.ListN.{getD}
+use Rattle.bits.specs.Pack.{bitAt, bytesOf}
+use Rattle.randomizer.specs.Randomizer.{randomize}
 use Rattle.word.specs.Word.Laws.{shuffled-made}
 use borrow.Author.Needs.{needs}
 use Rattle.word.proofs.writer.shuffle.Statement.{statement}
@@ -23,7 +27,8 @@ returns c =
     let w1 = c .before .before .before .before .before .before .before .before .before .before .interleave in
     let w2 = c .before .before .before .before .before .before .accumulate in
     let w3 = c .before .before .randomize in
-    shuffled-made (λ j. getD (s .args .coded .now) j 0) (w1 .last .1 .0) (w2 .last .0) (w3 .last .0) (s .pre .bits-are) (w1 .ensures) (w2 .ensures) (w3 .ensures)
+    shuffled-made (λ j. getD (s .args .coded .now) j 0) (w1 .last .1 .0) (w2 .last .0) (w3 .last .0) (s .pre .bits-are) (w1 .ensures) (w2 .ensures)
+    (w3 .ensures ∙ ap (λ (n : ℕ). bytesOf n (randomize (bitAt (w2 .last .0)))) (w2 .kept .0 ∙ w1 .kept .1 .0 ∙ s .pre .word-is))
 
 pub shuffle-spec : {M : Type 1} → statement M
 shuffle-spec =

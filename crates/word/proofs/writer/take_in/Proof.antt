@@ -2,7 +2,7 @@
 use mathlib.Core.Path.{_∙_}
 use native.Mathlib.Omega.{arith}
 use lib.ListN.{length-set}
-use Rattle.rates.specs.Rate.{block-size, input-room}
+use Rattle.sizes.specs.Rate.{block-size, input-room}
 use Rattle.word.specs.Word.Lists.{input-made}
 use borrow.Author.Needs.{needs}
 use Rattle.word.proofs.writer.take_in.Statement.{statement}

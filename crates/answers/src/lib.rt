@@ -1,0 +1,40 @@
+// What every call answers: done, or the number of the first question that is answered no, and the place where.
+ghost use mathlib.Core.Path.{_≡_};
+ghost use Rattle.answers.specs.Answer.{numberOf, codeOf, movedTo, Fits};
+
+pub enum Answer {
+    Done,
+    // the number of the question, and the place
+    No(u64, usize),
+}
+
+// The number alone, 0 where all is done.
+pub fn number(answer: Answer) -> u64
+    ensures { λ r. ⌜ r ≡ numberOf answer ⌝ }
+{
+    match answer {
+        Answer::Done => 0,
+        Answer::No(number, _) => number,
+    }
+}
+
+// A refusal of one piece among several: its number, with the piece as the place.
+pub fn moved_to(answer: Answer, piece: usize) -> Answer
+    ensures { λ r. ⌜ r ≡ movedTo piece answer ⌝ }
+{
+    match answer {
+        Answer::Done => Answer::Done,
+        Answer::No(number, _) => Answer::No(number, piece),
+    }
+}
+
+// An answer as C gets it: place × 256 + number.
+pub fn code(answer: Answer) -> u64
+    requires { ⌜ Fits answer ⌝ }
+    ensures { λ r. ⌜ r ≡ codeOf answer ⌝ }
+{
+    match answer {
+        Answer::Done => 0,
+        Answer::No(number, place) => ((place as u64) << 8) | number,
+    }
+}

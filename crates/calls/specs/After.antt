@@ -1,0 +1,19 @@
+-- What the slice lent for a result holds after each call: the result on acceptance, otherwise what it held.
+use mathlib.Core.List.{List}
+use Prim.Native.Nat.{ℕ}
+use lib.ListN.{length}
+use Rattle.answers.specs.Answer.{after}
+use Rattle.word.specs.Word as words
+use Rattle.run.specs.Run as runs
+
+abbrev pub wordAfter : ℕ → List ℕ → List ℕ → List ℕ
+wordAfter rate block old = after (words.writeSays rate block (length old)) (words.wordOf rate block) old
+
+abbrev pub blockAfter : ℕ → List ℕ → List ℕ → List ℕ
+blockAfter rate word old = after (words.readSays rate word (length old)) (words.blockIn rate word) old
+
+abbrev pub slotsAfter : List ℕ → List ℕ → List ℕ → List ℕ → List ℕ
+slotsAfter header marker frames old = after (runs.writeSays header marker frames (length old)) (runs.runOf header marker frames) old
+
+abbrev pub framesAfter : List ℕ → List ℕ → List ℕ → List ℕ → List ℕ
+framesAfter header marker slots old = after (runs.readSays header marker slots (length old)) (runs.framesRead header marker slots) old

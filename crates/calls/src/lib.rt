@@ -1,0 +1,44 @@
+// The calls for C, all in one place: each puts its arguments to the crate that has the work, and hands out place × 256 + number.
+// A slice is a pointer and a length. There is no `requires`: every input has its answer, and a refused call leaves the lent bytes as they were.
+ghost use mathlib.Core.Path.{_≡_};
+ghost use lib.ListN.{length};
+ghost use Rattle.answers.specs.Answer.{codeOf};
+ghost use Rattle.word.specs.Word as words;
+ghost use Rattle.run.specs.Run as runs;
+ghost use Rattle.calls.specs.After.{wordAfter, blockAfter, slotsAfter, framesAfter};
+
+// A packed block to its word (steps 2 to 7).
+#[no_mangle]
+pub extern "C" fn word_write(rate: u64, block: &[u8], word: &mut [u8]) -> u64
+    ensures { λ r. ⌜ r ≡ codeOf (words.writeSays rate (now (block .entry)) (length (now (word .entry)))) ⌝ }
+    ensures { λ _. ⌜ now (word .exit) ≡ wordAfter rate (now (block .entry)) (now (word .entry)) ⌝ }
+{
+    answers::code(word::write(rate, block, word))
+}
+
+// A word back to its block, if some block makes it.
+#[no_mangle]
+pub extern "C" fn word_read(rate: u64, word: &[u8], block: &mut [u8]) -> u64
+    ensures { λ r. ⌜ r ≡ codeOf (words.readSays rate (now (word .entry)) (length (now (block .entry)))) ⌝ }
+    ensures { λ _. ⌜ now (block .exit) ≡ blockAfter rate (now (word .entry)) (now (block .entry)) ⌝ }
+{
+    answers::code(word::read(rate, word, block))
+}
+
+// Frames to slots (steps 1 to 10).
+#[no_mangle]
+pub extern "C" fn run_write(header: &[u8], marker: &[u8], frames: &[u8], slots: &mut [u8]) -> u64
+    ensures { λ r. ⌜ r ≡ codeOf (runs.writeSays (now (header .entry)) (now (marker .entry)) (now (frames .entry)) (length (now (slots .entry)))) ⌝ }
+    ensures { λ _. ⌜ now (slots .exit) ≡ slotsAfter (now (header .entry)) (now (marker .entry)) (now (frames .entry)) (now (slots .entry)) ⌝ }
+{
+    answers::code(run_writer::write(header, marker, frames, slots))
+}
+
+// Slots back to frames, if some frames make them.
+#[no_mangle]
+pub extern "C" fn run_read(header: &[u8], marker: &[u8], slots: &[u8], frames: &mut [u8]) -> u64
+    ensures { λ r. ⌜ r ≡ codeOf (runs.readSays (now (header .entry)) (now (marker .entry)) (now (slots .entry)) (length (now (frames .entry)))) ⌝ }
+    ensures { λ _. ⌜ now (frames .exit) ≡ framesAfter (now (header .entry)) (now (marker .entry)) (now (slots .entry)) (now (frames .entry)) ⌝ }
+{
+    answers::code(run_reader::read(header, marker, slots, frames))
+}

@@ -1,0 +1,57 @@
+-- Demand 2. "The reader accepts a slot buffer only if some frames are written to it under the same header and marker, accepts every such buffer,
+-- and returns those frames. For single words and their blocks the same holds."
+--
+-- The definitions are those that the contracts of the calls cite (crate `calls`): what a call says (`writeSays`, `readSays`), the slots of frames
+-- (`runOf`), the frames in slots (`framesRead`), the word of a block (`wordOf`) and the block in a word (`blockIn`). `Bytes` says that the elements
+-- of a list are bytes, as they are in every slice.
+use mathlib.Core.Path.{_≡_, sym, ap, _∙_}
+use mathlib.Core.List.{List}
+use Prim.Native.Nat.{ℕ}
+use lib.ListN.{length}
+use Rattle.bits.specs.Pack.{Bytes}
+use Rattle.answers.specs.declared.Answer.the-variants.{Done}
+use Rattle.sizes.specs.Sizes.{wordBytes}
+use Rattle.word.specs.Word as words
+use Rattle.word.specs.Return as word-laws
+use Rattle.run.specs.Run as runs
+use Rattle.run.specs.Return as run-laws
+
+-- ---- runs
+
+-- If frames are written to a slot buffer, the reader accepts that buffer and returns those frames.
+pub run-written-read : (header marker frames : List ℕ) (n : ℕ) → Bytes frames → runs.writeSays header marker frames n ≡ Done
+    → (runs.readSays header marker (runs.runOf header marker frames) (length frames) ≡ Done)
+    × (runs.framesRead header marker (runs.runOf header marker frames) ≡ frames)
+run-written-read = run-laws.written-read
+
+-- If the reader accepts a slot buffer with some frames, the writer writes that very buffer for those frames.
+pub run-read-written : (header marker slots : List ℕ) (n : ℕ) → Bytes slots → runs.readSays header marker slots n ≡ Done
+    → (runs.writeSays header marker (runs.framesRead header marker slots) (length slots) ≡ Done)
+    × (runs.runOf header marker (runs.framesRead header marker slots) ≡ slots)
+run-read-written = run-laws.read-written
+
+-- So two different sets of frames never give one buffer.
+pub run-one : (header marker a b : List ℕ) (n m : ℕ) → Bytes a → Bytes b → runs.writeSays header marker a n ≡ Done → runs.writeSays header marker b m ≡ Done
+    → runs.runOf header marker a ≡ runs.runOf header marker b → a ≡ b
+run-one header marker a b n m ha hb wa wb e =
+    sym (run-written-read header marker a n ha wa .1) ∙ ap (runs.framesRead header marker) e ∙ run-written-read header marker b m hb wb .1
+
+-- ---- words
+
+-- If a block is written to a word, the reader accepts that word and returns that block.
+pub word-written-read : (rate : ℕ) (block : List ℕ) → Bytes block → words.writeSays rate block wordBytes ≡ Done
+    → (words.readSays rate (words.wordOf rate block) (length block) ≡ Done)
+    × (words.blockIn rate (words.wordOf rate block) ≡ block)
+word-written-read = word-laws.written-read
+
+-- If the reader accepts a word with some block, the writer writes that very word for that block.
+pub word-read-written : (rate : ℕ) (word : List ℕ) (n : ℕ) → Bytes word → words.readSays rate word n ≡ Done
+    → (words.writeSays rate (words.blockIn rate word) (length word) ≡ Done)
+    × (words.wordOf rate (words.blockIn rate word) ≡ word)
+word-read-written = word-laws.read-written
+
+-- So two different blocks of one rate never give one word.
+pub word-one : (rate : ℕ) (a b : List ℕ) → Bytes a → Bytes b → words.writeSays rate a wordBytes ≡ Done → words.writeSays rate b wordBytes ≡ Done
+    → words.wordOf rate a ≡ words.wordOf rate b → a ≡ b
+word-one rate a b ha hb wa wb e =
+    sym (word-written-read rate a ha wa .1) ∙ ap (words.blockIn rate) e ∙ word-written-read rate b hb wb .1

@@ -1,0 +1,68 @@
+-- Demand 3: sums, distances and flips, of any blocks that the word writer accepts.
+--
+-- An information block is the k bits of a packed block (`infoBits`); bit i of packed bytes is `bitAt`, the first bit of a byte highest. The coded
+-- bits taken back out of a word are `codedIn`. The numbers stand in the statements themselves.
+use mathlib.Core.Path.{_≡_, ap, _∙_}
+use mathlib.Core.Bool.{Bool, true}
+use mathlib.Core.List.{List}
+use mathlib.Core.Logic.{_⊎_}
+use Prim.Native.Nat.{ℕ, _+_, _*_, _≤_, _<_}
+use native.Mathlib.Omega.{arith}
+use lib.Bits.{bitXor}
+use lib.ListN.{length}
+use Rattle.bits.specs.Choice.{bool, bool-lt}
+use Rattle.bits.specs.Sum.{xor-bit}
+use Rattle.bits.specs.Pack.{bitAt, bytesOf, Bytes, plus, bit-lt, bit-bytes, length-bytes}
+use Rattle.bits.specs.Weight.{differences}
+use Rattle.answers.specs.Answer.{numberOf}
+use Rattle.answers.specs.declared.Answer.the-variants.{Done}
+use Rattle.sizes.specs.Rate.{infoBits, blockBytes}
+use Rattle.sizes.specs.Sizes.{wordBytes}
+use Rattle.convolution.specs.Distance.{distance}
+use Rattle.word.specs.Word.{wordOf, codedIn, writeSays, readSays}
+use Rattle.word.specs.Sums as law-of-sums
+use Rattle.word.specs.Distances as law-of-distances
+use Rattle.word.specs.Flips as law-of-flips
+
+-- "For every three information blocks of one rate, and the fourth that is their bitwise sum: the word written for the fourth is the bitwise sum of
+-- the words written for the three." `plus` adds two lists of bytes bit by bit; the fourth is accepted too.
+pub sums : (rate : ℕ) (a b c : List ℕ) → Bytes a → Bytes b → Bytes c
+    → writeSays rate a wordBytes ≡ Done → writeSays rate b wordBytes ≡ Done → writeSays rate c wordBytes ≡ Done
+    → (writeSays rate (plus (plus a b) c) wordBytes ≡ Done)
+    × (wordOf rate (plus (plus a b) c) ≡ plus (plus (wordOf rate a) (wordOf rate b)) (wordOf rate c))
+sums = law-of-sums.sums
+
+-- in how many of the 15,120 places the coded bits taken back out of the words of two blocks differ
+abbrev pub apart : ℕ → List ℕ → List ℕ → ℕ
+apart rate a b = differences (codedIn (wordOf rate a)) (codedIn (wordOf rate b)) 15120
+
+-- "For every two blocks of one rate that differ: the coded bits taken back out of their words differ in at least 8 of the 15,120 places at rate
+-- 1/3, 5 at 1/2 and 3 at 2/3." They differ in bit i.
+pub distances : (rate : ℕ) (a b : List ℕ) → Bytes a → Bytes b → writeSays rate a wordBytes ≡ Done → writeSays rate b wordBytes ≡ Done
+    → (i : ℕ) → i < infoBits rate → (bitAt a i ≡ bitAt b i → ⊥)
+    → (rate ≡ 0 → 8 ≤ apart rate a b) × (rate ≡ 1 → 5 ≤ apart rate a b) × (rate ≡ 2 → 3 ≤ apart rate a b)
+unfolding distance
+distances rate a b ha hb wa wb i l ne =
+    let d : distance rate ≤ apart rate a b = law-of-distances.distances rate a b ha hb wa wb i l ne in
+    (λ e. omega (arith, d, ap distance e), λ e. omega (arith, d, ap distance e), λ e. omega (arith, d, ap distance e))
+
+-- a word with the bits of a set flipped
+unfoldable pub flipped : (ℕ → Bool) → List ℕ → List ℕ
+flipped flips word = bytesOf wordBytes (λ j. bitXor (bitAt word j) (bool (flips j)))
+
+-- "For every written word of every rate, whichever one or more of its bits are flipped, all within 18 consecutive bits: read at its own rate, it is
+-- refused before the reader comes to the check field." That is 13 or 14, or 8 where the slice lent for the block has another length. Bit i is one
+-- that is flipped, and the 18 begin with bit `start`.
+pub flips-found : (rate : ℕ) (block : List ℕ) → Bytes block → writeSays rate block wordBytes ≡ Done
+    → (flips : ℕ → Bool) (start : ℕ) → ((j : ℕ) → j < 15120 → flips j ≡ true → (start ≤ j) × (j < start + 18))
+    → (i : ℕ) → i < 15120 → flips i ≡ true
+    → (n : ℕ)
+    → (n ≡ blockBytes rate
+    → (numberOf (readSays rate (flipped flips (wordOf rate block)) n) ≡ 13) ⊎ (numberOf (readSays rate (flipped flips (wordOf rate block)) n) ≡ 14))
+    × ((n ≡ blockBytes rate → ⊥) → numberOf (readSays rate (flipped flips (wordOf rate block)) n) ≡ 8)
+unfolding flipped
+flips-found rate block b w flips start within i l f n =
+    let bit : ℕ → ℕ = λ j. bitXor (bitAt (wordOf rate block) j) (bool (flips j)) in
+    law-of-flips.flips-found rate block b w flips start within i l f (flipped flips (wordOf rate block)) (length-bytes wordBytes bit)
+    (λ j u. bit-bytes wordBytes bit (λ j. xor-bit (bitAt (wordOf rate block) j) (bool (flips j)) (bit-lt (wordOf rate block) j) (bool-lt (flips j))) j (omega arith))
+    n

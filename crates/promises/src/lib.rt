@@ -1,0 +1,1 @@
+// What the customer is promised, one file a demand, in `specs/`. There is no code here.

@@ -1,0 +1,128 @@
+// The run reader: slots to frames. Questions 1 to 8, then 9 to 18, and the frames once all are answered yes.
+use answers::Answer;
+use header::Fields;
+use header::Parameters;
+use header::quantities;
+use plan::Plan;
+ghost use mathlib.Core.Path.{_≡_};
+ghost use Prim.Native.Nat.{ℕ, _*_, _<_};
+ghost use lib.ListN.{length};
+ghost use Rattle.answers.specs.declared.Answer.the-variants.{Done};
+ghost use Rattle.answers.specs.Answer.{after};
+ghost use Rattle.sizes.specs.Rate.{infoBits, blockBytes};
+ghost use Rattle.word.specs.Word.{blockIn};
+ghost use Rattle.header.specs.Quantities.{blockCount};
+ghost use Rattle.plan.specs.Accepted.{Entered};
+ghost use Rattle.plan.specs.Plan.{planOf};
+ghost use Rattle.frames.specs.Stream.{joined, framesIn};
+ghost use Rattle.frames.specs.Answer.{framesSay};
+ghost use Rattle.capture.specs.Capture.{wordOut};
+ghost use Rattle.run.specs.Parts.{part};
+ghost use Rattle.run.specs.Run.{wordSays, wordsSay, framesOf, framesRead, bufferSays, readSays};
+ghost use Rattle.run_reader.specs.Needs.{ReadsWord, ReadsWords, Reads, Finishes};
+
+// Questions 13 to 15 of word j, and its block.
+fn read_word(
+    f: Fields,
+    p: Plan,
+    slots: &[u8],
+    j: usize,
+    word: &mut [u8],
+    block: &mut [u8],
+) -> Answer
+    requires { ⌜ ReadsWord f p (now slots) j (now word) (now block) ⌝ }
+    ensures { λ r. ⌜ r ≡ wordSays f (wordOut p (now (slots .entry))) j ⌝ }
+    ensures { λ r. ⌜ now (block .exit) ≡ after r (blockIn (f .rate) (wordOut p (now (slots .entry)) j)) (now (block .entry)) ⌝ }
+{
+    capture::word_out(p, slots, j, word);
+    let rate = f.rate;
+    word::read(rate, word, block)
+}
+
+// Questions 13 to 15 of one word after another, and the blocks.
+fn read_words(f: Fields, p: Plan, slots: &[u8], word: &mut [u8], blocks: &mut [u8]) -> Answer
+    requires { ⌜ ReadsWords f p (now slots) (now word) (now blocks) ⌝ }
+    ensures { λ r. ⌜ r ≡ wordsSay f (wordOut p (now (slots .entry))) ⌝ }
+    ensures { λ r. ⌜ (r ≡ Done → (j : ℕ) → j < blockCount f → part (blockBytes (f .rate)) (now (blocks .exit)) j ≡ blockIn (f .rate) (wordOut p (now (slots .entry)) j)) ⌝ }
+{
+    let n = quantities::block_count(f);
+    let h = sizes::block_bytes(f.rate);
+    let mut j = 0;
+    while j < n {
+        let at = j * h;
+        let end = at + h;
+        let answer = read_word(f, p, slots, j, word, &mut blocks[at..end]);
+        let Answer::Done = answer else {
+            return answers::moved_to(answer, j);
+        };
+        j += 1;
+    }
+    Answer::Done
+}
+
+// Questions 16 and 18, and the frames. Nothing is written before they are answered yes.
+fn finish(f: Fields, blocks: &[u8], frames: &mut [u8]) -> Answer
+    requires { ⌜ Finishes f (now blocks) (now frames) ⌝ }
+    ensures { λ r. ⌜ r ≡ framesSay (f .size) (f .frames) (blockCount f * infoBits (f .rate)) (joined (f .rate) (part (blockBytes (f .rate)) (now (blocks .entry)))) ⌝ }
+    ensures { λ r. ⌜ now (frames .exit) ≡ after r (framesIn (f .size) (f .frames) (joined (f .rate) (part (blockBytes (f .rate)) (now (blocks .entry))))) (now (frames .entry)) ⌝ }
+{
+    let rate = f.rate;
+    let size = f.size;
+    let count = f.frames;
+    let total = quantities::block_count(f);
+    let answer = frames::judge(rate, blocks, total, size, count);
+    let Answer::Done = answer else {
+        return answer;
+    };
+    frames::frames_out(rate, blocks, total, size, count, frames);
+    answer
+}
+
+// The questions put to slots of the right length, and the frames. `word` and `blocks` are room for one word and for all blocks.
+fn read_in(
+    q: Parameters,
+    slots: &[u8],
+    word: &mut [u8],
+    blocks: &mut [u8],
+    frames: &mut [u8],
+) -> Answer
+    requires { ⌜ Reads q (now slots) (now word) (now blocks) (now frames) ⌝ }
+    ensures { λ r. ⌜ r ≡ bufferSays (q .fields) (planOf q) (now (slots .entry)) ⌝ }
+    ensures { λ r. ⌜ now (frames .exit) ≡ after r (framesOf (q .fields) (wordOut (planOf q) (now (slots .entry)))) (now (frames .entry)) ⌝ }
+{
+    let f = q.fields;
+    let p = plan::plan_of(q);
+    let found = capture::judge(p, slots);
+    let Answer::Done = found else {
+        return found;
+    };
+    let heard = read_words(f, p, slots, word, blocks);
+    let Answer::Done = heard else {
+        return heard;
+    };
+    finish(f, blocks, frames)
+}
+
+// With room for one word and for all blocks.
+fn read_with(q: Parameters, slots: &[u8], frames: &mut [u8]) -> Answer
+    requires { ⌜ Entered q (length (now frames)) (length (now slots)) ⌝ }
+    ensures { λ r. ⌜ r ≡ bufferSays (q .fields) (planOf q) (now (slots .entry)) ⌝ }
+    ensures { λ r. ⌜ now (frames .exit) ≡ after r (framesOf (q .fields) (wordOut (planOf q) (now (slots .entry)))) (now (frames .entry)) ⌝ }
+{
+    let mut word = [0u8; 1890];
+    let mut blocks = [0u8; 132086];
+    read_in(q, slots, &mut word, &mut blocks, frames)
+}
+
+// Reads the frames of slots.
+pub fn read(header: &[u8], marker: &[u8], slots: &[u8], frames: &mut [u8]) -> Answer
+    ensures { λ r. ⌜ r ≡ readSays (now (header .entry)) (now (marker .entry)) (now (slots .entry)) (length (now (frames .entry))) ⌝ }
+    ensures { λ r. ⌜ now (frames .exit) ≡ after r (framesRead (now (header .entry)) (now (marker .entry)) (now (slots .entry))) (now (frames .entry)) ⌝ }
+{
+    let checked = plan::check(header, marker, frames.len(), slots.len());
+    let answer = checked.answer;
+    let Answer::Done = answer else {
+        return answer;
+    };
+    read_with(checked.parameters, slots, frames)
+}

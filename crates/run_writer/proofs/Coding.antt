@@ -1,0 +1,63 @@
+-- The word of a block of the stream, and the slots of all words, as the writer's code comes by them.
+use mathlib.Core.Path.{_≡_, refl, sym, ap, _∙_}
+use mathlib.Core.List.{List}
+use Prim.Native.Nat.{ℕ, _*_, _≤_, _<_}
+use native.Mathlib.Omega.{arith}
+use lib.ListN.{length}
+use Rattle.answers.specs.declared.Answer.{Answer}
+use Rattle.answers.specs.Answer.{after}
+use Rattle.sizes.specs.Sizes.{wordBytes}
+use Rattle.word.specs.Word.{Packed, wordOf}
+use Rattle.word.specs.Word.{writeSays as wordWrites}
+use Rattle.word.specs.Exports.{packed-written}
+use Rattle.header.specs.Quantities.{blockCount, frameBytes}
+use Rattle.header.specs.Bounds.{blocks-most}
+use Rattle.header.specs.Valid.{Valid}
+use Rattle.header.specs.declared.Fields.{Fields}
+use Rattle.header.specs.declared.Parameters.{Parameters}
+use Rattle.plan.specs.declared.Plan.{Plan}
+use Rattle.plan.specs.Plan.{planOf, Fine, slotBytes}
+use Rattle.plan.specs.Accepted.{plan-words}
+use Rattle.frames.specs.Stream.{streamBit, blockAt}
+use Rattle.frames.specs.Blocks.{block-packed}
+use Rattle.frames.specs.Back.{stream-bits}
+use Rattle.frames.specs.Ranges.{Frames}
+use Rattle.channel.specs.Symbols.{wordIn}
+use Rattle.slots.specs.Slots.{slotsOf}
+use Rattle.slots.specs.Needs.{Lent}
+use Rattle.slots.specs.Laws.{slots-same}
+use Rattle.run.specs.Run.{streamOf, wordAt}
+use Rattle.run_writer.specs.Needs.{wordsRoom}
+
+-- a packed block is always written
+pub coded : (f : Fields) → Valid f → (frames : List ℕ) (j n : ℕ) (block old new : List ℕ) (r : Answer) → block ≡ blockAt (f .rate) (streamBit (f .size) (f .frames) frames) j → n ≡ wordBytes
+    → r ≡ wordWrites (f .rate) block n → new ≡ after r (wordOf (f .rate) block) old → new ≡ wordAt f frames j
+unfolding wordAt streamOf
+coded f v frames j n block old new r eb en er e =
+    let b : List ℕ = blockAt (f .rate) (streamBit (f .size) (f .frames) frames) j in
+    let p = block-packed (f .rate) (streamBit (f .size) (f .frames) frames) (v .rate) (stream-bits (f .size) (f .frames) frames) j in
+    let packed : Packed (f .rate) b = record { size = p .0; bytes = p .1; spare = p .2 } in
+    let said : r ≡ wordWrites (f .rate) b wordBytes = er ∙ ap (λ (x : List ℕ). wordWrites (f .rate) x n) eb ∙ ap (wordWrites (f .rate) b) en in
+    e
+    ∙ ap (λ (a : Answer). after a (wordOf (f .rate) block) old) (said ∙ packed-written (f .rate) b (v .rate) packed)
+    ∙ ap (wordOf (f .rate)) eb
+
+-- the frames of a run, as step 1 asks for them
+pub frames-lent : (f : Fields) → Valid f → (frames : List ℕ) → length frames ≡ frameBytes f → Frames (f .size) (f .frames) frames
+unfolding frameBytes
+frames-lent f v frames e =
+    record { size1 = v .size-least; size2 = v .size-most; count1 = v .frames-least; count2 = v .frames-most; long = e }
+
+-- the plan, as steps 8 to 10 ask for it
+pub plan-lent : (q : Parameters) (p : Plan) (words slots : List ℕ) → p ≡ planOf q → Valid (q .fields) → Fine (planOf q) → length words ≡ wordsRoom → length slots ≡ slotBytes (planOf q) → Lent p words slots
+plan-lent q p words slots e v fine lw ls =
+    let few : blockCount (q .fields) ≤ 211 = blocks-most (q .fields) v in
+    let enough : planOf q .words * 1890 ≤ length words = omega (arith, plan-words q) in
+    rw e (record { given = record { fine = fine; long = enough }; room = ls })
+
+-- the slots of words that stand back to back
+pub slots-coded : (q : Parameters) (p : Plan) (words frames slots : List ℕ) → p ≡ planOf q → ((j : ℕ) → j < blockCount (q .fields) → wordIn words j ≡ wordAt (q .fields) frames j)
+    → slots ≡ slotsOf p (wordIn words) → slots ≡ slotsOf (planOf q) (wordAt (q .fields) frames)
+slots-coded q p words frames slots e h s =
+    s ∙ ap (λ (x : Plan). slotsOf x (wordIn words)) e
+    ∙ slots-same (planOf q) (wordIn words) (wordAt (q .fields) frames) (λ j l. h j (omega (arith, plan-words q)))

@@ -1,0 +1,72 @@
+-- Questions 1 to 8 by the check; the slots are written only where all are answered yes.
+use mathlib.Core.Path.{_≡_, sym, ap, ap₂, _∙_}
+use mathlib.Core.List.{List}
+use lib.ListN.{length}
+use Rattle.answers.specs.declared.Answer.{Answer}
+use Rattle.answers.specs.declared.Answer.the-variants.{Done}
+use Rattle.answers.specs.Answer.{after}
+use Rattle.answers.proofs.Refused.{kept}
+use Rattle.header.specs.Header.{fieldsOf}
+use Rattle.header.specs.Marks.{parametersOf}
+use Rattle.header.specs.declared.Parameters.{Parameters}
+use Rattle.plan.specs.Plan.{planOf}
+use Rattle.plan.specs.Accepted.{entered}
+use Rattle.slots.specs.Slots.{slotsOf}
+use Rattle.run.specs.Run.{wordAt, runOf, writeSays}
+use borrow.Author.Needs.{needs}
+use Rattle.run_writer.proofs.write.Statement.{statement}
+use Rattle.run_writer.proofs.write.Tie as tie
+
+-- the slots of the checked parameters are the header's
+run-is : (header marker frames : List _) (q : Parameters) → q ≡ parametersOf (fieldsOf header) marker → slotsOf (planOf q) (wordAt (q .fields) frames) ≡ runOf header marker frames
+unfolding runOf parametersOf
+run-is header marker frames q e = ap (λ (x : Parameters). slotsOf (planOf x) (wordAt (x .fields) frames)) e
+
+check-requires : tie.Need-check-requires
+check-requires c κs = search needs
+
+enum-told : tie.Need-enum-told
+enum-told c = search needs
+
+enum-told-2 : tie.Need-enum-told-2
+enum-told-2 c = search needs
+
+returns : tie.Need-returns
+unfolding writeSays
+returns c =
+    let k = c .before .before .check in
+    (k .ensures .0, kept (k .result .answer) _ _ (c .before .match .keys2))
+
+write-with-requires : tie.Need-write-with-requires
+write-with-requires c κs =
+    let a = c .before .before .before .before .before .before .before .before .args in
+    let k = c .before .before .before .check in
+    let done = c .before .enum-told .given .1 in
+    entered (a .header .now) (a .marker .now) (length (a .frames .now)) (length (a .slots .now)) (k .result .parameters) (sym (k .ensures .0) ∙ done) (k .ensures .1 done)
+
+same-length : tie.Need-same-length
+same-length c = search needs
+
+returns-2 : tie.Need-returns-2
+unfolding writeSays
+returns-2 c =
+    let a = c .before .before .before .before .before .before .before .before .before .before .before .args in
+    let k = c .before .before .before .before .before .before .check in
+    let done = c .before .before .before .before .enum-told .given .1 in (
+      k .ensures .0,
+      c .before .before .write-with .ensures
+          ∙ run-is (a .header .now) (a .marker .now) (a .frames .now) (k .result .parameters) (k .ensures .1 done)
+          ∙ ap (λ (r : Answer). after r (runOf (a .header .now) (a .marker .now) (a .frames .now)) (a .slots .now)) (sym done),
+    )
+
+pub write-spec : {M : Type 1} → statement M
+write-spec =
+    tie.close
+    (tie.spec
+    check-requires
+    enum-told
+    enum-told-2
+    returns
+    write-with-requires
+    same-length
+    returns-2)

@@ -1,0 +1,45 @@
+-- The words of the frames, and the slots of the words.
+use mathlib.Core.Path.{_∙_}
+use Rattle.run_writer.proofs.Coding.{plan-lent, slots-coded}
+use borrow.Author.Needs.{needs}
+use Rattle.run_writer.proofs.write_in.Statement.{statement}
+use Rattle.run_writer.proofs.write_in.Tie as tie
+
+code-words-requires : tie.Need-code-words-requires
+code-words-requires c κs = search needs
+
+plan-of-requires : tie.Need-plan-of-requires
+plan-of-requires c κs = search needs
+
+write-requires : tie.Need-write-requires
+write-requires c κs =
+    let s = c .before .before .before .before .before .before .before .before .before .before .before .before .before .before .before in
+    let w = c .before .before .before .before .before .before .before .code-words in
+    plan-lent (s .args .q) _ _ _ (c .before .before .plan-of .ensures) (s .pre .entered .valid) (s .pre .entered .fine) (w .kept .1 .1 .1 .0 ∙ s .pre .words-are) (s .pre .entered .slots-are)
+
+same-length : tie.Need-same-length
+same-length c = search needs
+
+same-length-2 : tie.Need-same-length-2
+same-length-2 c = search needs
+
+same-length-3 : tie.Need-same-length-3
+same-length-3 c = search needs
+
+returns : tie.Need-returns
+returns c =
+    let s = c .before .before .before .before .before .before .before .before .before .before .before .before .before .before .before .before .before .before in
+    let w = c .before .before .before .before .before .before .before .before .before .before .code-words in
+    slots-coded (s .args .q) _ (w .last .1 .1 .1 .0) (s .args .frames .now) _ (c .before .before .before .before .before .plan-of .ensures) (w .ensures) (c .before .before .write .ensures)
+
+pub write-in-spec : {M : Type 1} → statement M
+write-in-spec =
+    tie.close
+    (tie.spec
+    code-words-requires
+    plan-of-requires
+    write-requires
+    same-length
+    same-length-2
+    same-length-3
+    returns)

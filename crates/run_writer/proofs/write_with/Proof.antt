@@ -1,0 +1,33 @@
+-- The rooms have their lengths.
+use mathlib.Core.Path.{refl, sym}
+use Prim.Native.Nat.{ℕ}
+use lib.ListN.{length-replicate}
+use borrow.Author.Needs.{needs}
+use Rattle.run_writer.proofs.write_with.Statement.{statement}
+use Rattle.run_writer.proofs.write_with.Tie as tie
+
+slice-aggregate-write-in : tie.Need-slice-aggregate-write-in
+slice-aggregate-write-in c = search needs
+
+slice-aggregate-write-in-2 : tie.Need-slice-aggregate-write-in-2
+slice-aggregate-write-in-2 c = search needs
+
+write-in-requires : tie.Need-write-in-requires
+write-in-requires c κs =
+    record { entered = c .before .before .before .before .before .pre; space-is = refl; words-are = length-replicate {A = ℕ} 398790 0 }
+
+same-length : tie.Need-same-length
+same-length c = search needs
+
+returns : tie.Need-returns
+returns c = search needs
+
+pub write-with-spec : {M : Type 1} → statement M
+write-with-spec =
+    tie.close
+    (tie.spec
+    slice-aggregate-write-in
+    slice-aggregate-write-in-2
+    write-in-requires
+    same-length
+    returns)

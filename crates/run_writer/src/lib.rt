@@ -1,0 +1,77 @@
+// The run writer: frames to slots. Questions 1 to 8, the words of the frames' blocks, and the slots of the words.
+use answers::Answer;
+use header::Fields;
+use header::Parameters;
+use header::quantities;
+ghost use mathlib.Core.Path.{_≡_};
+ghost use Prim.Native.Nat.{ℕ, _<_};
+ghost use lib.ListN.{length};
+ghost use Rattle.answers.specs.Answer.{after};
+ghost use Rattle.header.specs.Quantities.{blockCount};
+ghost use Rattle.plan.specs.Accepted.{Entered};
+ghost use Rattle.plan.specs.Plan.{planOf};
+ghost use Rattle.channel.specs.Symbols.{wordIn};
+ghost use Rattle.slots.specs.Slots.{slotsOf};
+ghost use Rattle.run.specs.Run.{wordAt, runOf, writeSays};
+ghost use Rattle.run_writer.specs.Needs.{Codes, CodesAll, Writes};
+
+// Word j of the frames: its block, coded. `space` is for a packed block of any rate.
+fn code_word(f: Fields, frames: &[u8], j: usize, space: &mut [u8], word: &mut [u8])
+    requires { ⌜ Codes f (now frames) j (now space) (now word) ⌝ }
+    ensures { λ _. ⌜ now (word .exit) ≡ wordAt f (now (frames .entry)) j ⌝ }
+{
+    let rate = f.rate;
+    let size = f.size;
+    let count = f.frames;
+    let h = sizes::block_bytes(rate);
+    frames::fill_block(rate, frames, size, count, j, &mut space[..h]);
+    word::write(rate, &space[..h], word);
+}
+
+// All of them, back to back.
+fn code_words(f: Fields, frames: &[u8], space: &mut [u8], words: &mut [u8])
+    requires { ⌜ CodesAll f (now frames) (now space) (now words) ⌝ }
+    ensures { λ _. ⌜ ((j : ℕ) → j < blockCount f → wordIn (now (words .exit)) j ≡ wordAt f (now (frames .entry)) j) ⌝ }
+{
+    let n = quantities::block_count(f);
+    let mut j = 0;
+    while j < n {
+        let at = j * sizes::WORD_BYTES;
+        let end = at + sizes::WORD_BYTES;
+        code_word(f, frames, j, space, &mut words[at..end]);
+        j += 1;
+    }
+}
+
+fn write_in(q: Parameters, frames: &[u8], space: &mut [u8], words: &mut [u8], slots: &mut [u8])
+    requires { ⌜ Writes q (now frames) (now space) (now words) (now slots) ⌝ }
+    ensures { λ _. ⌜ now (slots .exit) ≡ slotsOf (planOf q) (wordAt (q .fields) (now (frames .entry))) ⌝ }
+{
+    let f = q.fields;
+    code_words(f, frames, space, words);
+    slots::write(plan::plan_of(q), words, slots);
+}
+
+// The slots of the frames, with room for their words.
+fn write_with(q: Parameters, frames: &[u8], slots: &mut [u8])
+    requires { ⌜ Entered q (length (now frames)) (length (now slots)) ⌝ }
+    ensures { λ _. ⌜ now (slots .exit) ≡ slotsOf (planOf q) (wordAt (q .fields) (now (frames .entry))) ⌝ }
+{
+    let mut space = [0u8; 1256];
+    let mut words = [0u8; 398790];
+    write_in(q, frames, &mut space, &mut words, slots)
+}
+
+// Writes the slots of frames.
+pub fn write(header: &[u8], marker: &[u8], frames: &[u8], slots: &mut [u8]) -> Answer
+    ensures { λ r. ⌜ r ≡ writeSays (now (header .entry)) (now (marker .entry)) (now (frames .entry)) (length (now (slots .entry))) ⌝ }
+    ensures { λ r. ⌜ now (slots .exit) ≡ after r (runOf (now (header .entry)) (now (marker .entry)) (now (frames .entry))) (now (slots .entry)) ⌝ }
+{
+    let checked = plan::check(header, marker, frames.len(), slots.len());
+    let answer = checked.answer;
+    let Answer::Done = answer else {
+        return answer;
+    };
+    write_with(checked.parameters, frames, slots);
+    answer
+}

@@ -1,0 +1,20 @@
+-- The sizes that several crates share, each named once.
+use Prim.Native.Nat.{ℕ, _+_, _*_}
+
+-- the coded bits of a word (step 4), and its bytes
+abbrev pub wordBits : ℕ
+wordBits = 15120
+
+abbrev pub wordBytes : ℕ
+wordBytes = 1890
+
+-- the frame marker, and its bits (step 1)
+abbrev pub frameMarker : ℕ
+frameMarker = 0x034776C7272895B0
+
+abbrev pub markerBits : ℕ
+markerBits = 64
+
+-- the bits of a marked frame of `size` bytes
+abbrev pub span : ℕ → ℕ
+span size = markerBits + 8 * size

@@ -1,0 +1,42 @@
+-- The coded bits of blocks that differ differ in many places.
+use mathlib.Core.Path.{_≡_, sym, ap₂, _∙_}
+use mathlib.Core.List.{List}
+use mathlib.Core.Logic.{_⊎_, ⊎-elim}
+use Prim.Native.Nat.{ℕ, _+_, _-_, _≤_, _<_}
+use native.Mathlib.Omega.{arith}
+use lib.Bits.{bitXor}
+use Rattle.bits.specs.Choice.{bit-cases}
+use Rattle.bits.specs.Sum.{xor-bit, same-xor}
+use Rattle.bits.specs.Pack.{bitAt, Bytes, Bits}
+use Rattle.bits.specs.Weight.{differences, differences-weight, differences-same, weight, weight-same}
+use Rattle.sizes.specs.Rate.{infoBits}
+use Rattle.sizes.specs.Sizes.{wordBits, wordBytes}
+use Rattle.convolution.specs.Code.{encode, encode-bits, encode-plus}
+use Rattle.convolution.specs.Distance.{distance, weight-distance}
+use Rattle.word.specs.Word.{inputOf, wordOf, codedIn, writeSays}
+use Rattle.word.specs.Word.Laws as Laws
+use Rattle.word.specs.Word.Answers as Answers
+use Rattle.answers.specs.declared.Answer.the-variants.{Done}
+
+pub distances : (rate : ℕ) (a b : List ℕ) → Bytes a → Bytes b → writeSays rate a wordBytes ≡ Done → writeSays rate b wordBytes ≡ Done
+    → (i : ℕ) → i < infoBits rate → (bitAt a i ≡ bitAt b i → ⊥)
+    → distance rate ≤ differences (codedIn (wordOf rate a)) (codedIn (wordOf rate b)) wordBits
+distances rate a b ha hb ea eb i l ne =
+    let h : rate < 3 = Answers.write-accepted rate a wordBytes ea .rate-is in
+    let x : ℕ → ℕ = inputOf rate a in
+    let y : ℕ → ℕ = inputOf rate b in
+    let bx : Bits x = Laws.input-bits rate a in
+    let by : Bits y = Laws.input-bits rate b in
+    let δ : ℕ → ℕ = λ i. bitXor (x i) (y i) in
+    let bδ : Bits δ = λ i. xor-bit (x i) (y i) (bx i) (by i) in
+    let zero-at : (i : ℕ) → infoBits rate + 32 ≤ i → δ i ≡ 0 = λ i u. ap₂ bitXor (Laws.input-end rate a i u) (Laws.input-end rate b i u) in
+    let one : δ i ≡ 1 =
+    ⊎-elim
+    (λ (z : δ i ≡ 0). absurd (ne (sym (Laws.input-block rate a i l) ∙ same-xor (x i) (y i) z ∙ Laws.input-block rate b i l)))
+    (λ (o : δ i ≡ 1). o)
+    (bit-cases (δ i) (bδ i)) in
+    let count : differences (codedIn (wordOf rate a)) (codedIn (wordOf rate b)) wordBits ≡ weight (encode rate δ) wordBits =
+    differences-same (codedIn (wordOf rate a)) (codedIn (wordOf rate b)) (encode rate x) (encode rate y) wordBits (Laws.coded-written rate a) (Laws.coded-written rate b)
+    ∙ differences-weight (encode rate x) (encode rate y) (encode-bits rate x bx) (encode-bits rate y by) wordBits
+    ∙ weight-same (λ j. bitXor (encode rate x j) (encode rate y j)) (encode rate δ) wordBits (λ j k. sym (encode-plus rate x y j)) in
+    rw count (weight-distance δ bδ rate h (zero-at (infoBits rate + 32) (omega arith)) (zero-at (infoBits rate + 33) (omega arith)) i (omega arith) one)
