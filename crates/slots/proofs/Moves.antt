@@ -1,5 +1,5 @@
 -- A zero's pulse moved: its group then holds another symbol, and no other group is touched.
-use mathlib.Core.Path.{_≡_, refl, sym, ap, ap₂, _∙_}
+use mathlib.Core.Path.{_≡_, sym, ap, ap₂, _∙_}
 use mathlib.Core.List.{List}
 use mathlib.Core.Logic.{⊎-elim}
 use Prim.Native.Nat.{ℕ, _+_, _*_, _/_, _%_, _≤_, _<_}
@@ -40,33 +40,29 @@ pub holds-same : (p : Plan) (f g : ℕ → ℕ) (end : ℕ) (slots : List ℕ) �
 holds-same p f g end slots same h =
     record { room = h .room; bytes = h .bytes; bits = λ x l. h .bits x l ∙ ap (λ (v : ℕ). bool (eqb (x % p .group) v)) (same (x / p .group)) }
 
-module _ (p : Plan) (f g : ℕ → ℕ) (end s q : ℕ) (slots : List ℕ) where
-  pub moved : List ℕ
-  moved = flipBit (flipBit slots (s * p .group)) (s * p .group + q)
-
-  -- two flips of one slot are none, so that q may be 0
-  pub holds-moved : s < symbolCount p → q < p .group → f s ≡ 0 → g s ≡ q → ((u : ℕ) → (u ≡ s → ⊥) → f u ≡ g u)
-      → Holds p f end slots → (after : List ℕ) → after ≡ flipBit (flipBit slots (s * p .group)) (s * p .group + q) → Bytes after → Holds p g end after
-  holds-moved l small zero there else h after e bytes =
-      let G : ℕ = p .group in
-      let none : 0 < G = omega arith in
-      let front : s * G + 0 ≡ s * G = omega arith in
-      let low : s * G < 8 * length slots = rw (h .room) (let i : s * G + 0 < 8 * slotBytes p = inside p s 0 l none in omega arith) in
-      let high : s * G + q < 8 * length (flipBit slots (s * G)) = rw (length-flip slots (s * G), h .room) (inside p s q l small) in
-      let both : (x : ℕ) → bitAt after x ≡ bitXor (bitXor (bitAt slots x) (bool (eqb x (s * G + 0)))) (bool (eqb x (s * G + q))) = λ x.
-      ap (λ (xs : List ℕ). bitAt xs x) e
-      ∙ flip-bit (flipBit slots (s * G)) (s * G + q) x high
-      ∙ ap (λ (v : ℕ). bitXor v (bool (eqb x (s * G + q)))) (flip-bit slots (s * G) x low ∙ ap (λ (y : ℕ). bitXor (bitAt slots x) (bool (eqb x y))) (sym front)) in
-      record {
-        room = ap length e ∙ length-flip (flipBit slots (s * G)) (s * G + q) ∙ length-flip slots (s * G) ∙ h .room;
-        bytes = bytes;
-        bits = λ x k. both x ∙ ⊎-elim
-            (λ (d : x / G ≡ s).
-            let was : bitAt slots x ≡ bool (eqb (x % G) 0) = h .bits x k ∙ ap (λ (v : ℕ). bool (eqb (x % G) v)) (ap f d ∙ zero) in
-            rw (was, in-group G s 0 x none d, in-group G s q x small d, xor-self (bool (eqb (x % G) 0)), xor-zero-l (bool (eqb (x % G) q)))
-            (ap (λ (v : ℕ). bool (eqb (x % G) v)) (sym (ap g d ∙ there))))
-            (λ (d : x / G ≡ s → ⊥).
-            rw (elsewhere G s 0 x none d, elsewhere G s q x small d, xor-zero-r (bitAt slots x), xor-zero-r (bitAt slots x))
-            (h .bits x k ∙ ap (λ (v : ℕ). bool (eqb (x % G) v)) (else (x / G) d)))
-            (eq-or-ne (x / G) s);
-      }
+-- two flips of one slot are none, so that q may be 0
+pub holds-moved : (p : Plan) (f g : ℕ → ℕ) (end s q : ℕ) (slots : List ℕ) → s < symbolCount p → q < p .group → f s ≡ 0 → g s ≡ q → ((u : ℕ) → (u ≡ s → ⊥) → f u ≡ g u)
+    → Holds p f end slots → (after : List ℕ) → after ≡ flipBit (flipBit slots (s * p .group)) (s * p .group + q) → Bytes after → Holds p g end after
+holds-moved p f g end s q slots l small zero there else h after e bytes =
+    let G : ℕ = p .group in
+    let none : 0 < G = omega arith in
+    let front : s * G + 0 ≡ s * G = omega arith in
+    let low : s * G < 8 * length slots = rw (h .room) (let i : s * G + 0 < 8 * slotBytes p = inside p s 0 l none in omega arith) in
+    let high : s * G + q < 8 * length (flipBit slots (s * G)) = rw (length-flip slots (s * G), h .room) (inside p s q l small) in
+    let both : (x : ℕ) → bitAt after x ≡ bitXor (bitXor (bitAt slots x) (bool (eqb x (s * G + 0)))) (bool (eqb x (s * G + q))) = λ x.
+    ap (λ (xs : List ℕ). bitAt xs x) e
+    ∙ flip-bit (flipBit slots (s * G)) (s * G + q) x high
+    ∙ ap (λ (v : ℕ). bitXor v (bool (eqb x (s * G + q)))) (flip-bit slots (s * G) x low ∙ ap (λ (y : ℕ). bitXor (bitAt slots x) (bool (eqb x y))) (sym front)) in
+    record {
+      room = ap length e ∙ length-flip (flipBit slots (s * G)) (s * G + q) ∙ length-flip slots (s * G) ∙ h .room;
+      bytes = bytes;
+      bits = λ x k. both x ∙ ⊎-elim
+          (λ (d : x / G ≡ s).
+          let was : bitAt slots x ≡ bool (eqb (x % G) 0) = h .bits x k ∙ ap (λ (v : ℕ). bool (eqb (x % G) v)) (ap f d ∙ zero) in
+          rw (was, in-group G s 0 x none d, in-group G s q x small d, xor-self (bool (eqb (x % G) 0)), xor-zero-l (bool (eqb (x % G) q)))
+          (ap (λ (v : ℕ). bool (eqb (x % G) v)) (sym (ap g d ∙ there))))
+          (λ (d : x / G ≡ s → ⊥).
+          rw (elsewhere G s 0 x none d, elsewhere G s q x small d, xor-zero-r (bitAt slots x), xor-zero-r (bitAt slots x))
+          (h .bits x k ∙ ap (λ (v : ℕ). bool (eqb (x % G) v)) (else (x / G) d)))
+          (eq-or-ne (x / G) s);
+    }

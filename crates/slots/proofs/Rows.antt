@@ -1,13 +1,12 @@
 -- A row of places, residue by residue: places of one residue have one delay, so that their symbols follow one another; a place that is not hit holds 0, as it was laid.
-use mathlib.Core.Path.{_≡_, refl, sym, ap, ap₂, _∙_}
+use mathlib.Core.Path.{_≡_, refl, sym, ap, _∙_}
 use mathlib.Core.Bool.{Bool, true, false}
 use mathlib.Core.List.{List}
 use mathlib.Core.Logic.{⊎-elim}
 use Prim.Native.Nat.{ℕ, _+_, _-_, _*_, _/_, _%_, _^_, _≤_, _<_, min, max}
 use native.Mathlib.Omega.{arith}
 use native.Mathlib.Nat.{le-refl, mul-le-mul, mul-assoc, mod-lt, mod-eq-of-lt, div-add-mod', div-lt-iff-lt-mul, le-div-iff-mul-le, zero-mul, add-mul-mod-self-right}
-use lib.Arith.{digits-mod}
-use lib.Dec.{ltb, eqb}
+use lib.Dec.{ltb}
 use lib.ListN.{length}
 use borrow.Author.Tests.{lt-ltb, le-ltb, eq-eqb, ne-eqb}
 use Rattle.bits.specs.Change.{flipBit, Ends}
@@ -22,7 +21,7 @@ use Rattle.slots.specs.Bounds.{Bounds, bounds, delay-most}
 use Rattle.slots.specs.Laws.{placed-below}
 use Rattle.slots.specs.Slots.{dataAt, hitBy, placed, symbolAt, slotBit, slotsOf}
 use Rattle.slots.specs.Writing.{Holds, front, rowEnd, stride, sooner, soFar}
-use Rattle.slots.proofs.Moves.{holds-same, holds-moved}
+use Rattle.slots.proofs.Moves.{holds-moved}
 
 -- ---- rows
 
@@ -90,16 +89,16 @@ holds-all p fine word slots after h e bytes =
 
 -- ---- residues
 
-pub stride-least : (rows : ℕ) → 1 ≤ rows → 1 ≤ stride rows
+stride-least : (rows : ℕ) → 1 ≤ rows → 1 ≤ stride rows
 unfolding stride
 stride-least rows h = ⊎-elim (λ (e : rows ≡ 1). rw (eq-eqb rows 1 e) (omega arith)) (λ (e : rows ≡ 1 → ⊥). rw (ne-eqb rows 1 e) h) (eq-or-ne rows 1)
 
-pub stride-most : (rows : ℕ) → rows ≤ 128 → stride rows ≤ 128
+stride-most : (rows : ℕ) → rows ≤ 128 → stride rows ≤ 128
 unfolding stride
 stride-most rows h = ⊎-elim (λ (e : rows ≡ 1). rw (eq-eqb rows 1 e) (omega arith)) (λ (e : rows ≡ 1 → ⊥). rw (ne-eqb rows 1 e) h) (eq-or-ne rows 1)
 
 -- the residue modulo the stride tells the one modulo N
-pub stride-rows : (rows y : ℕ) → 1 ≤ rows → y % stride rows % rows ≡ y % rows
+stride-rows : (rows y : ℕ) → 1 ≤ rows → y % stride rows % rows ≡ y % rows
 unfolding stride
 stride-rows rows y h =
     ⊎-elim
@@ -108,7 +107,7 @@ stride-rows rows y h =
     (eq-or-ne rows 1)
 
 -- and a delay does not change it
-pub stride-delay : (rows step r x : ℕ) → (x + delay rows step (r % rows)) % stride rows ≡ x % stride rows
+stride-delay : (rows step r x : ℕ) → (x + delay rows step (r % rows)) % stride rows ≡ x % stride rows
 unfolding stride
 stride-delay rows step r x =
     ⊎-elim
@@ -147,11 +146,11 @@ sizes p fine j r l =
 
 -- ---- the order of residues
 
-pub sooner-other : (n r x y : ℕ) → (y % n ≡ r → ⊥) → sooner n r x y ≡ ltb (y % n) r
+sooner-other : (n r x y : ℕ) → (y % n ≡ r → ⊥) → sooner n r x y ≡ ltb (y % n) r
 unfolding sooner
 sooner-other n r x y h = rw (ne-eqb (y % n) r h) refl
 
-pub sooner-same : (n r x y : ℕ) → y % n ≡ r → sooner n r x y ≡ ltb y x
+sooner-same : (n r x y : ℕ) → y % n ≡ r → sooner n r x y ≡ ltb y x
 unfolding sooner
 sooner-same n r x y h = rw (eq-eqb (y % n) r h) refl
 
@@ -172,9 +171,6 @@ sooner-on n r x y e ne =
 -- ---- what stands at a place, by the delay of its residue
 
 module _ (p : Plan) (fine : Fine p) (word : ℕ → List ℕ) (r y : ℕ) (res : y % stride (p .rows) ≡ r) where
-  late : ℕ
-  late = delay (p .rows) (p .step) (r % p .rows)
-
   same-delay : delay (p .rows) (p .step) (y % p .rows) ≡ delay (p .rows) (p .step) (r % p .rows)
   same-delay = ap (delay (p .rows) (p .step)) (sym (stride-rows (p .rows) y (fine .rows-least)) ∙ ap (λ (v : ℕ). v % p .rows) res)
 

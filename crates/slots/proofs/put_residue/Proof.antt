@@ -11,7 +11,7 @@ use Rattle.bits.specs.Pieces.{piece}
 use Rattle.sizes.specs.Sizes.{wordBytes}
 use Rattle.channel.specs.Places.{delay}
 use Rattle.slots.specs.Laws.{placed-below}
-use Rattle.plan.specs.Plan.{unit, total, symbolCount, slotBytes}
+use Rattle.plan.specs.Plan.{total, symbolCount, slotBytes}
 use Rattle.slots.specs.Writing.{Holds, stride, soFar}
 use Rattle.slots.proofs.Moves.{inside, holds-same}
 use Rattle.slots.proofs.Rows.{sizes, placed-at, residue-first, residue-begun, residue-more, residue-ended}

@@ -1,5 +1,4 @@
 -- All rows are put; then the spare bits behind them, which the zeros ran into, are cleared.
-use mathlib.Core.Path.{_≡_, refl, _∙_}
 use native.Mathlib.Omega.{arith}
 use borrow.Author.Needs.{needs}
 use Rattle.slots.specs.Bounds.{bounds}
