@@ -12,7 +12,7 @@
 
 enum status { DONE = 0, REFUSED = 1, FAILED = 2 };
 
-enum option { LOG, QUIET, HELP, VERSION, OPTION_COUNT };
+enum option { LOG, QUIET, NO_CLOBBER, FORCE, OUTPUT, LONG, JSON, HELP, VERSION, OPTION_COUNT };
 
 /* Options as bits of a set. */
 #define WITH(option) (1U << (option))
@@ -52,9 +52,18 @@ enum status obey(char *argv[]);
 /* How many names there are. */
 int count_names(const char *names);
 
+/* Writes an output of this command, as its options say. */
+bool put_as_told(const struct line *line, const char *name, const void *from, size_t len);
+
+/* Before anything is done: whether that output can be meant. */
+bool ready_as_told(const struct line *line, const char *name);
+
 /* The functions of the table. */
 enum status write_command(const struct line *line, struct entry *entry);
 enum status read_command(const struct line *line, struct entry *entry);
+enum status verify_command(const struct line *line, struct entry *entry);
 enum status sheet_command(const struct line *line, struct entry *entry);
+enum status header_command(const struct line *line, struct entry *entry);
+enum status explain_command(const struct line *line, struct entry *entry);
 
 #endif

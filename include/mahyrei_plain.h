@@ -21,6 +21,10 @@
 extern "C" {
 #endif
 
+/* What stands before each frame of a run, highest bit first. */
+#define MAHYREI_FRAME_MARKER UINT64_C(0x034776C7272895B0)
+#define MAHYREI_FRAME_MARKER_BITS 64
+
 /* The fields of a run header; mahyrei.h says what they are. */
 struct mahyrei_fields {
     uint64_t rate, m, N, B, F, W, A;
@@ -38,6 +42,12 @@ struct mahyrei_sizes {
     uint64_t slots;   /* of the run */
     size_t marker_bytes, frame_bytes, slot_bytes; /* of the slices that the run calls are lent */
 };
+
+/* The names of the fields, in the order of the header, counted from 0; NULL behind the last. */
+const char *mahyrei_field_name(size_t which);
+
+/* A field by its name; NULL where there is none of that name. */
+uint64_t *mahyrei_field(struct mahyrei_fields *fields, const char *name);
 
 /*
  * Takes a header apart, and puts questions 1 to 6 and W's range of 7 to it, as runsheet does.
