@@ -157,6 +157,7 @@ $(HOST)/%_calls: tests/c/%_calls.c $(HEADER) $(LINKED)
 	@$(CC) $(CFLAGS) $(SANITIZED) $< $(LIBS) -o $@
 
 SECOND = $(addprefix tests/second/,lib.rs compare.rs library.rs run.rs word.rs run_cases.rs \
+    $(addprefix run_cases/,calls.rs damages.rs edges.rs headers.rs kinds.rs refusals.rs sample.rs) \
     word_cases.rs)
 $(HOST)/second_test: $(SECOND)
 	@mkdir -p $(@D)
