@@ -6,11 +6,18 @@ SHELL := /bin/bash
 .DELETE_ON_ERROR:
 .PHONY: help test host-test demo bench lib program install uninstall clean FORCE
 
+# make has a CC and a CXX of its own where nobody gave one.
+ifeq ($(origin CC),default)
 CC = gcc
+endif
+ifeq ($(origin CXX),default)
 CXX = g++
+endif
 RUSTC = rustc
 WARNINGS = -Wall -Wextra -Wpedantic -Werror -Wconversion
-CFLAGS = -std=c11 -O2 $(WARNINGS) -Iinclude
+# A packager's CPPFLAGS, CFLAGS and LDFLAGS add to what the build needs.
+CFLAGS ?= -O2
+COMPILE = $(CC) -std=c11 $(WARNINGS) -Iinclude $(CPPFLAGS) $(CFLAGS)
 PLAIN = -O3 -march=native
 SANITIZED = -O1 -g -fsanitize=address,undefined -fno-sanitize-recover=all
 RUSTFLAGS = --edition 2021 -O -D warnings
@@ -24,7 +31,7 @@ VERSION = 0.1.0
 LIBRARY = target/lib/libmahyrei.a
 LIBS = $(LIBRARY)
 HOST = target/host
-HEADER = include/mahyrei.h
+HEADER = include/mahyrei.h include/mahyrei_plain.h
 PROGRAM = $(HOST)/mahyrei
 
 # Where `make install` puts things. DESTDIR goes before each of them, for packages.
@@ -70,7 +77,7 @@ test:
 HOST_TESTS = $(addprefix $(HOST)/,word_calls run_calls second_test compare_words compare_runs) \
     $(COMMAND_TESTS)
 host-test: $(HOST_TESTS)
-	@echo '#include "mahyrei.h"' | $(CXX) -x c++ $(WARNINGS) -Iinclude -fsyntax-only -
+	@echo '#include "mahyrei_plain.h"' | $(CXX) -x c++ $(WARNINGS) -Iinclude -fsyntax-only -
 	@$(STACK) && ASAN_OPTIONS=detect_leaks=0 $(HOST)/word_calls
 	@$(STACK) && ASAN_OPTIONS=detect_leaks=0 $(HOST)/run_calls
 	@$(STACK) && $(HOST)/second_test --quiet
@@ -92,12 +99,12 @@ lib: $(LIBS)
 program: $(PROGRAM)
 
 INSTALLED = $(BINDIR)/mahyrei $(LIBDIR)/libmahyrei.a $(LIBDIR)/pkgconfig/mahyrei.pc \
-    $(INCLUDEDIR)/mahyrei.h $(MANDIR)/man1/mahyrei.1
+    $(INCLUDEDIR)/mahyrei.h $(INCLUDEDIR)/mahyrei_plain.h $(MANDIR)/man1/mahyrei.1
 install: $(LIBS) $(PROGRAM)
 	install -d $(foreach file,$(INSTALLED),'$(DESTDIR)$(dir $(file))')
 	install -m 755 $(PROGRAM) '$(DESTDIR)$(BINDIR)/mahyrei'
 	install -m 644 $(LIBS) '$(DESTDIR)$(LIBDIR)/libmahyrei.a'
-	install -m 644 $(HEADER) '$(DESTDIR)$(INCLUDEDIR)/mahyrei.h'
+	install -m 644 $(HEADER) '$(DESTDIR)$(INCLUDEDIR)'
 	install -m 644 host/mahyrei.1 '$(DESTDIR)$(MANDIR)/man1/mahyrei.1'
 	sed -e 's|@PREFIX@|$(PREFIX)|' -e 's|@LIBDIR@|$(LIBDIR)|' -e 's|@INCLUDEDIR@|$(INCLUDEDIR)|' \
 	    -e 's|@VERSION@|$(VERSION)|' host/mahyrei.pc.in >'$(DESTDIR)$(LIBDIR)/pkgconfig/mahyrei.pc'
@@ -117,10 +124,18 @@ target/staticlib/lib%.a: $(PROVED)
 target/bin/runsheet: $(PROVED)
 	rt check runsheet
 
-# `rt staticlib` exports the calls of one crate; the library joins the two.
-$(LIBRARY): target/staticlib/librun.a target/staticlib/libword.a
+# Plain C for C programs (mahyrei_plain.h), which is in every archive beside the calls.
+PARTS = $(patsubst plain/%.c,target/lib/plain/%.o,$(wildcard plain/*.c))
+target/lib/plain/%.o: plain/%.c $(HEADER)
 	@mkdir -p $(@D)
-	@printf '%s\n' 'create $@' $(foreach archive,$^,'addlib $(archive)') save end | ar -M
+	@$(COMPILE) -fPIC -c $< -o $@
+
+# `rt staticlib` exports the calls of one crate; the library joins the two.
+PROVED_ARCHIVES = target/staticlib/librun.a target/staticlib/libword.a
+$(LIBRARY): $(PROVED_ARCHIVES) $(PARTS)
+	@mkdir -p $(@D)
+	@printf '%s\n' 'create $@' $(foreach archive,$(PROVED_ARCHIVES),'addlib $(archive)') save end | ar -M
+	@ar rs $@ $(PARTS)
 
 # Names the archives in use: a program linked with others is linked again.
 LINKED = $(LIBS) $(HOST)/archives
@@ -132,29 +147,29 @@ $(HOST)/archives: FORCE
 # The four calls in plain C.
 STANDIN = $(HOST)/standin
 PLAIN_SOURCES = bench/plain_word.c bench/plain_word.h tests/c/plain_run.c
-$(STANDIN)/libmahyrei.a: $(PLAIN_SOURCES) $(HEADER)
+$(STANDIN)/libmahyrei.a: $(PLAIN_SOURCES) $(HEADER) $(PARTS)
 	@mkdir -p $(@D)
-	@$(CC) $(CFLAGS) $(PLAIN) -c bench/plain_word.c -o $(STANDIN)/plain_word.o
-	@$(CC) $(CFLAGS) $(PLAIN) -Dplain_word_write=word_write -Dplain_word_read=word_read \
+	@$(COMPILE) $(PLAIN) -c bench/plain_word.c -o $(STANDIN)/plain_word.o
+	@$(COMPILE) $(PLAIN) -Dplain_word_write=word_write -Dplain_word_read=word_read \
 	    -c bench/plain_word.c -o $(STANDIN)/word.o
-	@$(CC) $(CFLAGS) $(PLAIN) -Ibench -c tests/c/plain_run.c -o $(STANDIN)/run.o
+	@$(COMPILE) $(PLAIN) -Ibench -c tests/c/plain_run.c -o $(STANDIN)/run.o
 	@rm -f $@
-	@ar rcs $@ $(addprefix $(STANDIN)/,plain_word.o word.o run.o)
+	@ar rcs $@ $(addprefix $(STANDIN)/,plain_word.o word.o run.o) $(PARTS)
 
 HOST_SOURCES = $(wildcard host/*.c)
-HOST_FLAGS = -D_XOPEN_SOURCE=700 -DMAHYREI_VERSION='"$(VERSION)"'
+HOST_FLAGS = -D_XOPEN_SOURCE=700 -DMAHYREI_VERSION='"$(VERSION)"' -pthread
 $(PROGRAM): $(HOST_SOURCES) $(wildcard host/*.h) $(HEADER) $(LINKED)
-	@$(CC) $(CFLAGS) $(HOST_FLAGS) $(HOST_SOURCES) $(LIBS) -o $@
+	@$(COMPILE) $(HOST_FLAGS) $(HOST_SOURCES) $(LIBS) $(LDFLAGS) -o $@
 
 $(HOST)/mahyrei_sanitized: $(HOST_SOURCES) $(wildcard host/*.h) $(HEADER) $(LINKED)
-	@$(CC) $(CFLAGS) $(SANITIZED) $(HOST_FLAGS) $(HOST_SOURCES) $(LIBS) -o $@
+	@$(COMPILE) $(SANITIZED) $(HOST_FLAGS) $(HOST_SOURCES) $(LIBS) $(LDFLAGS) -o $@
 
 $(HOST)/faults.so: tests/c/faults.c
 	@mkdir -p $(@D)
-	@$(CC) $(CFLAGS) -shared -fPIC $< -o $@
+	@$(COMPILE) -shared -fPIC $< -o $@
 
 $(HOST)/%_calls: tests/c/%_calls.c $(HEADER) $(LINKED)
-	@$(CC) $(CFLAGS) $(SANITIZED) $< $(LIBS) -o $@
+	@$(COMPILE) $(SANITIZED) $< $(LIBS) -o $@
 
 SECOND = $(addprefix tests/second/,lib.rs compare.rs library.rs run.rs word.rs run_cases.rs \
     $(addprefix run_cases/,calls.rs damages.rs edges.rs headers.rs kinds.rs refusals.rs sample.rs) \
@@ -173,14 +188,14 @@ $(HOST)/compare_%: tests/second/compare_%.rs $(HOST)/libsecond.rlib $(LINKED)
 # The demo's tool stands on the command's parts.
 HOST_PARTS = $(filter-out host/main.c,$(HOST_SOURCES))
 $(HOST)/slots: demo/slots.c $(HOST_PARTS) $(wildcard host/*.h) $(HEADER) $(LINKED)
-	@$(CC) $(CFLAGS) $(HOST_FLAGS) -Ihost $< $(HOST_PARTS) $(LIBS) -o $@
+	@$(COMPILE) $(HOST_FLAGS) -Ihost $< $(HOST_PARTS) $(LIBS) $(LDFLAGS) -o $@
 
 $(HOST)/plain_word.o: bench/plain_word.c bench/plain_word.h $(HEADER)
 	@mkdir -p $(@D)
-	@$(CC) $(CFLAGS) $(PLAIN) -c $< -o $@
+	@$(COMPILE) $(PLAIN) -c $< -o $@
 
 $(HOST)/bench_words: bench/bench_words.c $(HOST)/plain_word.o bench/plain_word.h $(HEADER) $(LINKED)
-	@$(CC) $(CFLAGS) $< $(HOST)/plain_word.o $(LIBS) -o $@
+	@$(COMPILE) $< $(HOST)/plain_word.o $(LIBS) -o $@
 
 $(HOST)/bench_runs: bench/bench_runs.rs $(HOST)/libsecond.rlib $(LINKED)
 	@$(RUSTC) $(RUSTFLAGS) $< $(LINK_RUST) -o $@
@@ -217,9 +232,9 @@ $(HOST)/run_calls: tests/c/runs.h
 # The fuzz target with a driver in place of libFuzzer, beside the run calls in plain C.
 $(HOST)/plain_run.o: tests/c/plain_run.c bench/plain_word.h $(HEADER)
 	@mkdir -p $(@D)
-	@$(CC) $(CFLAGS) $(PLAIN) -Ibench -Drun_write=plain_run_write -Drun_read=plain_run_read \
+	@$(COMPILE) $(PLAIN) -Ibench -Drun_write=plain_run_write -Drun_read=plain_run_read \
 	    -c $< -o $@
 
 FUZZ_TARGET = tests/fuzz/drive.c tests/fuzz/calls.c $(HOST)/plain_word.o $(HOST)/plain_run.o
 $(HOST)/fuzz_drive: $(FUZZ_TARGET) tests/fuzz/calls.h tests/c/runs.h $(HEADER) $(LINKED)
-	@$(CC) $(CFLAGS) $(SANITIZED) -Ibench $(FUZZ_TARGET) $(LIBS) -o $@
+	@$(COMPILE) $(SANITIZED) -Ibench $(FUZZ_TARGET) $(LIBS) -o $@

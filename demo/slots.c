@@ -32,11 +32,11 @@ static _Noreturn void give_up(const char *why) {
 /* ---- slots and symbols */
 
 static uint64_t group(void) {
-    return sheet.M + sheet.M / 4;
+    return sheet.sizes.group;
 }
 
 static uint64_t word_symbols(void) {
-    return MAHYREI_WORD_BITS / sheet.m;
+    return sheet.sizes.S;
 }
 
 static bool pulse_at(uint64_t slot) {
@@ -51,7 +51,7 @@ static void flip(uint64_t slot) {
 }
 
 static uint64_t symbol_at(uint64_t symbol) {
-    for (uint64_t q = 0; symbol < sheet.symbols && q < sheet.M; q++) {
+    for (uint64_t q = 0; symbol < sheet.sizes.symbols && q < sheet.sizes.M; q++) {
         if (pulse_at(symbol * group() + q)) {
             return q;
         }
@@ -74,10 +74,10 @@ static void change(uint64_t symbol, uint64_t difference) {
 
 /* Steps 8 to 10: the symbol that holds this bit of a word. */
 static void turn(uint64_t word, uint64_t bit) {
-    const uint64_t S = word_symbols(), t = word * S + bit / sheet.m;
-    const uint64_t place = t + t % sheet.N * sheet.B * sheet.N;
-    change(place / S * (S + sheet.W) + sheet.W + place % S, UINT64_C(1)
-                                                                << (sheet.m - 1 - bit % sheet.m));
+    const uint64_t S = word_symbols(), t = word * S + bit / sheet.fields.m;
+    const uint64_t place = t + t % sheet.fields.N * sheet.fields.B * sheet.fields.N;
+    change(place / S * (S + sheet.fields.W) + sheet.fields.W + place % S,
+           UINT64_C(1) << (sheet.fields.m - 1 - bit % sheet.fields.m));
 }
 
 /* Steps 5 and 6: from the place that takes the coded bit on, the accumulator turns all over. */
@@ -95,12 +95,12 @@ static void turn_coded(uint64_t word, uint64_t coded) {
 
 /* What stands at a symbol: a marker symbol, a symbol of a word, or nothing. */
 static void name(uint64_t symbol) {
-    const uint64_t S = word_symbols(), in = symbol % (S + sheet.W);
-    const uint64_t place = symbol / (S + sheet.W) * S + in - sheet.W;
-    const uint64_t delay = place % sheet.N * sheet.B * sheet.N;
-    if (in < sheet.W) {
+    const uint64_t S = word_symbols(), in = symbol % (S + sheet.fields.W);
+    const uint64_t place = symbol / (S + sheet.fields.W) * S + in - sheet.fields.W;
+    const uint64_t delay = place % sheet.fields.N * sheet.fields.B * sheet.fields.N;
+    if (in < sheet.fields.W) {
         printf("marker %-2" PRIu64 "             ", in);
-    } else if (place >= delay && place - delay < sheet.C * S) {
+    } else if (place >= delay && place - delay < sheet.sizes.C * S) {
         printf("word %-3" PRIu64 " symbol %-4" PRIu64 "  ", (place - delay) / S,
                (place - delay) % S);
     } else {
@@ -109,12 +109,12 @@ static void name(uint64_t symbol) {
 }
 
 static void draw(uint64_t count) {
-    for (uint64_t symbol = 0; symbol < count && symbol < sheet.symbols; symbol++) {
+    for (uint64_t symbol = 0; symbol < count && symbol < sheet.sizes.symbols; symbol++) {
         printf("%5" PRIu64 "  ", symbol);
         name(symbol);
         printf("%3" PRIu64 "  ", symbol_at(symbol));
         for (uint64_t slot = 0; slot < group(); slot++) {
-            const char *const empty = slot < sheet.M ? "." : "_";
+            const char *const empty = slot < sheet.sizes.M ? "." : "_";
             fputs(pulse_at(symbol * group() + slot) ? "|" : empty, stdout);
         }
         putchar('\n');
@@ -136,7 +136,7 @@ static uint64_t number(const char *text) {
 static void turn_each(char *const numbers[], int count, uint64_t limit,
                       void (*one)(uint64_t, uint64_t)) {
     for (int i = 1; i < count; i++) {
-        if (number(numbers[0]) >= sheet.C || number(numbers[i]) >= limit) {
+        if (number(numbers[0]) >= sheet.sizes.C || number(numbers[i]) >= limit) {
             give_up("no such word, or no such bit");
         }
         one(number(numbers[0]), number(numbers[i]));
@@ -166,7 +166,7 @@ int main(int argc, char *argv[]) {
     }
     if (!take_in_text(argv[1], MAHYREI_HEADER_BYTES + 1, &header) ||
         sheet_of(&header, &sheet) != 0 || !take_in("-", MAHYREI_SLOTS_BYTES_MAX + 1, &slots) ||
-        slots.len != sheet.slot_bytes) {
+        slots.len != sheet.sizes.slot_bytes) {
         give_up("no such header, or slots of another length");
     }
     if (strcmp(argv[2], "draw") == 0) {

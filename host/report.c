@@ -8,9 +8,8 @@
 #include <time.h>
 #include <unistd.h>
 
-#include "answers.h"
 #include "files.h"
-#include "mahyrei.h"
+#include "mahyrei_plain.h"
 #include "progress.h"
 
 void complain_text(const char *what, const char *why) {
@@ -24,8 +23,9 @@ void complain(const char *what, int error) {
 
 void say_refusal(uint64_t answer) {
     progress_stop();
+    const char *const sentence = mahyrei_sentence(answer_number(answer));
     fprintf(stderr, "mahyrei: refused, number %u, place %" PRIu64 ": %s\n", answer_number(answer),
-            answer_place(answer), answer_sentence(answer_number(answer)));
+            answer_place(answer), sentence == NULL ? "No call gives this number." : sentence);
 }
 
 void entry_begin(struct entry *entry, const char *what) {
@@ -37,6 +37,11 @@ void entry_header(struct entry *entry, const uint8_t *header, size_t len) {
     for (size_t i = 0; i < len && 2 * i + 2 < sizeof entry->header; i++) {
         snprintf(entry->header + 2 * i, 3, "%02X", header[i]);
     }
+}
+
+void entry_answer(struct entry *entry, uint64_t answer) {
+    entry->answered = true;
+    entry->answer = answer;
 }
 
 int log_open(const char *name) {

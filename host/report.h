@@ -29,6 +29,7 @@ struct entry {
 
 void entry_begin(struct entry *entry, const char *what);
 void entry_header(struct entry *entry, const uint8_t *header, size_t len);
+void entry_answer(struct entry *entry, uint64_t answer);
 
 /* The log's file: the one named, or standard error. -1 where it cannot be opened. */
 int log_open(const char *name);

@@ -1,0 +1,129 @@
+#include "mahyrei_plain.h"
+
+/* One line a field, in the order in which they are packed: its bits, its range, and the number of
+ * the question that asks for the range. */
+struct field {
+    const char *name;
+    unsigned bits;
+    uint64_t least, most;
+    unsigned number;
+    size_t at;
+};
+
+static const struct field FIELDS[] = {
+    {"rate", 2, 0, 2, MAHYREI_BAD_RATE, offsetof(struct mahyrei_fields, rate)},
+    {"m", 4, 2, 8, MAHYREI_BAD_ORDER, offsetof(struct mahyrei_fields, m)},
+    {"N", 8, 1, 128, MAHYREI_BAD_ROWS, offsetof(struct mahyrei_fields, N)},
+    {"B", 9, 1, 256, MAHYREI_BAD_ROWS, offsetof(struct mahyrei_fields, B)},
+    {"F", 12, 1, 2048, MAHYREI_BAD_FRAMES, offsetof(struct mahyrei_fields, F)},
+    {"W", 6, 1, 32, MAHYREI_BAD_MARKER, offsetof(struct mahyrei_fields, W)},
+    {"A", 7, 1, 64, MAHYREI_BAD_FRAMES, offsetof(struct mahyrei_fields, A)},
+};
+
+/* The questions put to fields, in their order. */
+static const unsigned QUESTIONS[] = {MAHYREI_BAD_RATE, MAHYREI_BAD_ORDER,  MAHYREI_BAD_ROWS,
+                                     MAHYREI_BAD_FIT,  MAHYREI_BAD_FRAMES, MAHYREI_BAD_MARKER};
+
+enum {
+    FIELD_COUNT = sizeof FIELDS / sizeof FIELDS[0],
+    QUESTION_COUNT = sizeof QUESTIONS / sizeof QUESTIONS[0],
+    HEADER_BITS = 8 * MAHYREI_HEADER_BYTES,
+    FRAME_MARKER_BITS = 64
+};
+
+static uint64_t value_of(const struct mahyrei_fields *fields, const struct field *field) {
+    return *(const uint64_t *)(const void *)((const char *)fields + field->at);
+}
+
+/* ---- questions */
+
+/* The first field whose range this question asks for and that is outside it, or NULL. */
+static const char *out_of_range(const struct mahyrei_fields *fields, unsigned number) {
+    for (size_t i = 0; i < FIELD_COUNT; i++) {
+        const uint64_t value = value_of(fields, &FIELDS[i]);
+        if (FIELDS[i].number == number && (value < FIELDS[i].least || value > FIELDS[i].most)) {
+            return FIELDS[i].name;
+        }
+    }
+    return NULL;
+}
+
+/* Question 5, which comes when m, N and B are in range. */
+static const char *misfit(const struct mahyrei_fields *fields) {
+    const uint64_t S = MAHYREI_WORD_BITS / fields->m;
+    return fields->N * (fields->N - 1) * fields->B % S == 0 ? NULL : "N and B";
+}
+
+unsigned mahyrei_fields_check(const struct mahyrei_fields *fields, const char **wrong) {
+    unsigned number = MAHYREI_ACCEPTED;
+    const char *name = NULL;
+    for (size_t i = 0; i < QUESTION_COUNT && name == NULL; i++) {
+        name =
+            QUESTIONS[i] == MAHYREI_BAD_FIT ? misfit(fields) : out_of_range(fields, QUESTIONS[i]);
+        number = name == NULL ? MAHYREI_ACCEPTED : QUESTIONS[i];
+    }
+    if (wrong != NULL) {
+        *wrong = name;
+    }
+    return number;
+}
+
+/* ---- headers */
+
+unsigned mahyrei_header_fields(const uint8_t *header, size_t header_len,
+                               struct mahyrei_fields *fields) {
+    uint64_t bits = 0;
+    *fields = (struct mahyrei_fields){0};
+    if (header_len != MAHYREI_HEADER_BYTES) {
+        return MAHYREI_BAD_HEADER;
+    }
+    for (size_t i = 0; i < MAHYREI_HEADER_BYTES; i++) {
+        bits = bits << 8 | header[i];
+    }
+    for (size_t i = 0; i < FIELD_COUNT; i++) {
+        *(uint64_t *)(void *)((char *)fields + FIELDS[i].at) =
+            bits >> (HEADER_BITS - FIELDS[i].bits);
+        bits <<= FIELDS[i].bits;
+    }
+    return bits != 0 ? MAHYREI_BAD_HEADER : mahyrei_fields_check(fields, NULL);
+}
+
+unsigned mahyrei_header_make(const struct mahyrei_fields *fields,
+                             uint8_t header[MAHYREI_HEADER_BYTES], const char **wrong) {
+    const unsigned number = mahyrei_fields_check(fields, wrong);
+    uint64_t bits = 0;
+    unsigned left = HEADER_BITS;
+    if (number != MAHYREI_ACCEPTED) {
+        return number;
+    }
+    for (size_t i = 0; i < FIELD_COUNT; i++) {
+        left -= FIELDS[i].bits;
+        bits |= value_of(fields, &FIELDS[i]) << left;
+    }
+    for (size_t i = MAHYREI_HEADER_BYTES; i-- > 0; bits >>= 8) {
+        header[i] = (uint8_t)(bits & 255);
+    }
+    return number;
+}
+
+/* The quantities as mahyrei.h has them. */
+unsigned mahyrei_sizes(const uint8_t *header, size_t header_len, struct mahyrei_sizes *sizes) {
+    struct mahyrei_fields fields;
+    const unsigned number = mahyrei_header_fields(header, header_len, &fields);
+    *sizes = (struct mahyrei_sizes){0};
+    if (number != MAHYREI_ACCEPTED) {
+        return number;
+    }
+    sizes->k = word_block_bytes(fields.rate) * 8 - 2;
+    sizes->M = UINT64_C(1) << fields.m;
+    sizes->group = sizes->M + sizes->M / 4;
+    sizes->S = MAHYREI_WORD_BITS / fields.m;
+    sizes->C = (fields.A * (8 * fields.F + FRAME_MARKER_BITS) + sizes->k - 1) / sizes->k;
+    sizes->R = sizes->C + fields.N * (fields.N - 1) * fields.B / sizes->S;
+    sizes->symbols = sizes->R * (sizes->S + fields.W);
+    sizes->slots = sizes->symbols * sizes->group;
+    sizes->marker_bytes = (size_t)fields.W;
+    sizes->frame_bytes = (size_t)(fields.A * fields.F);
+    sizes->slot_bytes = (size_t)((sizes->slots + 7) / 8);
+    return number;
+}
