@@ -12,7 +12,7 @@
 
 enum status { DONE = 0, REFUSED = 1, FAILED = 2 };
 
-enum option { LOG, QUIET, HELP, VERSION, OPTION_COUNT };
+enum option { LOG, QUIET, SVG, HELP, VERSION, OPTION_COUNT };
 
 /* Options as bits of a set. */
 #define WITH(option) (1U << (option))
@@ -56,5 +56,7 @@ int count_names(const char *names);
 enum status write_command(const struct line *line, struct entry *entry);
 enum status read_command(const struct line *line, struct entry *entry);
 enum status sheet_command(const struct line *line, struct entry *entry);
+enum status inspect_command(const struct line *line, struct entry *entry);
+enum status show_command(const struct line *line, struct entry *entry);
 
 #endif

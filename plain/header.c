@@ -27,8 +27,7 @@ static const unsigned QUESTIONS[] = {MAHYREI_BAD_RATE, MAHYREI_BAD_ORDER,  MAHYR
 enum {
     FIELD_COUNT = sizeof FIELDS / sizeof FIELDS[0],
     QUESTION_COUNT = sizeof QUESTIONS / sizeof QUESTIONS[0],
-    HEADER_BITS = 8 * MAHYREI_HEADER_BYTES,
-    FRAME_MARKER_BITS = 64
+    HEADER_BITS = 8 * MAHYREI_HEADER_BYTES
 };
 
 static uint64_t value_of(const struct mahyrei_fields *fields, const struct field *field) {
@@ -118,7 +117,7 @@ unsigned mahyrei_sizes(const uint8_t *header, size_t header_len, struct mahyrei_
     sizes->M = UINT64_C(1) << fields.m;
     sizes->group = sizes->M + sizes->M / 4;
     sizes->S = MAHYREI_WORD_BITS / fields.m;
-    sizes->C = (fields.A * (8 * fields.F + FRAME_MARKER_BITS) + sizes->k - 1) / sizes->k;
+    sizes->C = (fields.A * (8 * fields.F + MAHYREI_FRAME_MARKER_BITS) + sizes->k - 1) / sizes->k;
     sizes->R = sizes->C + fields.N * (fields.N - 1) * fields.B / sizes->S;
     sizes->symbols = sizes->R * (sizes->S + fields.W);
     sizes->slots = sizes->symbols * sizes->group;
