@@ -83,7 +83,7 @@ host-test: $(HOST_TESTS)
 	@$(STACK) && $(HOST)/second_test --quiet
 	@$(STACK) && SEED=$(SEED) WORDS=$(WORDS) $(HOST)/compare_words
 	@$(STACK) && SEED=$(SEED) RUNS=$(RUNS) $(HOST)/compare_runs
-	@$(STACK) && tests/command $(COMMAND_TESTS)
+	@$(STACK) && tests/command/run $(COMMAND_TESTS)
 	@echo 'tests outside the proofs: passed'
 
 demo: $(PROGRAM) $(HOST)/slots
