@@ -30,6 +30,10 @@ VERSION = 0.1.0
 # Several archives are linked in the order given.
 LIBRARY = target/lib/libmahyrei.a
 LIBS = $(LIBRARY)
+# The shared library, from the same objects. Programs look for it by its ABI, which changes when one
+# that was linked with an older one could no longer run with it.
+ABI = 0
+SHARED = $(dir $(firstword $(LIBS)))libmahyrei.so.$(VERSION)
 HOST = target/host
 HEADER = include/mahyrei.h include/mahyrei_plain.h
 PROGRAM = $(HOST)/mahyrei
@@ -74,7 +78,11 @@ help:
 test:
 	@tests/run
 
-HOST_TESTS = $(addprefix $(HOST)/,word_calls run_calls second_test compare_words compare_runs) \
+# Threads of Python get the stack of this limit, and have calls to make.
+PYTHON_TEST = ulimit -s 8192; if ! command -v python3 >/dev/null; then \
+    echo 'python: no python3 here; the module is not tried'; \
+    else MAHYREI_LIBRARY=$(abspath $(SHARED)) tests/python/module $(PROGRAM) $(HOST)/slots; fi
+HOST_TESTS = $(SHARED) $(addprefix $(HOST)/,word_calls run_calls second_test compare_words compare_runs) \
     $(COMMAND_TESTS)
 host-test: $(HOST_TESTS)
 	@echo '#include "mahyrei_plain.h"' | $(CXX) -x c++ $(WARNINGS) -Iinclude -fsyntax-only -
@@ -84,6 +92,7 @@ host-test: $(HOST_TESTS)
 	@$(STACK) && SEED=$(SEED) WORDS=$(WORDS) $(HOST)/compare_words
 	@$(STACK) && SEED=$(SEED) RUNS=$(RUNS) $(HOST)/compare_runs
 	@$(STACK) && tests/command/run $(COMMAND_TESTS)
+	@$(PYTHON_TEST)
 	@echo 'tests outside the proofs: passed'
 
 demo: $(PROGRAM) $(HOST)/slots
@@ -94,7 +103,7 @@ bench: $(HOST)/bench_words $(HOST)/bench_runs
 	@echo
 	@$(HOST)/bench_runs
 
-lib: $(LIBS)
+lib: $(LIBS) $(SHARED)
 
 program: $(PROGRAM)
 
@@ -137,6 +146,33 @@ $(LIBRARY): $(PROVED_ARCHIVES) $(PARTS)
 	@printf '%s\n' 'create $@' $(foreach archive,$(PROVED_ARCHIVES),'addlib $(archive)') save end | ar -M
 	@ar rs $@ $(PARTS)
 
+# The objects of the archives are position independent: -z text is an error where they are not.
+$(SHARED): $(LIBS) $(HOST)/archives plain/libmahyrei.map
+	@$(CC) $(CFLAGS) -shared -Wl,-soname,libmahyrei.so.$(ABI) \
+	    -Wl,--version-script,plain/libmahyrei.map -Wl,-z,text,-z,defs,-z,relro,-z,now \
+	    -Wl,--whole-archive $(LIBS) -Wl,--no-whole-archive $(LDFLAGS) -o $@
+	@ln -sf $(@F) $(@D)/libmahyrei.so.$(ABI)
+	@ln -sf libmahyrei.so.$(ABI) $(@D)/libmahyrei.so
+
+INSTALLED += $(addprefix $(LIBDIR)/,libmahyrei.so.$(VERSION) libmahyrei.so.$(ABI) libmahyrei.so)
+install: install-shared
+.PHONY: install-shared
+install-shared: $(SHARED)
+	install -d '$(DESTDIR)$(LIBDIR)'
+	install -m 755 $(SHARED) '$(DESTDIR)$(LIBDIR)/libmahyrei.so.$(VERSION)'
+	ln -sf libmahyrei.so.$(VERSION) '$(DESTDIR)$(LIBDIR)/libmahyrei.so.$(ABI)'
+	ln -sf libmahyrei.so.$(ABI) '$(DESTDIR)$(LIBDIR)/libmahyrei.so'
+
+# The Python module, which is told where the library is.
+PYTHONDIR ?= $(PREFIX)/share/mahyrei/python
+INSTALLED += $(PYTHONDIR)/mahyrei.py
+install: install-python
+.PHONY: install-python
+install-python: python/mahyrei.py
+	install -d '$(DESTDIR)$(PYTHONDIR)'
+	sed 's|^_LIBRARY = .*|_LIBRARY = "$(LIBDIR)/libmahyrei.so.$(ABI)"|' $< >'$(DESTDIR)$(PYTHONDIR)/mahyrei.py'
+	chmod 644 '$(DESTDIR)$(PYTHONDIR)/mahyrei.py'
+
 # Names the archives in use: a program linked with others is linked again.
 LINKED = $(LIBS) $(HOST)/archives
 LINK_RUST = --extern second=$(HOST)/libsecond.rlib $(foreach lib,$(LIBS),-C link-arg=$(lib))
@@ -149,10 +185,10 @@ STANDIN = $(HOST)/standin
 PLAIN_SOURCES = bench/plain_word.c bench/plain_word.h tests/c/plain_run.c
 $(STANDIN)/libmahyrei.a: $(PLAIN_SOURCES) $(HEADER) $(PARTS)
 	@mkdir -p $(@D)
-	@$(COMPILE) $(PLAIN) -c bench/plain_word.c -o $(STANDIN)/plain_word.o
-	@$(COMPILE) $(PLAIN) -Dplain_word_write=word_write -Dplain_word_read=word_read \
+	@$(COMPILE) $(PLAIN) -fPIC -c bench/plain_word.c -o $(STANDIN)/plain_word.o
+	@$(COMPILE) $(PLAIN) -fPIC -Dplain_word_write=word_write -Dplain_word_read=word_read \
 	    -c bench/plain_word.c -o $(STANDIN)/word.o
-	@$(COMPILE) $(PLAIN) -Ibench -c tests/c/plain_run.c -o $(STANDIN)/run.o
+	@$(COMPILE) $(PLAIN) -fPIC -Ibench -c tests/c/plain_run.c -o $(STANDIN)/run.o
 	@rm -f $@
 	@ar rcs $@ $(addprefix $(STANDIN)/,plain_word.o word.o run.o) $(PARTS)
 
