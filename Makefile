@@ -78,8 +78,7 @@ help:
 test:
 	@tests/run
 
-# Threads of Python get the stack of this limit, and have calls to make.
-PYTHON_TEST = ulimit -s 8192; if ! command -v python3 >/dev/null; then \
+PYTHON_TEST = if ! command -v python3 >/dev/null; then \
     echo 'python: no python3 here; the module is not tried'; \
     else MAHYREI_LIBRARY=$(abspath $(SHARED)) tests/python/module $(PROGRAM) $(HOST)/slots; fi
 HOST_TESTS = $(SHARED) $(addprefix $(HOST)/,word_calls run_calls second_test compare_words compare_runs) \
