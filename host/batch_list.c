@@ -9,7 +9,7 @@
 #include "json.h"
 #include "report.h"
 
-enum { LIST_LIMIT = 1 << 28, OPERANDS = 4, OUTPUT = 3 };
+enum { LIST_LIMIT = 1 << 28, OPERANDS = 4, LAST = 3 };
 
 /* ---- lines */
 
@@ -223,7 +223,7 @@ static size_t gather(const struct batch_list *list, const char *const others[], 
         const struct item *const item = &list->items[i];
         for (size_t j = 0; j < OPERANDS; j++) {
             const bool text = j < 2 && is_text(item->operands[j]);
-            if (!text && !add_name(item->operands[j], j == OUTPUT, item->line, &names[named++])) {
+            if (!text && !add_name(item->operands[j], j == LAST, item->line, &names[named++])) {
                 return SIZE_MAX;
             }
         }

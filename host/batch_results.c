@@ -132,9 +132,9 @@ static bool read_text(struct results *results, const char *name) {
     }
     results->text.len = 0;
     while (results->text.len < (size_t)status.st_size) {
-        const ssize_t got = pread(results->file, results->text.at + results->text.len,
-                                  (size_t)status.st_size - results->text.len,
-                                  (off_t)results->text.len);
+        const ssize_t got =
+            pread(results->file, results->text.at + results->text.len,
+                  (size_t)status.st_size - results->text.len, (off_t)results->text.len);
         if (got < 0 && errno == EINTR) {
             continue;
         }
@@ -183,8 +183,7 @@ bool results_close(struct results *results) {
 
 static bool is_file_of(const char *name, uint64_t size) {
     struct stat status;
-    return stat(name, &status) == 0 && S_ISREG(status.st_mode) &&
-           (uint64_t)status.st_size == size;
+    return stat(name, &status) == 0 && S_ISREG(status.st_mode) && (uint64_t)status.st_size == size;
 }
 
 static bool has_digest(const char *name, size_t limit, const char *digest) {

@@ -1,7 +1,7 @@
 /*
- * The results of a list, one JSON line a run, in the order in which they end. A line is written when
- * its output is whole on the disk, and never before; that a run is done is believed only where the
- * line's digests are those of the files that are there now.
+ * The results of a list, one JSON line a run, in the order in which they end. A line is written
+ * when its output is whole on the disk, and never before; that a run is done is believed only where
+ * the line's digests are those of the files that are there now.
  */
 #ifndef BATCH_RESULTS_H
 #define BATCH_RESULTS_H

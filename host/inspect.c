@@ -9,6 +9,7 @@
 #include "findings.h"
 #include "library.h"
 #include "picture.h"
+#include "places.h"
 #include "progress.h"
 
 static const char FOREWORD[] =
@@ -249,7 +250,7 @@ static void print_report(FILE *to, const struct scene *scene) {
     }
 }
 
-/* What is printed into memory and then goes out as every output does. */
+/* What is printed into memory and then goes out as every output does, or to standard output. */
 static bool put_printed(const char *name, bool (*print)(FILE *, const struct scene *),
                         const struct scene *scene) {
     char *text = NULL;
@@ -266,7 +267,7 @@ static bool put_printed(const char *name, bool (*print)(FILE *, const struct sce
         free(text);
         return false;
     }
-    const bool good = printed && put_out(name, text, len);
+    const bool good = printed && (name == NULL ? put_text(text, len) : put_out(name, text, len));
     free(text);
     return good;
 }
@@ -302,7 +303,7 @@ static enum status put_report(const struct line *line, const struct scene *scene
         return FAILED;
     }
     if ((picture != NULL && !put_printed(picture, draw_picture, scene)) ||
-        !put_printed("-", report, scene)) {
+        !put_printed(NULL, report, scene)) {
         return FAILED;
     }
     return scene->answer == MAHYREI_ACCEPTED ? DONE : REFUSED;
@@ -320,7 +321,10 @@ static enum status inspect(const struct line *line, struct lent *run, struct fin
     }
     capture_of(&run->header, &run->slots, &capture);
     if (!has_run(run, &capture, answer)) {
+        const struct operands operands = {line->operands[0], line->operands[1], NULL,
+                                          line->operands[2]};
         say_refusal(answer);
+        say_where(answer, run, &operands);
         return REFUSED;
     }
     if (!find_all(&capture, run->marker.at, findings)) {

@@ -2,6 +2,8 @@
 #include <stdio.h>
 #include <stdlib.h>
 #include <string.h>
+#include <sys/stat.h>
+#include <unistd.h>
 
 #include "commands.h"
 #include "files.h"
@@ -97,7 +99,7 @@ static enum status print(void (*what)(FILE *)) {
         return FAILED;
     }
     what(to);
-    const bool good = fclose(to) == 0 && put_out("-", text, len);
+    const bool good = fclose(to) == 0 && put_text(text, len);
     free(text);
     return good ? DONE : FAILED;
 }
@@ -170,7 +172,7 @@ static const char *take_line(char *argv[], struct line *line) {
     return NULL;
 }
 
-static const struct command *find_command(const char *name) {
+const struct command *find_command(const char *name) {
     for (const struct command *each = COMMANDS; each->name != NULL; each++) {
         if (strcmp(name, each->name) == 0) {
             return each;
@@ -212,36 +214,83 @@ static bool several_dashes(const struct line *line) {
 
 /* ---- running */
 
-static enum status run_logged(const struct line *line) {
-    struct entry entry;
+bool put_as_told(const struct line *line, const char *name, const void *from, size_t len) {
+    return (line->options[NO_CLOBBER] == NULL ? put_out : put_new)(name, from, len);
+}
+
+bool ready_as_told(const struct line *line, const char *name) {
+    return output_ready(name, line->options[FORCE] != NULL, line->options[NO_CLOBBER] != NULL);
+}
+
+/* Whether a file, by its name or as a standard file, is this one on the disk. */
+static bool is_file(const char *name, int standard, const struct stat *file) {
+    struct stat status;
+    const int got = is_dash(name) ? fstat(standard, &status) : stat(name, &status);
+    return got == 0 && status.st_dev == file->st_dev && status.st_ino == file->st_ino;
+}
+
+/* The first file of this line that is the log, or NULL: the log's line would end up in the data, or
+ * be lost with the file that is replaced. */
+static const char *clash(const struct line *line, int log) {
+    struct stat file;
+    const int inputs = count_names(line->command->inputs);
+    if (fstat(log, &file) != 0 || (!S_ISREG(file.st_mode) && !S_ISBLK(file.st_mode))) {
+        return NULL;
+    }
+    for (int i = 0; i < inputs; i++) {
+        if (is_file(line->operands[i], STDIN_FILENO, &file)) {
+            return line->operands[i];
+        }
+    }
+    const char *const last = line->count == 0 ? NULL : line->operands[line->count - 1];
+    if (line->command->output != NULL && is_file(last, STDOUT_FILENO, &file)) {
+        return last;
+    }
+    for (int option = 0; option < OPTION_COUNT; option++) {
+        const char *const value = option == LOG ? NULL : line->options[option];
+        if (value != NULL && OPTIONS[option].value != NULL &&
+            is_file(value, STDOUT_FILENO, &file)) {
+            return value;
+        }
+    }
+    return NULL;
+}
+
+enum status run_logged(const struct line *line, struct entry *entry) {
+    struct log log;
     const char *const name = line->options[LOG];
-    const int log = log_open(name);
-    if (log < 0) {
+    if (!log_open(&log, name)) {
         return FAILED;
     }
-    entry_begin(&entry, line->command->name);
-    const enum status status = line->command->run(line, &entry);
-    progress_stop();
-    if (name == NULL && line->options[QUIET] != NULL) {
-        return status;
+    const char *const both = clash(line, log.file);
+    if (both != NULL) {
+        log_drop(&log);
+        complain_text(both, name != NULL ? "this is the log's file too"
+                                         : "this is standard error too, where the log goes");
+        return FAILED;
     }
-    return log_end(log, name, &entry, (int)status) ? status : FAILED;
+    if (name == NULL && line->options[QUIET] != NULL) {
+        log.file = -1;
+    }
+    const enum status status = line->command->run(line, entry);
+    progress_stop();
+    return log_end(&log, entry, (int)status) ? status : FAILED;
 }
 
 static enum status run(struct line *line) {
     const char *const from_environment = getenv("MAHYREI_LOG");
-    struct entry unused;
+    struct entry entry;
     if (line->options[LOG] == NULL && from_environment != NULL && from_environment[0] != '\0') {
         line->options[LOG] = from_environment;
     }
     if (line->options[QUIET] == NULL) {
         progress_start();
     }
+    entry_begin(&entry, line->command->name);
     if (line->command->logged) {
-        return run_logged(line);
+        return run_logged(line, &entry);
     }
-    entry_begin(&unused, line->command->name);
-    const enum status status = line->command->run(line, &unused);
+    const enum status status = line->command->run(line, &entry);
     progress_stop();
     return status;
 }

@@ -174,7 +174,7 @@ static void print_look(FILE *to, const struct scene *scene, const struct map *ma
 /* ---- texts */
 
 /* XML has no place for control characters, nor for what is not UTF-8. */
-static void print_escaped(FILE *to, const char *text) {
+static void print_xml(FILE *to, const char *text) {
     for (size_t length; *text != '\0'; text += length) {
         length = utf8_length(text);
         if (length == 0 || (length == 1 && (*text < ' ' || *text == 0x7F))) {
@@ -195,7 +195,7 @@ static void open_text(FILE *to, uint64_t x, uint64_t y, unsigned size, const cha
 static void print_text(FILE *to, uint64_t x, uint64_t y, unsigned size, const char *more,
                        const char *text) {
     open_text(to, x, y, size, more);
-    print_escaped(to, text);
+    print_xml(to, text);
     fputs("</text>\n", to);
 }
 
@@ -209,7 +209,7 @@ static void print_title(FILE *to, const struct scene *scene) {
     const struct mahyrei_sizes *const s = &scene->capture->sizes;
     const unsigned number = answer_number(scene->answer);
     open_text(to, 24, 32, 16, BOLD);
-    print_escaped(to, scene->name);
+    print_xml(to, scene->name);
     if (number == MAHYREI_ACCEPTED) {
         fputs(": accepted</text>\n", to);
     } else {
@@ -408,7 +408,7 @@ static void print_picture(FILE *to, const struct scene *scene, const struct map 
             "\" width=\"%d\" height=\"%" PRIu64
             "\" font-family=\"Helvetica, Arial, sans-serif\" fill=\"" INK "\">\n<title>",
             WIDTH, end + 30, WIDTH, end + 30);
-    print_escaped(to, scene->name);
+    print_xml(to, scene->name);
     fprintf(to, "</title>\n<rect width=\"%d\" height=\"%" PRIu64 "\" fill=\"#ffffff\"/>\n", WIDTH,
             end + 30);
     print_title(to, scene);

@@ -1,23 +1,118 @@
 #include "sheet.h"
 
 #include <inttypes.h>
-#include <stdio.h>
+
+static const char *const RATES[] = {"1/3", "1/2", "2/3"};
 
 unsigned sheet_of(const struct bytes *header, struct sheet *sheet) {
     mahyrei_header_fields(header->at, header->len, &sheet->fields);
     return mahyrei_sizes(header->at, header->len, &sheet->sizes);
 }
 
-size_t sheet_line(const struct sheet *sheet, unsigned number, char line[SHEET_LINE]) {
-    static const char *const RATES[] = {"1/3", "1/2", "2/3"};
+void print_sheet(FILE *to, const struct sheet *sheet, unsigned number) {
     const struct mahyrei_fields *const fields = &sheet->fields;
     const struct mahyrei_sizes *const sizes = &sheet->sizes;
-    const int len = number != MAHYREI_ACCEPTED
-                        ? snprintf(line, SHEET_LINE, "no %u\n", number)
-                        : snprintf(line, SHEET_LINE,
-                                   "%s %" PRIu64 " %" PRIu64 " %" PRIu64 " %" PRIu64 " %" PRIu64
-                                   " %" PRIu64 " %" PRIu64 " %" PRIu64 " %" PRIu64 "\n",
-                                   RATES[fields->rate], sizes->M, fields->N, fields->B, fields->F,
-                                   fields->W, fields->A, sizes->C, sizes->symbols, sizes->slots);
-    return (size_t)len;
+    if (number != MAHYREI_ACCEPTED) {
+        fprintf(to, "no %u\n", number);
+        return;
+    }
+    fprintf(to,
+            "%s %" PRIu64 " %" PRIu64 " %" PRIu64 " %" PRIu64 " %" PRIu64 " %" PRIu64 " %" PRIu64
+            " %" PRIu64 " %" PRIu64 "\n",
+            RATES[fields->rate], sizes->M, fields->N, fields->B, fields->F, fields->W, fields->A,
+            sizes->C, sizes->symbols, sizes->slots);
+}
+
+/* ---- by name */
+
+/* One field or size: its name, its value, and what it is. */
+struct row {
+    const char *name;
+    uint64_t value;
+    const char *meaning;
+};
+
+enum { FIELD_ROWS = 6, ROWS = 17 };
+
+/* The fields but the rate, which is no number to read; then what follows from them. */
+static void fill_rows(const struct sheet *sheet, struct row rows[ROWS]) {
+    const struct mahyrei_fields *const fields = &sheet->fields;
+    const struct mahyrei_sizes *const sizes = &sheet->sizes;
+    const struct row all[ROWS] = {
+        {"m", fields->m, "bits of a symbol"},
+        {"N", fields->N, "rows of the channel interleaver"},
+        {"B", fields->B, "step by which its rows grow"},
+        {"F", fields->F, "bytes of a frame"},
+        {"W", fields->W, "symbols of the marker"},
+        {"A", fields->A, "frames"},
+        {"M", sizes->M, "pulse order"},
+        {"k", sizes->k, "information bits of a block"},
+        {"S", sizes->S, "symbols of a word"},
+        {"C", sizes->C, "blocks, and words"},
+        {"R", sizes->R, "rows of S symbols, each behind a marker"},
+        {"symbols", sizes->symbols, "of the run, markers counted"},
+        {"group", sizes->group, "slots of a symbol, guard slots counted"},
+        {"slots", sizes->slots, "of the run"},
+        {"marker_bytes", sizes->marker_bytes, "of MARKER"},
+        {"frame_bytes", sizes->frame_bytes, "of FRAMES"},
+        {"slot_bytes", sizes->slot_bytes, "of SLOTS"},
+    };
+    for (int i = 0; i < ROWS; i++) {
+        rows[i] = all[i];
+    }
+}
+
+/* How many rows there are for a header: none, its fields, or all. */
+static int row_count(const struct bytes *header, unsigned number) {
+    return number == MAHYREI_ACCEPTED ? ROWS : header->len == MAHYREI_HEADER_BYTES ? FIELD_ROWS : 0;
+}
+
+static void print_digits(FILE *to, const struct bytes *header) {
+    for (size_t i = 0; i < header->len; i++) {
+        fprintf(to, "%02X", header->at[i]);
+    }
+}
+
+static const char *rate_text(const struct sheet *sheet) {
+    return sheet->fields.rate < 3 ? RATES[sheet->fields.rate] : "none";
+}
+
+void print_sheet_long(FILE *to, const struct bytes *header, const struct sheet *sheet,
+                      unsigned number) {
+    struct row rows[ROWS];
+    const int count = row_count(header, number);
+    fill_rows(sheet, rows);
+    fprintf(to, "%-14s", "header");
+    print_digits(to, header);
+    fputc('\n', to);
+    if (count > 0) {
+        fprintf(to, "%-14s%-12s %s\n", "rate", rate_text(sheet), "code rate");
+    }
+    for (int i = 0; i < count; i++) {
+        fprintf(to, "%-14s%-12" PRIu64 " %s\n", rows[i].name, rows[i].value, rows[i].meaning);
+    }
+    if (number != MAHYREI_ACCEPTED) {
+        fprintf(to, "%-14s%-12u %s\n", "no", number, mahyrei_sentence(number));
+    }
+}
+
+void print_sheet_json(FILE *to, const struct bytes *header, const struct sheet *sheet,
+                      unsigned number) {
+    struct row rows[ROWS];
+    const int count = row_count(header, number);
+    fill_rows(sheet, rows);
+    fputs("{\"header\":\"", to);
+    print_digits(to, header);
+    fprintf(to, "\",\"accepted\":%s,\"number\":%u", number == MAHYREI_ACCEPTED ? "true" : "false",
+            number);
+    if (number != MAHYREI_ACCEPTED) {
+        fprintf(to, ",\"sentence\":\"%s\"", mahyrei_sentence(number));
+    }
+    if (count > 0) {
+        fprintf(to, ",\"rate\":\"%s\"", rate_text(sheet));
+    }
+    for (int i = 0; i < count; i++) {
+        fprintf(to, ",\"%s\":%" PRIu64, rows[i].name, rows[i].value);
+    }
+    fputs("}\n", to);
 }

@@ -4,6 +4,7 @@
 
 #include <stddef.h>
 #include <stdint.h>
+#include <stdio.h>
 
 #include "files.h"
 #include "mahyrei_plain.h"
@@ -17,9 +18,12 @@ struct sheet {
 /* Fills in the sheet by the plain functions: 0, or a number from 1 to 7. */
 unsigned sheet_of(const struct bytes *header, struct sheet *sheet);
 
-enum { SHEET_LINE = 256 };
-
-/* The sheet as one line, as runsheet prints it for this number; its length. */
-size_t sheet_line(const struct sheet *sheet, unsigned number, char line[SHEET_LINE]);
+/* The sheet for this number: as the line that runsheet prints; a line for each field and size; as
+ * JSON. */
+void print_sheet(FILE *to, const struct sheet *sheet, unsigned number);
+void print_sheet_long(FILE *to, const struct bytes *header, const struct sheet *sheet,
+                      unsigned number);
+void print_sheet_json(FILE *to, const struct bytes *header, const struct sheet *sheet,
+                      unsigned number);
 
 #endif

@@ -8,6 +8,7 @@
 #include "commands.h"
 #include "library.h"
 #include "numbers.h"
+#include "places.h"
 
 /* What stands at a symbol: a marker symbol, a symbol of a word, or nothing. */
 static void print_stand(FILE *to, const struct stand *stand) {
@@ -72,7 +73,7 @@ static enum status draw(const struct capture *capture, uint64_t from, uint64_t c
         free(text);
         return FAILED;
     }
-    const bool good = put_out("-", text, len);
+    const bool good = put_text(text, len);
     free(text);
     return good ? DONE : FAILED;
 }
@@ -87,6 +88,7 @@ static enum status show(char *const operands[], struct lent *run) {
     }
     if (answer != MAHYREI_ACCEPTED) {
         say_refusal(answer);
+        say_header(answer_number(answer), &run->header, operands[0]);
         return REFUSED;
     }
     capture_of(&run->header, &run->slots, &capture);

@@ -43,6 +43,12 @@ struct mahyrei_sizes {
     size_t marker_bytes, frame_bytes, slot_bytes; /* of the slices that the run calls are lent */
 };
 
+/* The names of the fields, in the order of the header, counted from 0; NULL behind the last. */
+const char *mahyrei_field_name(size_t which);
+
+/* A field by its name; NULL where there is none of that name. */
+uint64_t *mahyrei_field(struct mahyrei_fields *fields, const char *name);
+
 /*
  * Takes a header apart, and puts questions 1 to 6 and W's range of 7 to it, as runsheet does.
  *

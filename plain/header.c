@@ -1,5 +1,7 @@
 #include "mahyrei_plain.h"
 
+#include <string.h>
+
 /* One line a field, in the order in which they are packed: its bits, its range, and the number of
  * the question that asks for the range. */
 struct field {
@@ -32,6 +34,23 @@ enum {
 
 static uint64_t value_of(const struct mahyrei_fields *fields, const struct field *field) {
     return *(const uint64_t *)(const void *)((const char *)fields + field->at);
+}
+
+static uint64_t *field_of(struct mahyrei_fields *fields, const struct field *field) {
+    return (uint64_t *)(void *)((char *)fields + field->at);
+}
+
+const char *mahyrei_field_name(size_t which) {
+    return which < FIELD_COUNT ? FIELDS[which].name : NULL;
+}
+
+uint64_t *mahyrei_field(struct mahyrei_fields *fields, const char *name) {
+    for (size_t i = 0; i < FIELD_COUNT; i++) {
+        if (strcmp(name, FIELDS[i].name) == 0) {
+            return field_of(fields, &FIELDS[i]);
+        }
+    }
+    return NULL;
 }
 
 /* ---- questions */
@@ -80,8 +99,7 @@ unsigned mahyrei_header_fields(const uint8_t *header, size_t header_len,
         bits = bits << 8 | header[i];
     }
     for (size_t i = 0; i < FIELD_COUNT; i++) {
-        *(uint64_t *)(void *)((char *)fields + FIELDS[i].at) =
-            bits >> (HEADER_BITS - FIELDS[i].bits);
+        *field_of(fields, &FIELDS[i]) = bits >> (HEADER_BITS - FIELDS[i].bits);
         bits <<= FIELDS[i].bits;
     }
     return bits != 0 ? MAHYREI_BAD_HEADER : mahyrei_fields_check(fields, NULL);

@@ -33,10 +33,14 @@ once_little_memory() {
 
 once_faults() {
     begin
-    for fault in read:1:5 write:1:28 write:1:5 fchmod:1:1 fsync:1:5 close:2:5 rename:1:5; do
+    for fault in read:1:5 write:1:28 write:1:5 fsync:1:5 close:2:5 rename:1:5; do
         prefix=(env "LD_PRELOAD=$faults" "FAULT=$fault")
         unharmed 2 'mahyrei: ' write "$header" "$marker" frames out
     done
+    echo old >out
+    prefix=(env "LD_PRELOAD=$faults" FAULT=fchmod:1:1)
+    run 2 write "$header" "$marker" frames out
+    same 'an output whose mode cannot be kept' old "$(<out)"
     prefix=(env "LD_PRELOAD=$faults" FAULT=fsync:2:5) # the folder, after the renaming
     run 2 write "$header" "$marker" frames out
     alike 'an output whose folder may not be on the disk' slots out

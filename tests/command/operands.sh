@@ -36,6 +36,7 @@ test_operands() {
     run 0 write "$header" "$marker" -- -frames out
     alike 'frames from a file named like an option' slots out
     rm out
+    rm beef
     refused 1 0 write beef "$marker" frames out
     unharmed 2 'two digits for each byte' write "${header}0" "$marker" frames out
     unharmed 2 'two digits for each byte' write "$header" hex:05000C030 frames out

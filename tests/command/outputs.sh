@@ -88,7 +88,8 @@ test_modes() {
     chmod 555 shut
     [ "$(id -u)" -ne 0 ] || chown 65534:65534 shut
     run 2 write "$header" "$marker" frames shut/out
-    has 'a folder that may not be written' 'shut/out: Permission denied' "$err"
+    has 'a folder that may not be written' \
+        'shut/out: no temporary file can be made in shut: Permission denied' "$err"
     chmod 755 shut
     prefix=()
 }
