@@ -16,7 +16,7 @@
 
 #include "capture.h"
 
-static struct capture run;
+static struct capture capture;
 
 static _Noreturn void give_up(const char *why) {
     fprintf(stderr, "slots: %s\n", why);
@@ -24,35 +24,35 @@ static _Noreturn void give_up(const char *why) {
 }
 
 static void flip(uint64_t slot) {
-    if (slot / 8 >= run.slots.len) {
+    if (slot / 8 >= capture.slots.len) {
         give_up("no such slot");
     }
-    run.slots.at[slot / 8] = (uint8_t)(run.slots.at[slot / 8] ^ 0x80 >> slot % 8);
+    capture.slots.at[slot / 8] = (uint8_t)(capture.slots.at[slot / 8] ^ 0x80 >> slot % 8);
 }
 
 /* The slot of a symbol's pulse. */
 static uint64_t pulse_of(uint64_t symbol) {
-    if (symbol >= run.sizes.symbols || group_of(&run, symbol).pulses == 0) {
+    if (symbol >= capture.run.sizes.symbols || group_of(&capture, symbol).pulses == 0) {
         give_up("no such symbol, or no pulse in it");
     }
-    return group_of(&run, symbol).first;
+    return group_of(&capture, symbol).first;
 }
 
 static void lose(uint64_t symbol) {
-    flip(symbol * run.sizes.group + pulse_of(symbol));
+    flip(symbol * capture.run.sizes.group + pulse_of(symbol));
 }
 
 /* Another symbol, by the bits in which it differs. */
 static void change(uint64_t symbol, uint64_t difference) {
     const uint64_t q = pulse_of(symbol);
-    flip(symbol * run.sizes.group + q);
-    flip(symbol * run.sizes.group + (q ^ difference));
+    flip(symbol * capture.run.sizes.group + q);
+    flip(symbol * capture.run.sizes.group + (q ^ difference));
 }
 
 /* Step 8: the symbol that holds this bit of a word. */
 static void turn(uint64_t word, uint64_t bit) {
-    const uint64_t m = run.fields.m;
-    change(symbol_of(&run, word, bit / m), UINT64_C(1) << (m - 1 - bit % m));
+    const uint64_t m = capture.run.fields.m;
+    change(symbol_of(&capture.run, word, bit / m), UINT64_C(1) << (m - 1 - bit % m));
 }
 
 /* Steps 5 and 6: from the place that takes the coded bit on, the accumulator turns all over. */
@@ -81,7 +81,7 @@ static uint64_t number(const char *text) {
 static void turn_each(char *const numbers[], int count, uint64_t limit,
                       void (*one)(uint64_t, uint64_t)) {
     for (int i = 1; i < count; i++) {
-        if (number(numbers[0]) >= run.sizes.C || number(numbers[i]) >= limit) {
+        if (number(numbers[0]) >= capture.run.sizes.C || number(numbers[i]) >= limit) {
             give_up("no such word, or no such bit");
         }
         one(number(numbers[0]), number(numbers[i]));
@@ -110,7 +110,7 @@ int main(int argc, char *argv[]) {
         give_up("HEADER, what to do, and numbers");
     }
     if (!take_in_text(argv[1], HEADER_LIMIT, &header) || !take_in("-", SLOTS_LIMIT, &slots) ||
-        capture_of(&header, &slots, &run) != 0 || slots.len != run.sizes.slot_bytes) {
+        capture_of(&header, &slots, &capture) != 0 || slots.len != capture.run.sizes.slot_bytes) {
         give_up("no such header, or slots of another length");
     }
     damage(argv[2], argv + 3, argc - 3);

@@ -266,7 +266,8 @@ static char *results_name(const struct line *line) {
 
 static bool prepare(struct batch *batch, const char *results) {
     struct bytes workers, polled;
-    const char *const others[] = {batch->line->operands[0], results, batch->line->options[LOG]};
+    const struct other others[] = {
+        {batch->line->operands[0], false}, {results, true}, {batch->line->options[LOG], true}};
     if (!count_jobs(batch->line, &batch->jobs) ||
         !list_take(batch->line->operands[0], &batch->list) ||
         !list_check(&batch->list, others, sizeof others / sizeof others[0]) ||

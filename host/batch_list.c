@@ -141,7 +141,7 @@ void list_free(struct batch_list *list) {
 /* A file that a list names, by the path that leads to it. */
 struct named {
     char *path;
-    bool output;
+    bool output; /* it is written */
     size_t line;
 };
 
@@ -177,23 +177,35 @@ static bool add_name(const char *name, bool output, size_t line, struct named *t
     return true;
 }
 
-/* By path, outputs first. */
+/* By path, what is written first, then by line. */
 static int compare_names(const void *a, const void *b) {
     const struct named *const x = a, *const y = b;
     const int order = strcmp(x->path, y->path);
-    return order != 0 ? order : (int)y->output - (int)x->output;
+    if (order != 0 || x->output != y->output) {
+        return order != 0 ? order : (int)y->output - (int)x->output;
+    }
+    return x->line < y->line ? -1 : x->line > y->line;
+}
+
+/* A line of 0 is that of the list, its results or the log. */
+static void complain_names(const struct named *one, const struct named *other) {
+    if (one->line == 0 && other->line == 0) {
+        complain_text(one->path, "the list, its results and the log have to be different files");
+    } else if (one->line == 0 || other->line == 0) {
+        complain_line(one->line + other->line, "it names the list, its results or the log");
+    } else {
+        complain_line(other->line, "it names a file that another run writes, or itself");
+    }
 }
 
 static bool differ(struct named *names, size_t count) {
     bool good = true;
     qsort(names, count, sizeof *names, compare_names);
-    for (size_t i = 1; i < count; i++) {
-        const struct named *const one = &names[i - 1], *const other = &names[i];
-        if (one->output && strcmp(one->path, other->path) == 0) {
+    for (size_t i = 1, first = 0; i < count; i++) {
+        first = strcmp(names[i].path, names[first].path) == 0 ? first : i;
+        if (first < i && names[first].output) {
+            complain_names(&names[first], &names[i]);
             good = false;
-            complain_line(one->line, other->line == 0
-                                         ? "its output is the list, its results or the log"
-                                         : "its output is named a second time in the list");
         }
     }
     return good;
@@ -216,7 +228,7 @@ static bool check_kinds(const struct item *item) {
 }
 
 /* All names, into room for them; how many, or SIZE_MAX without memory. */
-static size_t gather(const struct batch_list *list, const char *const others[], size_t count,
+static size_t gather(const struct batch_list *list, const struct other others[], size_t count,
                      struct named *names) {
     size_t named = 0;
     for (size_t i = 0; i < list->count; i++) {
@@ -229,15 +241,15 @@ static size_t gather(const struct batch_list *list, const char *const others[], 
         }
     }
     for (size_t i = 0; i < count; i++) {
-        if (others[i] != NULL && !is_dash(others[i]) &&
-            !add_name(others[i], false, 0, &names[named++])) {
+        if (others[i].name != NULL && !is_dash(others[i].name) &&
+            !add_name(others[i].name, others[i].written, 0, &names[named++])) {
             return SIZE_MAX;
         }
     }
     return named;
 }
 
-bool list_check(const struct batch_list *list, const char *const others[], size_t count) {
+bool list_check(const struct batch_list *list, const struct other others[], size_t count) {
     struct bytes room;
     bool good = true;
     for (size_t i = 0; i < list->count; i++) {

@@ -34,8 +34,14 @@ struct batch_list {
 bool list_take(const char *name, struct batch_list *list);
 void list_free(struct batch_list *list);
 
-/* Runs of a list go in any order and at once. So an output is no other operand, is none of these
- * files (NULL for none), and is a file; and so is what is read. Says what is wrong. */
-bool list_check(const struct batch_list *list, const char *const others[], size_t count);
+/* A file beside the list's; the name is NULL where there is none. */
+struct other {
+    const char *name;
+    bool written;
+};
+
+/* Runs of a list go in any order and at once. So all their operands are files, and none that is
+ * written is named a second time, by the list or among the others. Says what is wrong. */
+bool list_check(const struct batch_list *list, const struct other others[], size_t count);
 
 #endif

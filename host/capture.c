@@ -3,47 +3,13 @@
 unsigned capture_of(const struct bytes *header, const struct bytes *slots,
                     struct capture *capture) {
     *capture = (struct capture){.slots = *slots};
-    const unsigned number = mahyrei_sizes(header->at, header->len, &capture->sizes);
+    const unsigned number = sheet_of(header, &capture->run);
     if (number != MAHYREI_ACCEPTED) {
         return number;
     }
-    mahyrei_header_fields(header->at, header->len, &capture->fields);
-    const uint64_t there = (uint64_t)slots->len * 8 / capture->sizes.group;
-    capture->present = there < capture->sizes.symbols ? there : capture->sizes.symbols;
+    const uint64_t there = (uint64_t)slots->len * 8 / capture->run.sizes.group;
+    capture->present = there < capture->run.sizes.symbols ? there : capture->run.sizes.symbols;
     return number;
-}
-
-/* ---- symbols */
-
-/* Step 9: how far this place's symbol was moved on. */
-static uint64_t delay(const struct capture *capture, uint64_t place) {
-    const struct mahyrei_fields *const f = &capture->fields;
-    return place % f->N * f->B * f->N;
-}
-
-struct stand stand_of(const struct capture *capture, uint64_t symbol) {
-    const uint64_t S = capture->sizes.S, W = capture->fields.W;
-    struct stand stand = {MARKER_PART, symbol / (S + W), 0, symbol % (S + W)};
-    if (stand.at < W) {
-        return stand;
-    }
-    stand.at -= W;
-    const uint64_t place = stand.row * S + stand.at, late = delay(capture, place);
-    /* A symbol of a word is moved by a multiple of N, so its own delay is that of its place. */
-    if (place < late || place - late >= capture->sizes.C * S) {
-        stand.part = IDLE_PART;
-        return stand;
-    }
-    stand.part = WORD_PART;
-    stand.word = (place - late) / S;
-    stand.at = (place - late) % S;
-    return stand;
-}
-
-uint64_t symbol_of(const struct capture *capture, uint64_t word, uint64_t at) {
-    const uint64_t S = capture->sizes.S, W = capture->fields.W, t = word * S + at;
-    const uint64_t place = t + delay(capture, t);
-    return place / S * (S + W) + W + place % S;
 }
 
 /* ---- slots */
@@ -65,13 +31,13 @@ static void count_pulse(struct group *group, uint64_t at, uint64_t M) {
 
 /* Most bytes are empty, so they are gone over first. */
 struct group group_of(const struct capture *capture, uint64_t symbol) {
-    const uint64_t from = symbol * capture->sizes.group, end = from + capture->sizes.group;
+    const uint64_t from = symbol * capture->run.sizes.group, end = from + capture->run.sizes.group;
     struct group group = {0};
     for (uint64_t byte = from / 8; byte * 8 < end; byte++) {
         for (uint64_t slot = byte * 8; capture->slots.at[byte] != 0 && slot < byte * 8 + 8;
              slot++) {
             if (slot >= from && slot < end && pulse_at(capture, slot)) {
-                count_pulse(&group, slot - from, capture->sizes.M);
+                count_pulse(&group, slot - from, capture->run.sizes.M);
             }
         }
     }
@@ -91,7 +57,7 @@ enum fault fault_of(const struct capture *capture, const uint8_t *marker, uint64
     if (group.pulses != 1) {
         return group.pulses == 0 ? NO_PULSE : SEVERAL_PULSES;
     }
-    const struct stand stand = stand_of(capture, symbol);
+    const struct stand stand = stand_of(&capture->run, symbol);
     if (stand.part == MARKER_PART && group.first != marker[stand.at]) {
         return WRONG_MARKER;
     }
@@ -99,7 +65,7 @@ enum fault fault_of(const struct capture *capture, const uint8_t *marker, uint64
 }
 
 uint64_t fault_slot(const struct capture *capture, uint64_t symbol, enum fault fault) {
-    const uint64_t start = symbol * capture->sizes.group;
+    const uint64_t start = symbol * capture->run.sizes.group;
     const struct group group = fault == MISSING ? (struct group){0} : group_of(capture, symbol);
     switch (fault) {
     case GUARD_PULSE:

@@ -25,14 +25,15 @@ static void add(struct found *found, uint64_t at) {
 
 static void find_symbols(const struct capture *capture, const uint8_t *marker,
                          struct findings *findings) {
-    for (uint64_t symbol = 0; symbol < capture->sizes.symbols; symbol++) {
+    for (uint64_t symbol = 0; symbol < capture->run.sizes.symbols; symbol++) {
         const enum fault fault = fault_of(capture, marker, symbol);
         if (fault != SOUND) {
             add(&findings->symbols[fault], symbol);
         }
     }
-    for (uint64_t slot = capture->sizes.slots;
-         capture->slots.len == capture->sizes.slot_bytes && slot < capture->slots.len * 8; slot++) {
+    for (uint64_t slot = capture->run.sizes.slots;
+         capture->slots.len == capture->run.sizes.slot_bytes && slot < capture->slots.len * 8;
+         slot++) {
         if (pulse_at(capture, slot)) {
             add(&findings->spare, slot);
         }
@@ -44,10 +45,10 @@ static void find_symbols(const struct capture *capture, const uint8_t *marker,
 /* Step 8 undone. False where a symbol of the word has no value. */
 static bool word_of(const struct capture *capture, uint64_t word,
                     uint8_t bytes[MAHYREI_WORD_BYTES]) {
-    const uint64_t m = capture->fields.m;
+    const uint64_t m = capture->run.fields.m;
     memset(bytes, 0, MAHYREI_WORD_BYTES);
-    for (uint64_t at = 0; at < capture->sizes.S; at++) {
-        const uint64_t symbol = symbol_of(capture, word, at);
+    for (uint64_t at = 0; at < capture->run.sizes.S; at++) {
+        const uint64_t symbol = symbol_of(&capture->run, word, at);
         if (symbol >= capture->present) {
             return false;
         }
@@ -65,10 +66,10 @@ static bool word_of(const struct capture *capture, uint64_t word,
 
 static bool find_words(const struct capture *capture, struct findings *findings) {
     uint8_t word[MAHYREI_WORD_BYTES];
-    for (uint64_t i = 0; i < capture->sizes.C; i++) {
+    for (uint64_t i = 0; i < capture->run.sizes.C; i++) {
         findings->words[i] = NOT_ASKED;
         if (word_of(capture, i, word) &&
-            !library_word_read(capture->fields.rate, word,
+            !library_word_read(capture->run.fields.rate, word,
                                findings->blocks.at + i * MAHYREI_BLOCK_BYTES_MAX,
                                &findings->words[i])) {
             return false;
@@ -82,14 +83,10 @@ static bool find_words(const struct capture *capture, struct findings *findings)
 /* A bit of the joined frames; known only where its word was accepted. */
 static bool stream_bit(const struct capture *capture, const struct findings *findings, uint64_t bit,
                        unsigned *value) {
-    const uint64_t block = bit / capture->sizes.k, in = bit % capture->sizes.k;
+    const uint64_t block = bit / capture->run.sizes.k, in = bit % capture->run.sizes.k;
     const uint8_t *const at = findings->blocks.at + block * MAHYREI_BLOCK_BYTES_MAX;
     *value = at[in / 8] >> (7 - in % 8) & 1;
     return findings->words[block] == MAHYREI_ACCEPTED;
-}
-
-static uint64_t marked_bits(const struct capture *capture) {
-    return MAHYREI_FRAME_MARKER_BITS + 8 * capture->fields.F;
 }
 
 /* A marker with a wrong bit is wrong, even if others of its bits are not known. */
@@ -98,7 +95,7 @@ static enum frame_state frame_at(const struct capture *capture, const struct fin
     enum frame_state state = FRAME_RIGHT;
     for (uint64_t i = 0; i < MAHYREI_FRAME_MARKER_BITS; i++) {
         unsigned bit;
-        if (!stream_bit(capture, findings, frame * marked_bits(capture) + i, &bit)) {
+        if (!stream_bit(capture, findings, frame * marked_bits(&capture->run) + i, &bit)) {
             state = FRAME_UNKNOWN;
         } else if (bit != (MAHYREI_FRAME_MARKER >> (MAHYREI_FRAME_MARKER_BITS - 1 - i) & 1)) {
             return FRAME_WRONG;
@@ -108,12 +105,12 @@ static enum frame_state frame_at(const struct capture *capture, const struct fin
 }
 
 static void find_frames(const struct capture *capture, struct findings *findings) {
-    const uint64_t A = capture->fields.A;
+    const uint64_t A = capture->run.fields.A;
     for (uint64_t frame = 0; frame < A; frame++) {
         findings->frames[frame] = frame_at(capture, findings, frame);
     }
-    for (uint64_t bit = A * marked_bits(capture); bit < capture->sizes.C * capture->sizes.k;
-         bit++) {
+    for (uint64_t bit = A * marked_bits(&capture->run);
+         bit < capture->run.sizes.C * capture->run.sizes.k; bit++) {
         unsigned set;
         if (stream_bit(capture, findings, bit, &set) && set) {
             add(&findings->fill, bit);
@@ -126,11 +123,12 @@ static void find_frames(const struct capture *capture, struct findings *findings
 static bool make_rooms(const struct capture *capture, struct findings *findings) {
     struct bytes words, frames;
     *findings = (struct findings){0};
-    const bool first = make_room(capture->sizes.C * sizeof *findings->words, &words);
+    const bool first = make_room(capture->run.sizes.C * sizeof *findings->words, &words);
     findings->words = (void *)words.at;
-    const bool second = first && make_room(capture->fields.A * sizeof *findings->frames, &frames);
+    const bool second =
+        first && make_room(capture->run.fields.A * sizeof *findings->frames, &frames);
     findings->frames = second ? (void *)frames.at : NULL;
-    if (!second || !make_room(capture->sizes.C * MAHYREI_BLOCK_BYTES_MAX, &findings->blocks)) {
+    if (!second || !make_room(capture->run.sizes.C * MAHYREI_BLOCK_BYTES_MAX, &findings->blocks)) {
         return false;
     }
     memset(findings->blocks.at, 0, findings->blocks.len);
@@ -159,7 +157,7 @@ void free_findings(struct findings *findings) {
 uint64_t count_words(const struct capture *capture, const struct findings *findings,
                      uint64_t number) {
     uint64_t count = 0;
-    for (uint64_t i = 0; i < capture->sizes.C; i++) {
+    for (uint64_t i = 0; i < capture->run.sizes.C; i++) {
         const uint64_t answer = findings->words[i];
         count += number == NOT_ASKED ? answer == NOT_ASKED
                                      : answer != NOT_ASKED && answer_number(answer) == number;
@@ -170,7 +168,7 @@ uint64_t count_words(const struct capture *capture, const struct findings *findi
 uint64_t count_frames(const struct capture *capture, const struct findings *findings,
                       enum frame_state state) {
     uint64_t count = 0;
-    for (uint64_t i = 0; i < capture->fields.A; i++) {
+    for (uint64_t i = 0; i < capture->run.fields.A; i++) {
         count += findings->frames[i] == state;
     }
     return count;
@@ -197,7 +195,7 @@ static uint64_t first_symbol(const struct findings *findings, enum mahyrei_numbe
 uint64_t expected_answer(const struct capture *capture, const struct findings *findings) {
     static const enum mahyrei_number SYMBOLS[] = {MAHYREI_BAD_PULSE, MAHYREI_WRONG_MARKER,
                                                   MAHYREI_BAD_IDLE};
-    if (capture->slots.len != capture->sizes.slot_bytes) {
+    if (capture->slots.len != capture->run.sizes.slot_bytes) {
         return MAHYREI_BAD_LENGTH;
     }
     if (findings->spare.count > 0) {
@@ -209,12 +207,12 @@ uint64_t expected_answer(const struct capture *capture, const struct findings *f
             return answer_of(first, SYMBOLS[i]);
         }
     }
-    for (uint64_t i = 0; i < capture->sizes.C; i++) {
+    for (uint64_t i = 0; i < capture->run.sizes.C; i++) {
         if (findings->words[i] != MAHYREI_ACCEPTED) {
             return answer_of(i, answer_number(findings->words[i]));
         }
     }
-    for (uint64_t i = 0; i < capture->fields.A; i++) {
+    for (uint64_t i = 0; i < capture->run.fields.A; i++) {
         if (findings->frames[i] != FRAME_RIGHT) {
             return answer_of(i, MAHYREI_BAD_FRAME_MARKER);
         }

@@ -26,8 +26,8 @@ static void count_line(FILE *to, char letter, const char *what, uint64_t count, 
 
 /* How many symbols could have this fault. */
 static uint64_t candidates(const struct capture *capture, size_t fault) {
-    const struct mahyrei_sizes *const sizes = &capture->sizes;
-    return fault == WRONG_MARKER ? sizes->R * capture->fields.W
+    const struct mahyrei_sizes *const sizes = &capture->run.sizes;
+    return fault == WRONG_MARKER ? sizes->R * capture->run.fields.W
            : fault == NOT_ZERO   ? (sizes->R - sizes->C) * sizes->S
                                  : sizes->symbols;
 }
@@ -52,9 +52,8 @@ static const char *const FRAME_LINES[] = {
 };
 
 static void print_counts(FILE *to, const struct capture *capture, const struct findings *findings) {
-    const struct mahyrei_sizes *const sizes = &capture->sizes;
-    const uint64_t frame_bits =
-        capture->fields.A * (MAHYREI_FRAME_MARKER_BITS + 8 * capture->fields.F);
+    const struct mahyrei_sizes *const sizes = &capture->run.sizes;
+    const uint64_t frame_bits = capture->run.fields.A * marked_bits(&capture->run);
     for (size_t i = 0; i < FAULTS; i++) {
         count_line(to, FAULT_LINES[i].letter, FAULT_LINES[i].name, findings->symbols[i].count,
                    candidates(capture, i));
@@ -67,7 +66,7 @@ static void print_counts(FILE *to, const struct capture *capture, const struct f
     }
     for (size_t i = 0; i <= FRAME_UNKNOWN; i++) {
         count_line(to, ' ', FRAME_LINES[i], count_frames(capture, findings, (enum frame_state)i),
-                   capture->fields.A);
+                   capture->run.fields.A);
     }
     count_line(to, ' ', "fill bits set behind the frames", findings->fill.count,
                sizes->C * sizes->k - frame_bits);
@@ -89,7 +88,7 @@ static void print_stand(FILE *to, const struct stand *stand) {
 static void print_symbol(FILE *to, const struct capture *capture, uint64_t symbol,
                          enum fault fault) {
     const uint64_t slot = fault_slot(capture, symbol, fault);
-    const struct stand stand = stand_of(capture, symbol);
+    const struct stand stand = stand_of(&capture->run, symbol);
     fprintf(to, "    symbol %" PRIu64 ", slot %" PRIu64 ", byte %" PRIu64 ": ", symbol, slot,
             slot / 8);
     print_stand(to, &stand);
@@ -128,7 +127,7 @@ static void print_bits(FILE *to, const struct found *found, const char *what, co
 static void print_words(FILE *to, const struct capture *capture, const struct findings *findings,
                         const struct word_line *line) {
     uint64_t listed = 0;
-    for (uint64_t i = 0; i < capture->sizes.C; i++) {
+    for (uint64_t i = 0; i < capture->run.sizes.C; i++) {
         const uint64_t answer = findings->words[i];
         const uint64_t number = answer == NOT_ASKED ? NOT_ASKED : answer_number(answer);
         if (number != line->number || ++listed > FIRST_FEW) {
@@ -141,16 +140,16 @@ static void print_words(FILE *to, const struct capture *capture, const struct fi
         if (number == MAHYREI_BAD_CODE) {
             fprintf(to, ", first wrong coded bit %" PRIu64, answer_place(answer));
         }
-        fprintf(to, ", its first symbol is symbol %" PRIu64 "\n", symbol_of(capture, i, 0));
+        fprintf(to, ", its first symbol is symbol %" PRIu64 "\n", symbol_of(&capture->run, i, 0));
     }
     print_rest(to, listed);
 }
 
 static void print_frames(FILE *to, const struct capture *capture, const struct findings *findings,
                          enum frame_state state) {
-    const uint64_t marked = MAHYREI_FRAME_MARKER_BITS + 8 * capture->fields.F;
+    const uint64_t marked = marked_bits(&capture->run);
     uint64_t listed = 0;
-    for (uint64_t i = 0; i < capture->fields.A; i++) {
+    for (uint64_t i = 0; i < capture->run.fields.A; i++) {
         if (findings->frames[i] != state || ++listed > FIRST_FEW) {
             continue;
         }
@@ -158,7 +157,7 @@ static void print_frames(FILE *to, const struct capture *capture, const struct f
             fprintf(to, "  %s\n", FRAME_LINES[state]);
         }
         fprintf(to, "    frame %" PRIu64 ", from word %" PRIu64 " bit %" PRIu64 " on\n", i,
-                i * marked / capture->sizes.k, i * marked % capture->sizes.k);
+                i * marked / capture->run.sizes.k, i * marked % capture->run.sizes.k);
     }
     print_rest(to, listed);
 }
@@ -183,9 +182,9 @@ struct parts {
 };
 
 static void count_parts(const struct capture *capture, const uint8_t *marker, struct parts *parts) {
-    for (uint64_t symbol = 0; symbol < capture->sizes.symbols; symbol++) {
+    for (uint64_t symbol = 0; symbol < capture->run.sizes.symbols; symbol++) {
         const enum fault fault = fault_of(capture, marker, symbol);
-        const uint64_t part = symbol * PARTS / capture->sizes.symbols;
+        const uint64_t part = symbol * PARTS / capture->run.sizes.symbols;
         if (fault != SOUND) {
             parts->counts[part][fault]++;
             parts->totals[part]++;
@@ -214,7 +213,7 @@ static void print_histogram(FILE *to, const struct capture *capture, const uint8
     fputs("\nOver the run, from which symbol on, how many, and of which letter:\n", to);
     for (uint64_t i = 0; i < PARTS; i++) {
         /* The first symbol of a part: the division in count_parts, turned round. */
-        const uint64_t first = (i * capture->sizes.symbols + PARTS - 1) / PARTS;
+        const uint64_t first = (i * capture->run.sizes.symbols + PARTS - 1) / PARTS;
         fprintf(to, "  %9" PRIu64 " %9" PRIu64 "  ", first, parts.totals[i]);
         print_bar(to, parts.counts[i], parts.most);
         fputs("\n", to);
@@ -237,9 +236,9 @@ static void print_report(FILE *to, const struct scene *scene) {
     const struct findings *const findings = scene->findings;
     print_answer(to, scene->answer);
     fputs(FOREWORD, to);
-    if (capture->slots.len != capture->sizes.slot_bytes) {
+    if (capture->slots.len != capture->run.sizes.slot_bytes) {
         fprintf(to, "\nThe capture has %zu bytes, and the header implies %zu.\n",
-                capture->slots.len, capture->sizes.slot_bytes);
+                capture->slots.len, capture->run.sizes.slot_bytes);
     }
     fputs("\nHow many:\n", to);
     print_counts(to, capture, findings);
@@ -292,7 +291,7 @@ static bool take_in_capture(char *const operands[], struct lent *run) {
 static bool has_run(const struct lent *run, const struct capture *capture, uint64_t answer) {
     const unsigned number = answer_number(answer);
     return number == MAHYREI_ACCEPTED || number > MAHYREI_BAD_LENGTH ||
-           (number == MAHYREI_BAD_LENGTH && run->marker.len == capture->sizes.marker_bytes);
+           (number == MAHYREI_BAD_LENGTH && run->marker.len == capture->run.sizes.marker_bytes);
 }
 
 static enum status put_report(const struct line *line, const struct scene *scene) {

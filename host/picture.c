@@ -61,8 +61,8 @@ static uint64_t least(uint64_t a, uint64_t b) {
 
 /* Sets how the map is cut; a cell has a symbol at least. */
 static void cut_map(const struct capture *capture, struct map *map) {
-    const uint64_t R = capture->sizes.R;
-    map->lines_per_row = R > FEW_ROWS ? 1 : least(FEW_ROWS / R, capture->sizes.S / COLUMNS);
+    const uint64_t R = capture->run.sizes.R;
+    map->lines_per_row = R > FEW_ROWS ? 1 : least(FEW_ROWS / R, capture->run.sizes.S / COLUMNS);
     map->rows_per_line = (R + MOST_LINES - 1) / MOST_LINES;
     map->lines = (R + map->rows_per_line - 1) / map->rows_per_line * map->lines_per_row;
     map->height = least(MAP_HEIGHT / map->lines < 4 ? 4 : MAP_HEIGHT / map->lines, 12);
@@ -80,7 +80,7 @@ struct spot {
 };
 
 static struct spot spot_of(const struct capture *capture, const struct map *map, uint64_t symbol) {
-    const uint64_t S = capture->sizes.S, W = capture->fields.W;
+    const uint64_t S = capture->run.sizes.S, W = capture->run.fields.W;
     const uint64_t line = symbol / (S + W) / map->rows_per_line * map->lines_per_row;
     const uint64_t in = symbol % (S + W);
     if (in < W) {
@@ -91,17 +91,17 @@ static struct spot spot_of(const struct capture *capture, const struct map *map,
 }
 
 static struct cell *cell_at(const struct scene *scene, const struct map *map, struct spot spot) {
-    return spot.marker ? &map->markers[spot.line * scene->capture->fields.W + spot.column]
+    return spot.marker ? &map->markers[spot.line * scene->capture->run.fields.W + spot.column]
                        : &map->cells[spot.line * COLUMNS + spot.column];
 }
 
 static void fill_map(const struct scene *scene, const struct map *map) {
     const struct capture *const capture = scene->capture;
-    for (uint64_t symbol = 0; symbol < capture->sizes.symbols; symbol++) {
+    for (uint64_t symbol = 0; symbol < capture->run.sizes.symbols; symbol++) {
         struct cell *const cell = cell_at(scene, map, spot_of(capture, map, symbol));
         const enum fault fault = fault_of(capture, scene->marker, symbol);
         cell->total++;
-        cell->idle += stand_of(capture, symbol).part == IDLE_PART;
+        cell->idle += stand_of(&capture->run, symbol).part == IDLE_PART;
         if (fault != SOUND) {
             cell->faults[fault]++;
         }
@@ -155,7 +155,7 @@ static void print_cells(FILE *to, const struct cell *cells, uint64_t count, unsi
 }
 
 static void print_look(FILE *to, const struct scene *scene, const struct map *map, unsigned look) {
-    const uint64_t W = scene->capture->fields.W;
+    const uint64_t W = scene->capture->run.fields.W;
     bool open = false;
     for (uint64_t line = 0; line < map->lines; line++) {
         const uint64_t top = line_top(map, line);
@@ -205,8 +205,8 @@ static const char PALE_RIGHT[] = " fill=\"" GREY "\" text-anchor=\"end\"";
 
 static void print_title(FILE *to, const struct scene *scene) {
     static const char *const RATES[] = {"1/3", "1/2", "2/3"};
-    const struct mahyrei_fields *const f = &scene->capture->fields;
-    const struct mahyrei_sizes *const s = &scene->capture->sizes;
+    const struct mahyrei_fields *const f = &scene->capture->run.fields;
+    const struct mahyrei_sizes *const s = &scene->capture->run.sizes;
     const unsigned number = answer_number(scene->answer);
     open_text(to, 24, 32, 16, BOLD);
     print_xml(to, scene->name);
@@ -228,8 +228,8 @@ static void print_title(FILE *to, const struct scene *scene) {
 
 /* The first symbol of a line, where the number before is not too near. */
 static void print_scale(FILE *to, const struct scene *scene, const struct map *map) {
-    const struct mahyrei_sizes *const sizes = &scene->capture->sizes;
-    const uint64_t row = sizes->S + scene->capture->fields.W, per_row = map->lines_per_row;
+    const struct mahyrei_sizes *const sizes = &scene->capture->run.sizes;
+    const uint64_t row = sizes->S + scene->capture->run.fields.W, per_row = map->lines_per_row;
     uint64_t free_from = 0;
     print_text(to, LEFT - 8, TOP - 10, 11, PALE_RIGHT, "symbol");
     print_text(to, LEFT, TOP - 10, 11, PALE, "marker");
@@ -322,7 +322,7 @@ static uint64_t print_squares(FILE *to, const struct scene *scene, const char *w
 }
 
 static uint64_t frames_top(const struct scene *scene) {
-    return square_y(TOP, scene->capture->sizes.C - 1) + SQUARE + KEY_GAP +
+    return square_y(TOP, scene->capture->run.sizes.C - 1) + SQUARE + KEY_GAP +
            WORD_STATE_COUNT * LEGEND_LINE + 28;
 }
 
@@ -330,14 +330,14 @@ static uint64_t frames_top(const struct scene *scene) {
 static void print_side(FILE *to, const struct scene *scene) {
     const struct capture *const capture = scene->capture;
     print_text(to, SIDE, TOP - 10, 11, PALE, "words, by word_read");
-    uint64_t y = print_squares(to, scene, "word", capture->sizes.C, TOP, word_state) + KEY_GAP;
+    uint64_t y = print_squares(to, scene, "word", capture->run.sizes.C, TOP, word_state) + KEY_GAP;
     for (size_t i = 0; i < WORD_STATE_COUNT; i++, y += LEGEND_LINE) {
         print_key(to, SIDE, y, WORD_STATES[i].colour, WORD_STATES[i].text,
                   count_words(capture, scene->findings, WORD_STATES[i].value));
     }
     y = frames_top(scene);
     print_text(to, SIDE, y - 10, 11, PALE, "frames");
-    y = print_squares(to, scene, "frame", capture->fields.A, y, frame_state) + KEY_GAP;
+    y = print_squares(to, scene, "frame", capture->run.fields.A, y, frame_state) + KEY_GAP;
     for (size_t i = 0; i < FRAME_STATE_COUNT; i++, y += LEGEND_LINE) {
         print_key(to, SIDE, y, FRAME_STATES[i].colour, FRAME_STATES[i].text,
                   count_frames(capture, scene->findings, (enum frame_state)FRAME_STATES[i].value));
@@ -356,7 +356,7 @@ static void ring(FILE *to, uint64_t x, uint64_t y) {
 static void ring_symbol(FILE *to, const struct scene *scene, const struct map *map,
                         uint64_t symbol) {
     const struct spot spot = spot_of(scene->capture, map, symbol);
-    const uint64_t width = spot.marker ? MARKER_WIDTH / scene->capture->fields.W : CELL;
+    const uint64_t width = spot.marker ? MARKER_WIDTH / scene->capture->run.fields.W : CELL;
     ring(to, (spot.marker ? LEFT : SYMBOLS_LEFT) + spot.column * width + width / 2,
          line_top(map, spot.line) + map->height / 2);
 }
@@ -386,7 +386,7 @@ static void print_place(FILE *to, const struct scene *scene, const struct map *m
 
 /* Below the map: what the colours say. */
 static void print_legend(FILE *to, const struct scene *scene, uint64_t top) {
-    const struct mahyrei_sizes *const sizes = &scene->capture->sizes;
+    const struct mahyrei_sizes *const sizes = &scene->capture->run.sizes;
     print_key(to, SYMBOLS_LEFT, top, SHADE_COLOURS[0], "symbols of words", sizes->C * sizes->S);
     print_key(to, SYMBOLS_LEFT + SYMBOLS_WIDTH / 2, top, SHADE_COLOURS[SHADES - 1],
               "places of no word", (sizes->R - sizes->C) * sizes->S);
@@ -400,8 +400,8 @@ static void print_picture(FILE *to, const struct scene *scene, const struct map 
     const uint64_t map_end = line_top(map, map->lines - 1) + map->height;
     const uint64_t legend_top = map_end + 28;
     const uint64_t left_end = legend_top + (1 + (FAULTS + 1) / 2) * LEGEND_LINE;
-    const uint64_t side_end = square_y(frames_top(scene), scene->capture->fields.A - 1) + SQUARE +
-                              14 + FRAME_STATE_COUNT * LEGEND_LINE;
+    const uint64_t side_end = square_y(frames_top(scene), scene->capture->run.fields.A - 1) +
+                              SQUARE + 14 + FRAME_STATE_COUNT * LEGEND_LINE;
     const uint64_t end = left_end > side_end ? left_end : side_end;
     fprintf(to,
             "<svg xmlns=\"http://www.w3.org/2000/svg\" viewBox=\"0 0 %d %" PRIu64
@@ -431,7 +431,7 @@ bool draw_picture(FILE *to, const struct scene *scene) {
     cut_map(scene->capture, &map);
     const bool good =
         make_room(map.lines * COLUMNS * sizeof *map.cells, &cells) &&
-        make_room(map.lines * scene->capture->fields.W * sizeof *map.markers, &markers);
+        make_room(map.lines * scene->capture->run.fields.W * sizeof *map.markers, &markers);
     if (good) {
         memset(cells.at, 0, cells.len);
         memset(markers.at, 0, markers.len);

@@ -22,9 +22,9 @@ static void print_stand(FILE *to, const struct stand *stand) {
 }
 
 static void print_slots(FILE *to, const struct capture *capture, uint64_t symbol) {
-    const uint64_t start = symbol * capture->sizes.group;
-    for (uint64_t slot = 0; slot < capture->sizes.group; slot++) {
-        const bool guard = slot >= capture->sizes.M, pulse = pulse_at(capture, start + slot);
+    const uint64_t start = symbol * capture->run.sizes.group;
+    for (uint64_t slot = 0; slot < capture->run.sizes.group; slot++) {
+        const bool guard = slot >= capture->run.sizes.M, pulse = pulse_at(capture, start + slot);
         fputc(pulse ? (guard ? '!' : '|') : (guard ? '_' : '.'), to);
     }
 }
@@ -41,7 +41,7 @@ static void print_fault(FILE *to, const struct group *group) {
 }
 
 static void print_symbol(FILE *to, const struct capture *capture, uint64_t symbol) {
-    const struct stand stand = stand_of(capture, symbol);
+    const struct stand stand = stand_of(&capture->run, symbol);
     const struct group group = group_of(capture, symbol);
     fprintf(to, "%7" PRIu64 "  ", symbol);
     print_stand(to, &stand);
