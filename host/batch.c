@@ -58,6 +58,7 @@ static int make_run(const struct batch *batch, const struct item *item, struct e
     struct line line = {.command = find_command(item->writing ? "write" : "read"),
                         .count = 4,
                         .operands = (char **)item->operands};
+    entry_begin(entry, line.command->name);
     if (record != NULL && still_done(item, record)) {
         return SKIPPED;
     }
@@ -76,7 +77,6 @@ static _Noreturn void work(const struct batch *batch, const struct item *item, p
     close(said_to[0]);
     close(said_to[1]);
     close(entry_to[0]);
-    entry_begin(&entry, "");
     const int end = make_run(batch, item, &entry);
     _exit(write_all(entry_to[1], &entry, sizeof entry) ? end : FAILED);
 }

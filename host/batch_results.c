@@ -8,6 +8,7 @@
 #include <sys/stat.h>
 #include <unistd.h>
 
+#include "commands.h"
 #include "json.h"
 #include "mahyrei_plain.h"
 
@@ -230,29 +231,28 @@ static void print_member(FILE *to, const char *name, const char *text) {
     }
 }
 
-static void print_part(FILE *to, const char *name, const struct entry_part *part) {
-    fprintf(to, ", \"%s_bytes\": ", name);
+static void print_part(FILE *to, const char *bytes, const char *sha256,
+                       const struct entry_part *part) {
+    fprintf(to, ", \"%s\": ", bytes);
     if (part->size == NO_SIZE) {
         fputs("null", to);
     } else {
         fprintf(to, "%zu", part->size);
     }
-    fprintf(to, ", \"%s_sha256\": ", name);
-    if (part->digest[0] == '\0') {
-        fputs("null", to);
-    } else {
-        json_print(to, part->digest);
-    }
+    print_member(to, sha256, part->size == NO_SIZE ? NULL : part->digest);
 }
 
-static void print_answer(FILE *to, const struct entry *entry) {
+/* Where the output failed, the sentence of 0 would say what is not so. */
+static void print_answer(FILE *to, const struct entry *entry, int status) {
     if (!entry->answered) {
         fputs(", \"number\": null, \"place\": null", to);
         return;
     }
     fprintf(to, ", \"number\": %u, \"place\": %" PRIu64, answer_number(entry->answer),
             answer_place(entry->answer));
-    print_member(to, "sentence", mahyrei_sentence(answer_number(entry->answer)));
+    if (status != FAILED) {
+        print_member(to, "sentence", mahyrei_sentence(answer_number(entry->answer)));
+    }
 }
 
 static void print_result(FILE *to, const struct result *result) {
@@ -266,9 +266,9 @@ static void print_result(FILE *to, const struct result *result) {
     if (result->entry != NULL) {
         print_member(to, "header_hex", result->entry->header);
         print_member(to, "marker_hex", result->entry->marker_digits);
-        print_part(to, "frames", &result->entry->frames);
-        print_part(to, "slots", &result->entry->slots);
-        print_answer(to, result->entry);
+        print_part(to, "frames_bytes", "frames_sha256", &result->entry->frames);
+        print_part(to, "slots_bytes", "slots_sha256", &result->entry->slots);
+        print_answer(to, result->entry, result->status);
     }
     if (result->signal != 0) {
         fprintf(to, ", \"signal\": %d", result->signal);

@@ -17,8 +17,8 @@ damages() {
     cp slots damaged
     for word in "$@" -; do
         if [ "$word" = - ]; then
-            "$tool" "$header" "${words[@]}" <damaged >more
-            mv more damaged
+            "$tool" "$header" "${words[@]}" <damaged >next
+            mv next damaged
             words=()
         else
             words+=("$word")
