@@ -162,6 +162,13 @@ install-shared: $(SHARED)
 	ln -sf libmahyrei.so.$(VERSION) '$(DESTDIR)$(LIBDIR)/libmahyrei.so.$(ABI)'
 	ln -sf libmahyrei.so.$(ABI) '$(DESTDIR)$(LIBDIR)/libmahyrei.so'
 
+INSTALLED += $(MANDIR)/man3/mahyrei.3
+install: install-manual
+.PHONY: install-manual
+install-manual: host/mahyrei.3
+	install -d '$(DESTDIR)$(MANDIR)/man3'
+	install -m 644 $< '$(DESTDIR)$(MANDIR)/man3/mahyrei.3'
+
 # The Python module, which is told where the library is.
 PYTHONDIR ?= $(PREFIX)/share/mahyrei/python
 INSTALLED += $(PYTHONDIR)/mahyrei.py
