@@ -87,7 +87,7 @@ once_manual_of_calls() {
         echo '#include <err.h>'
         echo '#include <inttypes.h>'
         echo '#include <stdlib.h>'
-        sed -n '/^.SH SYN/,/^.fi/ { s/^\.BI* //; s/" \([a-z_]*\) \(\[.*\),"$/\1\2,/; /^\./d; s/[" ]/ /g; p }' "$page"
+        sed -n '/^.SH SYN/,/^.fi/ { s/^\.BI* //; /^\./d; s/[" ]/ /g; p }' "$page"
         echo 'int use(const uint8_t *marker, const uint8_t *slots, size_t slots_len) {'
         sed -n '/^.SH EXAMPLES/,/^.fi/ { /^\./d; p }' "$page"
         echo 'return frames[0]; }'
