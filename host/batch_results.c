@@ -11,6 +11,7 @@
 #include "commands.h"
 #include "json.h"
 #include "mahyrei_plain.h"
+#include "progress.h"
 
 /* ---- reading */
 
@@ -291,6 +292,9 @@ bool results_add(struct results *results, const struct result *result) {
     print_result(to, result);
     const bool printed = fflush(to) == 0 && ferror(to) == 0;
     const bool closed = fclose(to) == 0;
+    if (results->name == NULL) {
+        progress_wipe(); /* both may be the same terminal */
+    }
     const bool good = printed && closed && write_all(results->file, text, len);
     if (!good) {
         complain(name, errno);

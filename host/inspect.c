@@ -266,6 +266,7 @@ static bool put_printed(const char *name, bool (*print)(FILE *, const struct sce
         free(text);
         return false;
     }
+    progress_stop();
     const bool good = printed && (name == NULL ? put_text(text, len) : put_out(name, text, len));
     free(text);
     return good;

@@ -9,6 +9,7 @@
 #include "library.h"
 #include "numbers.h"
 #include "places.h"
+#include "progress.h"
 
 /* What stands at a symbol: a marker symbol, a symbol of a word, or nothing. */
 static void print_stand(FILE *to, const struct stand *stand) {
@@ -55,27 +56,42 @@ static void print_symbol(FILE *to, const struct capture *capture, uint64_t symbo
     fputc('\n', to);
 }
 
-static enum status draw(const struct capture *capture, uint64_t from, uint64_t count) {
+/* Some symbols at a time: all of a long run would be gigabytes of text. */
+enum { AT_ONCE = 1024 };
+
+static bool draw_some(const struct capture *capture, uint64_t from, uint64_t count) {
     char *text = NULL;
     size_t len = 0;
     FILE *const to = open_memstream(&text, &len);
     if (to == NULL) {
         complain("memory", errno);
-        return FAILED;
+        return false;
     }
-    const uint64_t left = capture->present - from;
-    for (uint64_t i = 0; i < count && i < left; i++) {
+    for (uint64_t i = 0; i < count; i++) {
         print_symbol(to, capture, from + i);
     }
     const bool whole = fflush(to) == 0 && ferror(to) == 0;
     if (fclose(to) != 0 || !whole) {
         complain("memory", ENOMEM);
         free(text);
-        return FAILED;
+        return false;
     }
+    progress_stop();
     const bool good = put_text(text, len);
     free(text);
-    return good ? DONE : FAILED;
+    return good;
+}
+
+static enum status draw(const struct capture *capture, uint64_t from, uint64_t count) {
+    const uint64_t there = capture->present - from, end = from + (count < there ? count : there);
+    while (from < end) {
+        const uint64_t some = end - from < AT_ONCE ? end - from : AT_ONCE;
+        if (!draw_some(capture, from, some)) {
+            return FAILED;
+        }
+        from += some;
+    }
+    return DONE;
 }
 
 static enum status show(char *const operands[], struct lent *run) {

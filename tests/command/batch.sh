@@ -222,6 +222,21 @@ file = open("list.results", "a"); fcntl.lockf(file, fcntl.LOCK_EX); open("held",
     wait "$holder" 2>/dev/null
 }
 
+once_batch_progress() {
+    if ! command -v script >"$said/out"; then
+        return
+    fi
+    begin
+    "$mahyrei" -q write "$example" "$example_marker" example run
+    for ((run = 0; run < 40; run++)); do
+        printf 'read\t%s\t%s\trun\tback%s\n' "$example" "$example_marker" "$run"
+    done >list
+    local wiped=$'\r\e\\[K' form
+    form="^(${wiped}mahyrei: [0-9]+ of 40 runs, [0-9]+\\.[05] s)+${wiped}mahyrei: 40 runs: 40 done"
+    script -qec "$mahyrei batch --jobs 1 list" /dev/null </dev/null >"$said/out"
+    same "progress of a list: $(cat -v "$said/out")" yes "$([[ $(out) =~ $form ]] && echo yes)"
+}
+
 # children PROCESS: those it has now, in $children; false where there are none
 children() {
     children=$(<"/proc/$1/task/$1/children")
