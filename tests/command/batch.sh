@@ -228,12 +228,16 @@ once_batch_progress() {
     fi
     begin
     "$mahyrei" -q write "$example" "$example_marker" example run
-    for ((run = 0; run < 40; run++)); do
+    for ((run = 0; run < 20; run++)); do
         printf 'read\t%s\t%s\trun\tback%s\n' "$example" "$example_marker" "$run"
     done >list
     local wiped=$'\r\e\\[K' form
-    form="^(${wiped}mahyrei: [0-9]+ of 40 runs, [0-9]+\\.[05] s)+${wiped}mahyrei: 40 runs: 40 done"
+    form="^(${wiped}mahyrei: [0-9]+ of 20 runs, [0-9]+\\.[05] s)+${wiped}mahyrei: 20 runs: 20 done"
+    local begun=${EPOCHREALTIME/./}
     script -qec "$mahyrei batch --jobs 1 list" /dev/null </dev/null >"$said/out"
+    if ((${EPOCHREALTIME/./} - begun < 700000)); then
+        form='^mahyrei: 20 runs: 20 done' # a machine that is too fast to show any
+    fi
     same "progress of a list: $(cat -v "$said/out")" yes "$([[ $(out) =~ $form ]] && echo yes)"
 }
 
@@ -246,9 +250,10 @@ children() {
 # Ended in the middle: whatever is claimed is there, the rest is made when it is started again.
 once_batch_killed() {
     begin
-    local count=12 batch
+    local count=10 batch shorter
+    shorter=$(header 1 6 84 30 223 16 2) # two megabytes of slots
     for ((run = 0; run < count; run++)); do
-        printf 'write\t%s\t%s\texample\tout%s\n' "$example" "$example_marker" "$run"
+        printf 'write\t%s\t%s\texample\tout%s\n' "$shorter" "$example_marker" "$run"
     done >list
     for signal in TERM KILL; do
         rm -f list.results out*
@@ -260,7 +265,7 @@ once_batch_killed() {
         wait "$batch" 2>/dev/null
         same "status after SIG$signal" "$signal" "$(kill -l $?)"
         for child in $children; do
-            while kill -0 "$child" 2>/dev/null; do sleep 0.01; done
+            while grep -q '^State:.[^Z]' "/proc/$child/status" 2>/dev/null; do sleep 0.01; done
         done
         same "temporary files after SIG$signal" '' "$(find . -name '.mahyrei*')"
         honest list.results
