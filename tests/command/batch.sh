@@ -247,10 +247,37 @@ children() {
     [ -n "$children" ]
 }
 
+# until_state PROCESS STATES: it is in one of these, such as T and Z, or gone
+until_state() {
+    while grep -q "^State:.[^$2]" "/proc/$1/status" 2>/dev/null; do sleep 0.01; done
+}
+
+# Stops a list and its runs in the middle, ends the list by this signal, and lets the runs go on. Its
+# status, in $status; the outputs that were there before, in $before.
+end_in_the_middle() {
+    until [ -s list.results ]; do sleep 0.01; done
+    kill -STOP "$2"
+    until_state "$2" TZ
+    children "$2"
+    for child in $children; do
+        kill -STOP "$child"
+        until_state "$child" TZ
+    done
+    before=$(ls out*)
+    kill -s "$1" "$2"
+    kill -CONT "$2" 2>/dev/null
+    wait "$2" 2>/dev/null
+    status=$?
+    for child in $children; do
+        kill -CONT "$child" 2>/dev/null
+        until_state "$child" Z
+    done
+}
+
 # Ended in the middle: whatever is claimed is there, the rest is made when it is started again.
 once_batch_killed() {
     begin
-    local count=10 batch shorter
+    local count=10 batch shorter before status
     shorter=$(header 1 6 84 30 223 16 2) # two megabytes of slots
     for ((run = 0; run < count; run++)); do
         printf 'write\t%s\t%s\texample\tout%s\n' "$shorter" "$example_marker" "$run"
@@ -259,14 +286,9 @@ once_batch_killed() {
         rm -f list.results out*
         "$mahyrei" batch --jobs 2 list 2>"$said/err" &
         batch=$!
-        until [ -s list.results ]; do sleep 0.01; done
-        children "$batch"
-        kill -s "$signal" "$batch"
-        wait "$batch" 2>/dev/null
-        same "status after SIG$signal" "$signal" "$(kill -l $?)"
-        for child in $children; do
-            while grep -q '^State:.[^Z]' "/proc/$child/status" 2>/dev/null; do sleep 0.01; done
-        done
+        end_in_the_middle "$signal" "$batch"
+        same "status after SIG$signal" "$signal" "$(kill -l "$status")"
+        same "no run goes on after SIG$signal" "$before" "$(ls out*)"
         same "temporary files after SIG$signal" '' "$(find . -name '.mahyrei*')"
         honest list.results
         local lines
