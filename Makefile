@@ -30,6 +30,10 @@ VERSION = 0.1.0
 # Several archives are linked in the order given.
 LIBRARY = target/lib/libmahyrei.a
 LIBS = $(LIBRARY)
+# The shared library, from the same objects. Programs look for it by its ABI, which changes when one
+# that was linked with an older one could no longer run with it.
+ABI = 0
+SHARED = $(dir $(firstword $(LIBS)))libmahyrei.so.$(VERSION)
 HOST = target/host
 HEADER = include/mahyrei.h include/mahyrei_plain.h
 PROGRAM = $(HOST)/mahyrei
@@ -60,10 +64,11 @@ help:
 	@echo '                is compared'
 	@echo 'make demo       write a run, see its first symbols, read it back, damage it'
 	@echo 'make bench      times of the library beside plain C and plain Rust'
-	@echo 'make lib        the static library: $(LIBS)'
+	@echo 'make lib        the static library and the shared one: $(LIBS)'
+	@echo '                $(SHARED)'
 	@echo 'make program    the command: $(PROGRAM)'
-	@echo 'make install    library, header, pkg-config file, command and man page, under PREFIX=$(PREFIX)'
-	@echo '                and DESTDIR; make uninstall takes them away'
+	@echo 'make install    libraries, headers, pkg-config file, command, man pages and Python module,'
+	@echo '                under PREFIX=$(PREFIX) and DESTDIR; make uninstall takes them away'
 	@echo 'make clean      remove what was built outside the proofs'
 	@echo 'make soak       the four calls against the second implementation, on all cores for'
 	@echo '                SECONDS=n, with a fresh seed or SEED=n'
@@ -74,7 +79,11 @@ help:
 test:
 	@tests/run
 
-HOST_TESTS = $(addprefix $(HOST)/,word_calls run_calls plain_calls sha256_vectors second_test compare_words compare_runs) \
+PYTHON_TEST = if ! command -v python3 >/dev/null; then \
+    echo 'python: no python3 here; the module is not tried'; \
+    else MAHYREI_LIBRARY=$(abspath $(SHARED)) tests/python/module $(PROGRAM) $(HOST)/slots; fi
+HOST_TESTS = $(SHARED) $(addprefix $(HOST)/,word_calls run_calls plain_calls sha256_vectors \
+    second_test compare_words compare_runs) \
     $(COMMAND_TESTS)
 host-test: $(HOST_TESTS)
 	@echo '#include "mahyrei_plain.h"' | $(CXX) -x c++ $(WARNINGS) -Iinclude -fsyntax-only -
@@ -86,6 +95,7 @@ host-test: $(HOST_TESTS)
 	@$(STACK) && SEED=$(SEED) WORDS=$(WORDS) $(HOST)/compare_words
 	@$(STACK) && SEED=$(SEED) RUNS=$(RUNS) $(HOST)/compare_runs
 	@$(STACK) && tests/command/run $(COMMAND_TESTS)
+	@$(PYTHON_TEST)
 	@echo 'tests outside the proofs: passed'
 
 demo: $(PROGRAM) $(HOST)/slots
@@ -96,7 +106,7 @@ bench: $(HOST)/bench_words $(HOST)/bench_runs
 	@echo
 	@$(HOST)/bench_runs
 
-lib: $(LIBS)
+lib: $(LIBS) $(SHARED)
 
 program: $(PROGRAM)
 
@@ -139,6 +149,40 @@ $(LIBRARY): $(PROVED_ARCHIVES) $(PARTS)
 	@printf '%s\n' 'create $@' $(foreach archive,$(PROVED_ARCHIVES),'addlib $(archive)') save end | ar -M
 	@ar rs $@ $(PARTS)
 
+# The objects of the archives are position independent: -z text is an error where they are not.
+$(SHARED): $(LIBS) $(HOST)/archives plain/libmahyrei.map
+	@$(CC) $(CFLAGS) -shared -Wl,-soname,libmahyrei.so.$(ABI) \
+	    -Wl,--version-script,plain/libmahyrei.map -Wl,-z,text,-z,defs,-z,relro,-z,now \
+	    -Wl,--whole-archive $(LIBS) -Wl,--no-whole-archive $(LDFLAGS) -o $@
+	@ln -sf $(@F) $(@D)/libmahyrei.so.$(ABI)
+	@ln -sf libmahyrei.so.$(ABI) $(@D)/libmahyrei.so
+
+INSTALLED += $(addprefix $(LIBDIR)/,libmahyrei.so.$(VERSION) libmahyrei.so.$(ABI) libmahyrei.so)
+install: install-shared
+.PHONY: install-shared
+install-shared: $(SHARED)
+	install -d '$(DESTDIR)$(LIBDIR)'
+	install -m 755 $(SHARED) '$(DESTDIR)$(LIBDIR)/libmahyrei.so.$(VERSION)'
+	ln -sf libmahyrei.so.$(VERSION) '$(DESTDIR)$(LIBDIR)/libmahyrei.so.$(ABI)'
+	ln -sf libmahyrei.so.$(ABI) '$(DESTDIR)$(LIBDIR)/libmahyrei.so'
+
+INSTALLED += $(MANDIR)/man3/mahyrei.3
+install: install-manual
+.PHONY: install-manual
+install-manual: host/mahyrei.3
+	install -d '$(DESTDIR)$(MANDIR)/man3'
+	install -m 644 $< '$(DESTDIR)$(MANDIR)/man3/mahyrei.3'
+
+# The Python module, which is told where the library is.
+PYTHONDIR ?= $(PREFIX)/share/mahyrei/python
+INSTALLED += $(PYTHONDIR)/mahyrei.py
+install: install-python
+.PHONY: install-python
+install-python: python/mahyrei.py
+	install -d '$(DESTDIR)$(PYTHONDIR)'
+	sed 's|^_LIBRARY = .*|_LIBRARY = "$(LIBDIR)/libmahyrei.so.$(ABI)"|' $< >'$(DESTDIR)$(PYTHONDIR)/mahyrei.py'
+	chmod 644 '$(DESTDIR)$(PYTHONDIR)/mahyrei.py'
+
 # Names the archives in use: a program linked with others is linked again.
 LINKED = $(LIBS) $(HOST)/archives
 LINK_RUST = --extern second=$(HOST)/libsecond.rlib $(foreach lib,$(LIBS),-C link-arg=$(lib))
@@ -151,10 +195,10 @@ STANDIN = $(HOST)/standin
 PLAIN_SOURCES = bench/plain_word.c bench/plain_word.h tests/c/plain_run.c
 $(STANDIN)/libmahyrei.a: $(PLAIN_SOURCES) $(HEADER) $(PARTS)
 	@mkdir -p $(@D)
-	@$(COMPILE) $(PLAIN) -c bench/plain_word.c -o $(STANDIN)/plain_word.o
-	@$(COMPILE) $(PLAIN) -Dplain_word_write=word_write -Dplain_word_read=word_read \
+	@$(COMPILE) $(PLAIN) -fPIC -c bench/plain_word.c -o $(STANDIN)/plain_word.o
+	@$(COMPILE) $(PLAIN) -fPIC -Dplain_word_write=word_write -Dplain_word_read=word_read \
 	    -c bench/plain_word.c -o $(STANDIN)/word.o
-	@$(COMPILE) $(PLAIN) -Ibench -c tests/c/plain_run.c -o $(STANDIN)/run.o
+	@$(COMPILE) $(PLAIN) -fPIC -Ibench -c tests/c/plain_run.c -o $(STANDIN)/run.o
 	@rm -f $@
 	@ar rcs $@ $(addprefix $(STANDIN)/,plain_word.o word.o run.o) $(PARTS)
 
@@ -178,6 +222,7 @@ $(HOST)/sha256_vectors: tests/c/sha256_vectors.c host/sha256.c host/sha256.h
 	@$(COMPILE) $(SANITIZED) -Ihost $< host/sha256.c -o $@
 
 SECOND = $(addprefix tests/second/,lib.rs compare.rs library.rs run.rs word.rs run_cases.rs \
+    $(addprefix run_cases/,calls.rs damages.rs edges.rs headers.rs kinds.rs refusals.rs sample.rs) \
     word_cases.rs)
 $(HOST)/second_test: $(SECOND)
 	@mkdir -p $(@D)

@@ -15,6 +15,12 @@ const struct command COMMANDS[] = {
      "makes a header: rate=1/2 m=6 N=84 B=120 F=223 W=16 A=2"},
     {"explain", NULL, "NUMBER", NULL, 0, false, explain_command,
      "says what the number of a refusal means"},
+    {"inspect", "HEADER MARKER SLOTS", NULL, NULL, WITH(SVG), false, inspect_command,
+     "counts and lists what is wrong in a capture; corrects nothing"},
+    {"show", "HEADER SLOTS", "FROM COUNT", NULL, 0, false, show_command,
+     "draws symbols of a capture as slots"},
+    {"batch", "LIST", NULL, NULL, WITH(JOBS) | WITH(RESULTS), false, batch_command,
+     "writes or reads the runs of a list, on all cores; skips what is done"},
     {NULL, NULL, NULL, NULL, 0, false, NULL, NULL}};
 
 const struct option_line OPTIONS[OPTION_COUNT] = {
@@ -25,6 +31,9 @@ const struct option_line OPTIONS[OPTION_COUNT] = {
     [OUTPUT] = {"output", 'o', "FILE", "writes the header's bytes to this file"},
     [LONG] = {"long", 'l', NULL, "prints fields and sizes by name, one to a line"},
     [JSON] = {"json", 'j', NULL, "prints them as JSON"},
+    [JOBS] = {"jobs", '\0', "NUMBER", "as many runs at once; all cores otherwise"},
+    [RESULTS] = {"results", '\0', "FILE", "adds the results to this file; LIST.results otherwise"},
+    [SVG] = {"svg", '\0', "FILE", "draws the capture into this file"},
     [HELP] = {"help", 'h', NULL, "prints this"},
     [VERSION] = {"version", '\0', NULL, "prints the version"},
 };

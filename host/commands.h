@@ -12,7 +12,21 @@
 
 enum status { DONE = 0, REFUSED = 1, FAILED = 2 };
 
-enum option { LOG, QUIET, NO_CLOBBER, FORCE, OUTPUT, LONG, JSON, HELP, VERSION, OPTION_COUNT };
+enum option {
+    LOG,
+    QUIET,
+    NO_CLOBBER,
+    FORCE,
+    OUTPUT,
+    LONG,
+    JSON,
+    SVG,
+    JOBS,
+    RESULTS,
+    HELP,
+    VERSION,
+    OPTION_COUNT
+};
 
 /* Options as bits of a set. */
 #define WITH(option) (1U << (option))
@@ -49,6 +63,13 @@ extern const struct option_line OPTIONS[OPTION_COUNT];
 /* The command line: takes argv apart, says what is wrong, and runs what is asked for. */
 enum status obey(char *argv[]);
 
+/* The command of this name, or NULL. */
+const struct command *find_command(const char *name);
+
+/* Runs a command that is logged. The entry has begun, and says afterwards what became of the run.
+ */
+enum status run_logged(const struct line *line, struct entry *entry);
+
 /* How many names there are. */
 int count_names(const char *names);
 
@@ -65,5 +86,8 @@ enum status verify_command(const struct line *line, struct entry *entry);
 enum status sheet_command(const struct line *line, struct entry *entry);
 enum status header_command(const struct line *line, struct entry *entry);
 enum status explain_command(const struct line *line, struct entry *entry);
+enum status inspect_command(const struct line *line, struct entry *entry);
+enum status show_command(const struct line *line, struct entry *entry);
+enum status batch_command(const struct line *line, struct entry *entry);
 
 #endif

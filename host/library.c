@@ -28,8 +28,23 @@ static void *make_call(void *given) {
     return NULL;
 }
 
+/* A word to be read. */
+struct word_call {
+    uint64_t rate;
+    const uint8_t *word;
+    uint8_t *block;
+    uint64_t answer;
+};
+
+static void *make_word_call(void *given) {
+    struct word_call *const call = given;
+    call->answer = word_read(call->rate, call->word, MAHYREI_WORD_BYTES, call->block,
+                             word_block_bytes(call->rate));
+    return NULL;
+}
+
 /* Starts a thread that no signal comes to, so that handlers run where the program waits. */
-static int start(pthread_t *thread, struct call *call) {
+static int start(pthread_t *thread, void *(*make)(void *), void *call) {
     sigset_t all, before;
     pthread_attr_t attributes;
     int error = pthread_attr_init(&attributes);
@@ -39,18 +54,25 @@ static int start(pthread_t *thread, struct call *call) {
     sigfillset(&all);
     pthread_sigmask(SIG_BLOCK, &all, &before);
     error = pthread_attr_setstacksize(&attributes, CALL_STACK);
-    error = error != 0 ? error : pthread_create(thread, &attributes, make_call, call);
+    error = error != 0 ? error : pthread_create(thread, &attributes, make, call);
     pthread_sigmask(SIG_SETMASK, &before, NULL);
     pthread_attr_destroy(&attributes);
     return error;
 }
 
-static bool ask(struct call *call, uint64_t *answer) {
+static bool on_its_stack(void *(*make)(void *), void *call) {
     pthread_t thread;
-    int error = start(&thread, call);
+    int error = start(&thread, make, call);
     error = error != 0 ? error : pthread_join(thread, NULL);
     if (error != 0) {
         complain("a stack of 4 MiB for the library", error);
+        return false;
+    }
+    return true;
+}
+
+static bool ask(struct call *call, uint64_t *answer) {
+    if (!on_its_stack(make_call, call)) {
         return false;
     }
     *answer = call->answer;
@@ -65,6 +87,15 @@ bool library_write(const struct lent *lent, uint64_t *answer) {
 bool library_read(const struct lent *lent, uint64_t *answer) {
     struct call call = {lent, false, 0};
     return ask(&call, answer);
+}
+
+bool library_word_read(uint64_t rate, const uint8_t *word, uint8_t *block, uint64_t *answer) {
+    struct word_call call = {rate, word, block, 0};
+    if (!on_its_stack(make_word_call, &call)) {
+        return false;
+    }
+    *answer = call.answer;
+    return true;
 }
 
 /* With nothing else lent, a good header comes as far as 8: its marker has at least one symbol, and

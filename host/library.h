@@ -19,6 +19,9 @@ struct lent {
 bool library_write(const struct lent *lent, uint64_t *answer);
 bool library_read(const struct lent *lent, uint64_t *answer);
 
+/* A word of MAHYREI_WORD_BYTES, and room for a block of this rate. */
+bool library_word_read(uint64_t rate, const uint8_t *word, uint8_t *block, uint64_t *answer);
+
 /* The answer to a header alone: 0, or a number from 1 to 7, and of 7 only W's range. */
 bool library_header(const struct bytes *header, uint64_t *answer);
 

@@ -172,7 +172,7 @@ static const char *take_line(char *argv[], struct line *line) {
     return NULL;
 }
 
-static const struct command *find_command(const char *name) {
+const struct command *find_command(const char *name) {
     for (const struct command *each = COMMANDS; each->name != NULL; each++) {
         if (strcmp(name, each->name) == 0) {
             return each;
@@ -256,8 +256,7 @@ static const char *clash(const struct line *line, int log) {
     return NULL;
 }
 
-static enum status run_logged(const struct line *line) {
-    struct entry entry;
+enum status run_logged(const struct line *line, struct entry *entry) {
     struct log log;
     const char *const name = line->options[LOG];
     if (!log_open(&log, name)) {
@@ -273,26 +272,25 @@ static enum status run_logged(const struct line *line) {
     if (name == NULL && line->options[QUIET] != NULL) {
         log.file = -1;
     }
-    entry_begin(&entry, line->command->name);
-    const enum status status = line->command->run(line, &entry);
+    const enum status status = line->command->run(line, entry);
     progress_stop();
-    return log_end(&log, &entry, (int)status) ? status : FAILED;
+    return log_end(&log, entry, (int)status) ? status : FAILED;
 }
 
 static enum status run(struct line *line) {
     const char *const from_environment = getenv("MAHYREI_LOG");
-    struct entry unused;
+    struct entry entry;
     if (line->options[LOG] == NULL && from_environment != NULL && from_environment[0] != '\0') {
         line->options[LOG] = from_environment;
     }
     if (line->options[QUIET] == NULL) {
         progress_start();
     }
+    entry_begin(&entry, line->command->name);
     if (line->command->logged) {
-        return run_logged(line);
+        return run_logged(line, &entry);
     }
-    entry_begin(&unused, line->command->name);
-    const enum status status = line->command->run(line, &unused);
+    const enum status status = line->command->run(line, &entry);
     progress_stop();
     return status;
 }

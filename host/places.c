@@ -5,7 +5,7 @@
 #include <string.h>
 
 #include "report.h"
-#include "sheet.h"
+#include "stands.h"
 
 static const char *shown(const char *operand) {
     return is_dash(operand) ? "standard input" : operand;
@@ -92,19 +92,12 @@ static void say_symbol(const struct sheet *sheet, uint64_t symbol, const char *a
            symbol, first, last, first / 8, last / 8);
 }
 
-/* Steps 9 and 10: the symbol of the run, markers counted, at which symbol t of all words stands. */
-static uint64_t stands_at(const struct sheet *sheet, uint64_t t) {
-    const struct mahyrei_fields *const fields = &sheet->fields;
-    const uint64_t S = sheet->sizes.S, place = t + t % fields->N * fields->B * fields->N;
-    return place / S * (S + fields->W) + fields->W + place % S;
-}
-
 /* A word's symbols lie apart, so the first and the last of them are said. */
 static void say_word(const struct sheet *sheet, uint64_t word, const char *about) {
     const uint64_t S = sheet->sizes.S, group = sheet->sizes.group;
     uint64_t first = UINT64_MAX, last = 0;
-    for (uint64_t t = word * S; t < (word + 1) * S; t++) {
-        const uint64_t symbol = stands_at(sheet, t);
+    for (uint64_t at = 0; at < S; at++) {
+        const uint64_t symbol = symbol_of(sheet, word, at);
         first = symbol < first ? symbol : first;
         last = symbol > last ? symbol : last;
     }
@@ -118,7 +111,7 @@ static void say_word(const struct sheet *sheet, uint64_t word, const char *about
 /* A frame marker or the fill, by the word that its first bit is in. */
 static void say_stream(const struct sheet *sheet, uint64_t frame, const char *what,
                        const char *about) {
-    const uint64_t bit = frame * (8 * sheet->fields.F + MAHYREI_FRAME_MARKER_BITS);
+    const uint64_t bit = frame * marked_bits(sheet);
     const uint64_t word = bit / sheet->sizes.k;
     remark(about, "%s begins at bit %" PRIu64 " of the block of word %" PRIu64, what,
            bit % sheet->sizes.k, word);

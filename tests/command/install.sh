@@ -16,7 +16,8 @@ once_install() {
     make -s -C "$root" --no-print-directory install PREFIX="$prefix_folder" >"$said/out" 2>&1
     same 'status of make install' 0 $?
     local files='bin/mahyrei include/mahyrei.h include/mahyrei_plain.h lib/libmahyrei.a'
-    same 'files of make install' "$files lib/pkgconfig/mahyrei.pc share/man/man1/mahyrei.1" \
+    files+=' lib/libmahyrei.so.0.1.0 lib/pkgconfig/mahyrei.pc share/mahyrei/python/mahyrei.py'
+    same 'files of make install' "$files share/man/man1/mahyrei.1 share/man/man3/mahyrei.3" \
         "$(cd "$prefix_folder" && find . -type f -printf '%P\n' | sort | xargs)"
     nm -g --defined-only "$prefix_folder/lib/libmahyrei.a" >"$said/out"
     same 'calls of the library' 'run_read run_write word_read word_write' \
@@ -31,7 +32,7 @@ once_install() {
     # shellcheck disable=SC2086
     gcc -std=c11 program.c $flags -o program
     same 'status of the compiler' 0 $?
-    same 'what the program of README says' $'written: 0\nread: 10, place 100' "$(./program)"
+    same 'what the program of README says' $'written: 0\nread: 10, place 100' "$(LD_LIBRARY_PATH=prefix/lib ./program)"
     same 'the installed command' "$("$mahyrei" --version)" "$(prefix/bin/mahyrei --version)"
     make -s -C "$root" --no-print-directory uninstall PREFIX="$prefix_folder"
     same 'files after make uninstall' '' "$(find "$prefix_folder" -type f)"
