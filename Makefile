@@ -44,6 +44,8 @@ BINDIR ?= $(PREFIX)/bin
 LIBDIR ?= $(PREFIX)/lib
 INCLUDEDIR ?= $(PREFIX)/include
 MANDIR ?= $(PREFIX)/share/man
+PYTHONDIR ?= $(PREFIX)/share/mahyrei/python
+COMPLETIONDIR ?= $(PREFIX)/share/bash-completion/completions
 DESTDIR ?=
 
 # The tests run on a small stack, in KiB, as the library promises to.
@@ -110,20 +112,21 @@ lib: $(LIBS) $(SHARED)
 
 program: $(PROGRAM)
 
-INSTALLED = $(BINDIR)/mahyrei $(LIBDIR)/libmahyrei.a $(LIBDIR)/pkgconfig/mahyrei.pc \
-    $(INCLUDEDIR)/mahyrei.h $(INCLUDEDIR)/mahyrei_plain.h $(MANDIR)/man1/mahyrei.1
-install: $(LIBS) $(PROGRAM)
-	install -d $(foreach file,$(INSTALLED),'$(DESTDIR)$(dir $(file))')
-	install -m 755 $(PROGRAM) '$(DESTDIR)$(BINDIR)/mahyrei'
-	install -m 644 $(LIBS) '$(DESTDIR)$(LIBDIR)/libmahyrei.a'
-	install -m 644 $(HEADER) '$(DESTDIR)$(INCLUDEDIR)'
-	install -m 644 host/mahyrei.1 '$(DESTDIR)$(MANDIR)/man1/mahyrei.1'
-	sed -e 's|@PREFIX@|$(PREFIX)|' -e 's|@LIBDIR@|$(LIBDIR)|' -e 's|@INCLUDEDIR@|$(INCLUDEDIR)|' \
-	    -e 's|@VERSION@|$(VERSION)|' host/mahyrei.pc.in >'$(DESTDIR)$(LIBDIR)/pkgconfig/mahyrei.pc'
-	chmod 644 '$(DESTDIR)$(LIBDIR)/pkgconfig/mahyrei.pc'
+# A shell does it, which can take blanks in the names of folders.
+install uninstall: export DESTDIR := $(DESTDIR)
+install uninstall: export PREFIX := $(PREFIX)
+install uninstall: export BINDIR := $(BINDIR)
+install uninstall: export LIBDIR := $(LIBDIR)
+install uninstall: export INCLUDEDIR := $(INCLUDEDIR)
+install uninstall: export MANDIR := $(MANDIR)
+install uninstall: export PYTHONDIR := $(PYTHONDIR)
+install uninstall: export COMPLETIONDIR := $(COMPLETIONDIR)
+BUILT = VERSION='$(VERSION)' ABI='$(ABI)' PROGRAM='$(PROGRAM)' ARCHIVE='$(LIBS)' SHARED='$(SHARED)'
+install: $(LIBS) $(SHARED) $(PROGRAM)
+	@$(BUILT) host/install put
 
 uninstall:
-	rm -f $(foreach file,$(INSTALLED),'$(DESTDIR)$(file)')
+	@$(BUILT) host/install take
 
 clean:
 	rm -rf $(HOST) target/lib
@@ -157,31 +160,6 @@ $(SHARED): $(LIBS) $(HOST)/archives plain/libmahyrei.map
 	@ln -sf $(@F) $(@D)/libmahyrei.so.$(ABI)
 	@ln -sf libmahyrei.so.$(ABI) $(@D)/libmahyrei.so
 
-INSTALLED += $(addprefix $(LIBDIR)/,libmahyrei.so.$(VERSION) libmahyrei.so.$(ABI) libmahyrei.so)
-install: install-shared
-.PHONY: install-shared
-install-shared: $(SHARED)
-	install -d '$(DESTDIR)$(LIBDIR)'
-	install -m 755 $(SHARED) '$(DESTDIR)$(LIBDIR)/libmahyrei.so.$(VERSION)'
-	ln -sf libmahyrei.so.$(VERSION) '$(DESTDIR)$(LIBDIR)/libmahyrei.so.$(ABI)'
-	ln -sf libmahyrei.so.$(ABI) '$(DESTDIR)$(LIBDIR)/libmahyrei.so'
-
-INSTALLED += $(MANDIR)/man3/mahyrei.3
-install: install-manual
-.PHONY: install-manual
-install-manual: host/mahyrei.3
-	install -d '$(DESTDIR)$(MANDIR)/man3'
-	install -m 644 $< '$(DESTDIR)$(MANDIR)/man3/mahyrei.3'
-
-# The Python module, which is told where the library is.
-PYTHONDIR ?= $(PREFIX)/share/mahyrei/python
-INSTALLED += $(PYTHONDIR)/mahyrei.py
-install: install-python
-.PHONY: install-python
-install-python: python/mahyrei.py
-	install -d '$(DESTDIR)$(PYTHONDIR)'
-	sed 's|^_LIBRARY = .*|_LIBRARY = "$(LIBDIR)/libmahyrei.so.$(ABI)"|' $< >'$(DESTDIR)$(PYTHONDIR)/mahyrei.py'
-	chmod 644 '$(DESTDIR)$(PYTHONDIR)/mahyrei.py'
 
 # Names the archives in use: a program linked with others is linked again.
 LINKED = $(LIBS) $(HOST)/archives

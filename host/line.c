@@ -134,10 +134,27 @@ static int find_option(const char *word, size_t len) {
     return OPTION_COUNT;
 }
 
+/* Several short options in a word, such as -nf; none of them has a word of its own. */
+static int take_letters(const char *letters, struct line *line) {
+    for (; *letters != '\0'; letters++) {
+        const char one[] = {'-', *letters, '\0'};
+        const int option = find_option(one, 2);
+        if (option == OPTION_COUNT || OPTIONS[option].value != NULL) {
+            return 0;
+        }
+        line->options[option] = "";
+    }
+    return 1;
+}
+
 /* Takes the option at argv[0]; how many words that were, 0 where there is no such option or its
  * word is missing. */
 static int take_option(char *const argv[], struct line *line) {
-    const char *const equals = strncmp(argv[0], "--", 2) == 0 ? strchr(argv[0], '=') : NULL;
+    const bool is_long = strncmp(argv[0], "--", 2) == 0;
+    const char *const equals = is_long ? strchr(argv[0], '=') : NULL;
+    if (!is_long && strlen(argv[0]) > 2) {
+        return take_letters(argv[0] + 1, line);
+    }
     const int option =
         find_option(argv[0], equals == NULL ? strlen(argv[0]) : (size_t)(equals - argv[0]));
     if (option == OPTION_COUNT) {

@@ -25,7 +25,11 @@ test_usage() {
     unharmed 2 'number of operands' sheet
     unharmed 2 'operand too many' sheet "$header" "$header"
     unharmed 2 'no such option' --loud write "$header" "$marker" frames out
-    unharmed 2 'no such option' -l write "$header" "$marker" frames out
+    unharmed 2 'no such option' -qx write "$header" "$marker" frames out
+    unharmed 2 'no such option' -qo write "$header" "$marker" frames out
+    unharmed 2 'long: this command has no such option' -l write "$header" "$marker" frames out
+    run 0 write -qnf "$header" "$marker" frames out
+    same 'what several letters make quiet' '' "$err"
     unharmed 2 'its word is missing' write "$header" "$marker" frames out --log
     unharmed 2 'no such option' --help=yes write "$header" "$marker" frames out
     unharmed 2 'only one input can be -' write - - frames out
