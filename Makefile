@@ -82,12 +82,15 @@ test:
 PYTHON_TEST = if ! command -v python3 >/dev/null; then \
     echo 'python: no python3 here; the module is not tried'; \
     else MAHYREI_LIBRARY=$(abspath $(SHARED)) tests/python/module $(PROGRAM) $(HOST)/slots; fi
-HOST_TESTS = $(SHARED) $(addprefix $(HOST)/,word_calls run_calls second_test compare_words compare_runs) \
+HOST_TESTS = $(SHARED) $(addprefix $(HOST)/,word_calls run_calls plain_calls sha256_vectors \
+    second_test compare_words compare_runs) \
     $(COMMAND_TESTS)
 host-test: $(HOST_TESTS)
 	@echo '#include "mahyrei_plain.h"' | $(CXX) -x c++ $(WARNINGS) -Iinclude -fsyntax-only -
 	@$(STACK) && ASAN_OPTIONS=detect_leaks=0 $(HOST)/word_calls
 	@$(STACK) && ASAN_OPTIONS=detect_leaks=0 $(HOST)/run_calls
+	@$(STACK) && ASAN_OPTIONS=detect_leaks=0 $(HOST)/plain_calls
+	@ASAN_OPTIONS=detect_leaks=0 $(HOST)/sha256_vectors
 	@$(STACK) && $(HOST)/second_test --quiet
 	@$(STACK) && SEED=$(SEED) WORDS=$(WORDS) $(HOST)/compare_words
 	@$(STACK) && SEED=$(SEED) RUNS=$(RUNS) $(HOST)/compare_runs
@@ -213,6 +216,10 @@ $(HOST)/faults.so: tests/c/faults.c
 
 $(HOST)/%_calls: tests/c/%_calls.c $(HEADER) $(LINKED)
 	@$(COMPILE) $(SANITIZED) $< $(LIBS) -o $@
+
+$(HOST)/sha256_vectors: tests/c/sha256_vectors.c host/sha256.c host/sha256.h
+	@mkdir -p $(@D)
+	@$(COMPILE) $(SANITIZED) -Ihost $< host/sha256.c -o $@
 
 SECOND = $(addprefix tests/second/,lib.rs compare.rs library.rs run.rs word.rs run_cases.rs \
     $(addprefix run_cases/,calls.rs damages.rs edges.rs headers.rs kinds.rs refusals.rs sample.rs) \

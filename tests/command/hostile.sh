@@ -117,3 +117,112 @@ once_killed() {
     run 0 read "$largest" "$largest_marker" out back
     alike 'frames of the largest run' many back
 }
+
+# ended SIGNAL: a run that is about to bring its output to the disk, ended by this signal
+ended() {
+    local signal=$1 temporary='' status
+    rm -f .mahyrei.*
+    # shellcheck disable=SC2016
+    env --default-signal "LD_PRELOAD=$faults" FAULT=hold bash -c 'ulimit -c 0; exec "$@"' bash \
+        "$mahyrei" --log /dev/null write "$header" "$marker" frames out &
+    caught=$!
+    while [ ! -s "$temporary" ] && kill -0 "$caught"; do
+        for temporary in .mahyrei.*; do :; done
+    done
+    kill -s "$signal" "$caught"
+    for ((i = 0; i < 200 && $(kill -0 "$caught" && echo 1 || echo 0); i++)); do
+        sleep 0.02
+    done
+    kill -KILL "$caught"
+    wait "$caught" 2>/dev/null
+    status=$?
+    same "status after signal $signal" "$signal" "$(kill -l "$status")"
+    same "what signal $signal leaves" '' "$(find . -name '.mahyrei*')"
+    same "output after signal $signal" old "$(<out)"
+}
+
+once_ended_by_any_signal() {
+    begin
+    echo old >out
+    for signal in HUP INT QUIT ILL TRAP ABRT BUS FPE USR1 SEGV USR2 ALRM TERM STKFLT XCPU VTALRM \
+        PROF IO PWR SYS RTMIN RTMAX; do
+        ended "$signal" 2>/dev/null
+    done
+}
+
+# The library wants less than 1 MiB of stack; the command brings its own.
+once_little_stack() {
+    begin
+    for size in 400 100 64; do
+        prefix=(bash -c "ulimit -s $size; exec \"\$@\"" bash)
+        run 0 write "$header" "$marker" frames out
+        alike "slots on a stack of $size KiB" slots out
+        run 0 read "$header" "$marker" slots back
+        alike "frames on a stack of $size KiB" frames back
+        run 0 sheet "$header"
+        same "a sheet on a stack of $size KiB" '1/2 16 5 189 500 5 3 2 11355 227100' "$(out)"
+        run 1 sheet 00
+        run 0 header rate=1/2 m=4 N=5 B=189 F=500 W=5 A=3
+    done
+    rm out
+    prefix=(env "LD_PRELOAD=$faults" FAULT=thread:1:11)
+    unharmed 2 'a stack of 4 MiB for the library: ' write "$header" "$marker" frames out
+    prefix=()
+}
+
+# Standard files that do not block are waited for.
+once_nonblocking() {
+    begin
+    prefix=(env "LD_PRELOAD=$faults" FAULT=nonblocking)
+    "$mahyrei" write "$example" "$example_marker" example wanted 2>/dev/null
+    (sleep 0.2 && head -c 100 example && sleep 0.2 && tail -c +101 example) |
+        "${prefix[@]}" "$mahyrei" write "$example" "$example_marker" - - 2>"$said/err" |
+        (sleep 0.2 && cat >got)
+    same 'status with files that do not block' '0 0 0' "${PIPESTATUS[*]}"
+    alike 'slots through files that do not block' wanted got
+    # What is said waits too.
+    # shellcheck disable=SC2016
+    "${prefix[@]}" bash -c '"$1" read 00 00 slots out & (yes | head -c 100000 >&2); wait $!' bash \
+        "$mahyrei" 2>&1 >/dev/null | (sleep 0.2 && cat) >said_late
+    has 'a refusal through a full pipe' 'refused, number 1' "$(tr -d '\0' <said_late)"
+    prefix=()
+}
+
+# A file that may be written in a folder that may not, and one that is mounted: said, with where.
+test_unwritable_folder() {
+    begin
+    local as=()
+    mkdir shut
+    echo old >shut/out
+    if [ "$(id -u)" -eq 0 ]; then
+        as=(chroot --userspec=65534:65534 --groups= --skip-chdir /)
+        chown -R 65534:65534 shut
+    fi
+    chmod 555 shut
+    prefix=("${as[@]}")
+    run 2 write "$header" "$marker" frames shut/out
+    has 'a file in a folder that may not be written' \
+        "shut/out: no temporary file can be made in $work/shut: Permission denied" "$err"
+    same 'that file' old "$(<shut/out)"
+    chmod 755 shut
+    prefix=()
+}
+
+once_mounted_file() {
+    begin
+    local space=(unshare -m)
+    [ "$(id -u)" -eq 0 ] || space=(unshare -rm)
+    echo old >out
+    echo old >mounted
+    if ! "${space[@]}" mount --bind mounted out 2>/dev/null; then
+        echo 'command: nothing can be mounted here; an output that is mounted is not tried'
+        return
+    fi
+    # shellcheck disable=SC2016
+    "${space[@]}" bash -c 'mount --bind mounted out && "$@"; echo "status $?"; cat out; ls -A' bash \
+        "$mahyrei" --log /dev/null write "$header" "$marker" frames out >"$said/out" 2>&1
+    has 'an output that is mounted' \
+        "out: the finished file cannot take this name in $work: Device or resource busy"$'\nstatus 2\nold' \
+        "$(out)"
+    same 'what is left beside it' '' "$(grep mahyrei\\. "$said/out")"
+}

@@ -21,7 +21,9 @@ test_operands() {
     cp frames ./-frames
     cp header beef
     for text in "$header" "${header,,}" "hex:$header" 'hex:50 15 7a3E 8283 00 00' \
-        ' 50157A3E 82830000 ' header ./header ./beef; do
+        ' 50157A3E 82830000 ' 0x50157A3E82830000 0X50157a3e82830000 50:15:7A:3E:82:83:00:00 \
+        'hex:0x50 0x15 0x7A 0x3E 0x82 0x83 0x00 0x00' '50157A3E: 82830000' hex:0x50157A3E82830000 \
+        header ./header ./beef; do
         rm -f out
         run 0 write "$text" "$marker" frames out
         alike "slots with the header as $text" slots out
@@ -43,6 +45,10 @@ test_operands() {
     unharmed 2 'two digits for each byte' write "$header" 'hex:0 5' frames out
     unharmed 2 'two digits for each byte' write hex:50157A3E8283000G "$marker" frames out
     unharmed 2 'two digits for each byte' write hex:header "$marker" frames out
+    unharmed 2 'two digits for each byte' write 5:0157A3E82830000 "$marker" frames out
+    unharmed 2 'two digits for each byte' write 0x5 "$marker" frames out
+    unharmed 2 'xx: No such file' write 0xx "$marker" frames out
+    unharmed 2 '0x: No such file' write 0x "$marker" frames out
     refused 1 0 write "$example_marker$example_marker" "$marker" frames out
     refused 1 0 write hex: "$marker" frames out
     refused 8 0 write "$header" hex: frames out
@@ -87,4 +93,26 @@ test_names() {
     alike 'frames over their own slots' frames both
     run 0 write "$header" marker frames marker
     alike 'slots over the marker' slots marker
+}
+
+# Text that is also the name of a file: nobody can say which was meant.
+test_text_or_file() {
+    begin
+    local text name
+    cp frames "$header"
+    ln -s nowhere "$marker"
+    for name in "$header" "0x$header" 50:15:7A:3E:82:83:00:00; do
+        [ -e "$name" ] || cp header "$name"
+        unharmed 2 "$name: this is hexadecimal text and also a file here; hex: before it" \
+            write "$name" "hex:$marker" frames out
+        unharmed 2 'hexadecimal text and also a file here' sheet "$name"
+    done
+    unharmed 2 'hexadecimal text and also a file here' write "hex:$header" "$marker" frames out
+    run 0 write "hex:$header" "hex:$marker" frames out
+    alike 'slots with the text' slots out
+    rm out "$marker"
+    cp marker "$marker"
+    cp header "$header"
+    run 0 write "./$header" "./$marker" frames out
+    alike 'slots with the files' slots out
 }

@@ -93,3 +93,169 @@ test_modes() {
     chmod 755 shut
     prefix=()
 }
+
+# /dev/stdout and the like are the open file: what is in it stays, and what follows comes behind.
+test_open_files() {
+    begin
+    local name
+    echo before >before
+    cat before frames >wanted
+    ln -s /dev/stdout link
+    ln -s /proc/self/fd folder
+    for name in /dev/stdout /dev/fd/1 /proc/self/fd/1 /proc/thread-self/fd/1 /dev/../dev//stdout \
+        link folder/1; do
+        cp before archive
+        "$mahyrei" read "$header" "$marker" slots "$name" >>archive 2>"$said/err"
+        same "status with the output $name" 0 $?
+        alike "what is behind $name" wanted archive
+        {
+            echo before
+            "$mahyrei" read "$header" "$marker" slots "$name" 2>/dev/null
+            echo after
+        } >group
+        alike "what a group of commands says with $name" <(cat wanted && echo after) group
+    done
+    cp before archive
+    "$mahyrei" read "$header" "$marker" slots /dev/fd/7 7>>archive 2>/dev/null
+    alike 'a file that was handed over' wanted archive
+    same 'files beside it' '' "$(find . -name '.mahyrei*')"
+    run 2 read "$header" "$marker" slots /dev/fd/9
+    has 'an open file that there is not' '/dev/fd/9: ' "$err"
+    # The log has the first free number; nobody handed that over.
+    for ((i = 3; i < 10; i++)); do
+        run 2 --log log read "$header" "$marker" slots "/dev/fd/$i"
+    done
+    same 'what else is in a log that was not handed over' '' "$(grep -Ev "$log_line" log)"
+    cp before archive
+    exec 7>>archive
+    run 2 read "$header" "$marker" slots "/proc/$$/fd/7"
+    exec 7>&-
+    has 'the open file of another program' 'the open file of another program' "$err"
+    alike 'that file' before archive
+    cat before slots >input
+    {
+        read -r _
+        "$mahyrei" read "$header" "$marker" /dev/stdin out 2>/dev/null
+    } <input
+    same 'status with the rest of an open file' 0 $?
+    alike 'frames of the rest of an open file' frames out
+}
+
+# Status 0 says that the other copy may be erased: what is on a disk has to be there.
+once_open_files_synced() {
+    begin
+    prefix=(env "LD_PRELOAD=$faults" FAULT=fsync:1:5)
+    for name in - /dev/stdout /dev/fd/7; do
+        run 2 read "$header" "$marker" slots "$name" 7>file
+        has "an open file, as $name, that does not get to the disk" 'Input/output error' "$err"
+    done
+    "${prefix[@]}" "$mahyrei" read "$header" "$marker" slots - 2>"$said/err" | cmp -s - frames
+    same 'a pipe has no disk' '0 0' "${PIPESTATUS[*]}"
+    prefix=()
+}
+
+# owned FILE: its owner, group and mode
+owned() {
+    stat -c '%u %g %a' "$1"
+}
+
+test_owners() {
+    begin
+    if [ "$(id -u)" -ne 0 ]; then
+        echo 'command: only root can give a file away; owners are not looked at'
+        return
+    fi
+    echo old >out
+    chown 1234:2345 out
+    chmod 640 out
+    run 0 write "$header" "$marker" frames out
+    same 'owner, group and mode of a file that is replaced' '1234 2345 640' "$(owned out)"
+    # As somebody who may write the file and not give it away: nobody gets more than before.
+    chown 65534:65534 .
+    prefix=(chroot --userspec=65534:65534 --groups= --skip-chdir /)
+    local old
+    for old in '666 666' '626 622' '606 600' '066 000' '646 644' '662 622'; do
+        echo old >out
+        chown 1234:2345 out
+        chmod "${old% *}" out
+        run 0 write "$header" "$marker" frames out
+        alike "slots in a file of mode ${old% *}" slots out
+        same "who may use what was ${old% *}" "65534 65534 ${old#* }" \
+            "$(stat -c '%u %g' out) $(printf %03o $((8#$(stat -c %a out) & 8#777)))"
+    done
+    echo old >out
+    chown 1234:2345 out
+    chmod 464 out
+    prefix=(chroot --userspec=65534:65534 --groups=2345 --skip-chdir /)
+    run 0 write "$header" "$marker" frames out
+    same 'a group that may be kept' '65534 2345 444' "$(owned out)"
+    prefix=()
+    chown 0:0 .
+}
+
+test_access_lists() {
+    begin
+    gcc -std=c11 "$root/tests/c/access_list.c" -o list_tool
+    echo old >out
+    if [ "$(id -u)" -ne 0 ] || ! ./list_tool set out; then
+        echo 'command: no access lists here, or not root; they are not looked at'
+        return
+    fi
+    local list
+    list=$(./list_tool show out)
+    run 0 write "$header" "$marker" frames out
+    same 'an access list and its mode' "$list 660" "$(./list_tool show out) $(stat -c %a out)"
+    # By somebody else: the list would mean something else, and its mask is not the group's.
+    chown 65534:65534 .
+    prefix=(chroot --userspec=65534:65534 --groups= --skip-chdir /)
+    run 0 read "$header" "$marker" slots out
+    same 'mode where a list cannot be kept' '65534 65534 600' "$(owned out)"
+    prefix=()
+    chown 0:0 .
+    # A list that the folder has for new files is not the old file's.
+    ./list_tool default directory
+    echo old >plain
+    chmod 640 plain
+    mv plain directory/plain
+    run 0 write "$header" "$marker" frames directory/plain
+    same 'a file that had no list' 'none 640' \
+        "$(./list_tool show directory/plain) $(stat -c %a directory/plain)"
+    # A new file has what any program's new file has.
+    : >directory/by_shell
+    run 0 write "$header" "$marker" frames directory/new
+    same 'the list and mode of a new file' \
+        "$(./list_tool show directory/by_shell) $(stat -c %a directory/by_shell)" \
+        "$(./list_tool show directory/new) $(stat -c %a directory/new)"
+}
+
+test_no_clobber() {
+    begin
+    echo old >out
+    ln -s out link
+    for name in out link ./out; do
+        run 2 --no-clobber write "$header" "$marker" frames "$name"
+        has 'a file that is not to be replaced' "$name: File exists" "$err"
+        same 'that file' old "$(<out)"
+    done
+    rm out link
+    run 0 -n write "$header" "$marker" frames out
+    alike 'slots in a new file' slots out
+    same 'what is left beside it' '' "$(find . -name '.mahyrei*')"
+    run 0 write "$header" "$marker" frames -n /dev/null
+    run 0 read "$header" "$marker" slots - -n
+    alike 'standard output is no file to be replaced' frames "$said/out"
+}
+
+# A file that comes into being while the run is on its way.
+once_no_clobber_late() {
+    begin
+    local late
+    mkfifo pipe
+    "$mahyrei" --no-clobber write "$header" "$marker" pipe out 2>"$said/err" &
+    late=$!
+    timeout 20 bash -c 'exec 7>pipe; echo late >out; cat frames >&7' # waits for the reader
+    wait "$late"
+    same 'status where the file came late' 2 $?
+    same 'the file that came late' late "$(<out)"
+    same 'what is left beside it' '' "$(find . -name '.mahyrei*')"
+}
