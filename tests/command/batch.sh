@@ -118,6 +118,12 @@ test_batch_goes_on() {
     mv rest list.results
     batched 0 1 5 0 0 0 list
     same 'the line behind a broken one' 1 "$(tail -n 1 list.results | grep -c '^{.*}$')"
+    batched 0 0 6 0 0 0 list
+    # One whose line is missing in the log has failed, although its output is there.
+    rm list.results
+    batched 2 0 0 0 6 0 --log /dev/full list
+    made_all
+    batched 0 6 0 0 0 0 list
 }
 
 # Names of any bytes, in JSON; a list of reads; results as a list; a list on standard input.

@@ -93,6 +93,10 @@ test_inspect_lengths() {
     report 1 '0 11355 0 0 0 0 4 0 0 0 0 2 0 0 3 0'
     head -c 28388 /dev/zero >damaged
     report 1 '0 0 11355 0 0 0 0 0 0 0 0 2 0 0 3 0'
+    "$tool" "$header" flip 18 <damaged >next
+    mv next damaged
+    report 1 '0 1 11354 0 0 0 0 0 0 0 0 2 0 0 3 0'
+    has 'one of another kind among many' $'\n          0       474  gnnnnnnnn' "$(out)"
     unharmed 1 "refused, number 5, place 0: $(sentence 5)" \
         inspect "$(header 1 4 2 189 500 5 3)" "$marker" slots
     unharmed 1 "refused, number 7, place 0: $(sentence 7)" inspect "$header" 0500100309 slots
