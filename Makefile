@@ -103,6 +103,11 @@ host-test: $(HOST_TESTS)
 demo: $(PROGRAM) $(HOST)/slots
 	@demo/run $^
 
+# README's picture of a damaged capture, which is the demo's.
+.PHONY: picture
+picture: $(PROGRAM) $(HOST)/slots
+	@demo/run $^ docs/capture.svg >/dev/null
+
 bench: $(HOST)/bench_words $(HOST)/bench_runs
 	@$(HOST)/bench_words
 	@echo
