@@ -326,7 +326,9 @@ static enum status obey_command(struct line *line) {
         return misused(line->command, name, count);
     }
     if (option != NULL) {
-        return misused(line->command, option, "this command has no such option");
+        char text[32];
+        snprintf(text, sizeof text, "--%s", option);
+        return misused(line->command, text, "this command has no such option");
     }
     return several_dashes(line) ? misused(line->command, name, "only one input can be -")
                                 : run(line);

@@ -41,6 +41,10 @@ struct saying {
 static bool saying_begin(struct saying *saying) {
     *saying = (struct saying){0};
     saying->to = open_memstream(&saying->text, &saying->len);
+    if (saying->to == NULL) {
+        static const char TEXT[] = "mahyrei: no memory is left to say what was to be said\n";
+        (void)write_all(STDERR_FILENO, TEXT, sizeof TEXT - 1);
+    }
     return saying->to != NULL;
 }
 
@@ -159,16 +163,23 @@ void entry_answer(struct entry *entry, uint64_t answer) {
 
 /* A file that is there is opened without making one, so that it is known which of the two it was.
  */
-bool log_open(struct log *log, const char *name) {
+static void open_named(struct log *log) {
     const int how = O_WRONLY | O_APPEND | O_NOCTTY | O_CLOEXEC;
-    *log = (struct log){STDERR_FILENO, name, false};
-    if (name == NULL) {
-        return true;
-    }
-    log->file = open(name, how);
+    log->ours = true;
+    log->file = open(log->name, how);
     if (log->file < 0 && errno == ENOENT) {
-        log->file = open(name, how | O_CREAT, 0666);
+        log->file = open(log->name, how | O_CREAT, 0666);
         log->created = log->file >= 0;
+    }
+}
+
+bool log_open(struct log *log, const char *name) {
+    const int handed = name == NULL ? STDERR_FILENO : descriptor_of(name);
+    *log = (struct log){handed, name, false, false};
+    if (handed < 0) {
+        open_named(log);
+    } else if (!handed_over(handed)) {
+        log->file = -1;
     }
     if (log->file < 0) {
         complain(name, errno);
@@ -176,23 +187,27 @@ bool log_open(struct log *log, const char *name) {
     return log->file >= 0;
 }
 
+/* The file that was made goes, and not a link that led to where it is. */
 void log_drop(struct log *log) {
-    if (log->name != NULL && log->file >= 0) {
+    if (log->ours && log->file >= 0) {
+        char *const made = log->created ? realpath(log->name, NULL) : NULL;
         (void)close(log->file);
-        if (log->created) {
-            (void)unlink(log->name);
+        if (made != NULL) {
+            (void)unlink(made);
         }
+        free(made);
     }
     log->file = -1;
 }
 
-enum { TEXT = 32 };
+enum { TIME_TEXT = 32 };
 
 /* Universal time, so that lines of several machines fit together. */
-static void time_text(char text[TEXT]) {
+static void time_text(char text[TIME_TEXT]) {
     const time_t now = time(NULL);
     struct tm parts;
-    if (gmtime_r(&now, &parts) == NULL || strftime(text, TEXT, "%Y-%m-%dT%H:%M:%SZ", &parts) == 0) {
+    if (gmtime_r(&now, &parts) == NULL ||
+        strftime(text, TIME_TEXT, "%Y-%m-%dT%H:%M:%SZ", &parts) == 0) {
         strcpy(text, "-");
     }
 }
@@ -216,7 +231,7 @@ static void print_part(FILE *to, const char *what, const struct entry_part *part
 }
 
 static void print_entry(FILE *to, const struct entry *entry, int status) {
-    char now[TEXT];
+    char now[TIME_TEXT];
     time_text(now);
     fprintf(to, "%s %s header=%s", now, entry->what, entry->header);
     print_size(to, "marker", entry->marker);
@@ -236,10 +251,10 @@ bool log_end(struct log *log, const struct entry *entry, int status) {
     bool good = saying_begin(&saying);
     if (good) {
         print_entry(saying.to, entry, status);
-        good = saying_end(&saying, log->file);
+        good = saying_end(&saying, log->file) && (!log->ours || sync_data(log->file));
     }
     int error = errno;
-    if (log->name != NULL && close(log->file) != 0 && good) {
+    if (log->ours && close(log->file) != 0 && good) {
         error = errno;
         good = false;
     }

@@ -57,16 +57,20 @@ void entry_answer(struct entry *entry, uint64_t answer);
 struct log {
     int file;         /* -1 where there is none */
     const char *name; /* NULL for standard error */
+    bool ours;        /* opened here, and so to be closed */
     bool created;     /* there was no such file before */
 };
 
-/* The log's file: the one named, or standard error. False where it cannot be opened. */
+/* The log's file: the one named, which can be an open file such as /dev/fd/3, or standard error.
+ * False where it cannot be opened. */
 bool log_open(struct log *log, const char *name);
 
 /* Closes it, and takes it away if it was not there before. */
 void log_drop(struct log *log);
 
-/* Adds the line of a run in one write, and closes the log. */
+/* Adds the line of a run in one write, brings a log that was opened here to the disk, and closes
+ * it.
+ */
 bool log_end(struct log *log, const struct entry *entry, int status);
 
 #endif

@@ -9,4 +9,7 @@ enum { SHA256_BYTES = 32 };
 
 void sha256(const uint8_t *from, size_t len, uint8_t digest[SHA256_BYTES]);
 
+/* The same without the processor's instructions for it, so that the tests can try both. */
+void sha256_plain(const uint8_t *from, size_t len, uint8_t digest[SHA256_BYTES]);
+
 #endif

@@ -8,10 +8,11 @@
 
 static int failures;
 
-static void expect(const char *what, const uint8_t *from, size_t len, const char *wanted) {
+static void expect_of(void (*function)(const uint8_t *, size_t, uint8_t *), const char *what,
+                      const uint8_t *from, size_t len, const char *wanted) {
     uint8_t digest[SHA256_BYTES];
     char text[2 * SHA256_BYTES + 1];
-    sha256(from, len, digest);
+    function(from, len, digest);
     for (size_t i = 0; i < SHA256_BYTES; i++) {
         snprintf(text + 2 * i, 3, "%02x", digest[i]);
     }
@@ -19,6 +20,12 @@ static void expect(const char *what, const uint8_t *from, size_t len, const char
         printf("sha256: %s\n  wanted: %s\n  got:    %s\n", what, wanted, text);
         failures++;
     }
+}
+
+/* With the processor's instructions, where it has them, and without. */
+static void expect(const char *what, const uint8_t *from, size_t len, const char *wanted) {
+    expect_of(sha256, what, from, len, wanted);
+    expect_of(sha256_plain, what, from, len, wanted);
 }
 
 static void expect_text(const char *text, const char *wanted) {

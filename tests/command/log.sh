@@ -127,6 +127,10 @@ test_log_among_operands() {
     clash 'another name of the output as log' out --log other write header marker frames out
     clash 'standard input as log' frames --log frames write header marker - out <frames
     clash 'the header of a sheet as log' header --log header sheet header
+    rm link out
+    ln -s out link
+    clash 'a link to a new output as log' out --log link write header marker frames out
+    echo old >out
     prefix=(env MAHYREI_LOG=out)
     clash 'the output as the log of the environment' out write header marker frames out
     prefix=()
@@ -150,4 +154,29 @@ test_quiet() {
     has 'a quiet failure' 'mahyrei: none: No such file' "$err"
     run 0 -q --log log read "$header" "$marker" slots out
     logged log "read $sound"
+}
+
+# A log can be an open file, as an output can.
+test_log_open_file() {
+    begin
+    {
+        echo before
+        "$mahyrei" --log /dev/stdout read "$header" "$marker" slots out
+        "$mahyrei" --log /dev/fd/1 read "$header" "$marker" slots out
+        echo after
+    } >group 2>"$said/err"
+    same 'a log among what others say' 'before 2 after' \
+        "$(head -n 1 group) $(grep -Ec "$log_line" group) $(tail -n 1 group)"
+    same 'what is said beside it' '' "$(<"$said/err")"
+    run 2 --log /dev/fd/9 read "$header" "$marker" slots out
+    has 'a log that is not open' '/dev/fd/9: Bad file descriptor' "$err"
+}
+
+# Erasing rests on it: the line of a run that is done is on the disk.
+once_log_synced() {
+    begin
+    prefix=(env "LD_PRELOAD=$faults" FAULT=fsync:3:5) # behind the output and its folder
+    run 2 --log log read "$header" "$marker" slots out
+    has 'a log that does not get to the disk' 'mahyrei: log: Input/output error' "$err"
+    prefix=()
 }
