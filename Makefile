@@ -64,7 +64,7 @@ help:
 	@echo 'make test       prove every crate (rt ci), then host-test; last line: N passed, 0 failed'
 	@echo 'make host-test  the tests outside the proofs alone; SEED=n, WORDS=n and RUNS=n choose what'
 	@echo '                is compared'
-	@echo 'make demo       write a run, see its first symbols, read it back, damage it'
+	@echo 'make demo       write a run, see its first symbols, read it back, damage it, look into it'
 	@echo 'make bench      times of the library beside plain C and plain Rust'
 	@echo 'make lib        the static library and the shared one: $(LIBS)'
 	@echo '                $(SHARED)'
@@ -102,6 +102,11 @@ host-test: $(HOST_TESTS)
 
 demo: $(PROGRAM) $(HOST)/slots
 	@demo/run $^
+
+# README's picture of a damaged capture, which is the demo's.
+.PHONY: picture
+picture: $(PROGRAM) $(HOST)/slots
+	@demo/run $^ docs/capture.svg >/dev/null
 
 bench: $(HOST)/bench_words $(HOST)/bench_runs
 	@$(HOST)/bench_words
@@ -159,7 +164,6 @@ $(SHARED): $(LIBS) $(HOST)/archives plain/libmahyrei.map
 	    -Wl,--whole-archive $(LIBS) -Wl,--no-whole-archive $(LDFLAGS) -o $@
 	@ln -sf $(@F) $(@D)/libmahyrei.so.$(ABI)
 	@ln -sf libmahyrei.so.$(ABI) $(@D)/libmahyrei.so
-
 
 # Names the archives in use: a program linked with others is linked again.
 LINKED = $(LIBS) $(HOST)/archives

@@ -222,19 +222,20 @@ static void print_histogram(FILE *to, const struct capture *capture, const uint8
 
 /* ---- the command */
 
-static void print_answer(FILE *to, uint64_t answer) {
+static void print_answer(FILE *to, const char *name, uint64_t answer) {
+    print_escaped(to, name, false);
     if (answer == MAHYREI_ACCEPTED) {
-        fputs("run_read accepts it.\n\n", to);
+        fputs(": run_read accepts it.\n\n", to);
         return;
     }
-    fprintf(to, "run_read refuses it, number %u, place %" PRIu64 ": %s\n\n", answer_number(answer),
-            answer_place(answer), mahyrei_sentence(answer_number(answer)));
+    fprintf(to, ": run_read refuses it, number %u, place %" PRIu64 ": %s\n\n",
+            answer_number(answer), answer_place(answer), mahyrei_sentence(answer_number(answer)));
 }
 
 static void print_report(FILE *to, const struct scene *scene) {
     const struct capture *const capture = scene->capture;
     const struct findings *const findings = scene->findings;
-    print_answer(to, scene->answer);
+    print_answer(to, scene->name, scene->answer);
     fputs(FOREWORD, to);
     if (capture->slots.len != capture->run.sizes.slot_bytes) {
         fprintf(to, "\nThe capture has %zu bytes, and the header implies %zu.\n",
@@ -330,7 +331,8 @@ static enum status inspect(const struct line *line, struct lent *run, struct fin
     if (!find_all(&capture, run->marker.at, findings)) {
         return FAILED;
     }
-    const struct scene scene = {line->operands[2], &capture, run->marker.at, findings, answer};
+    const char *const name = is_dash(line->operands[2]) ? "standard input" : line->operands[2];
+    const struct scene scene = {name, &capture, run->marker.at, findings, answer};
     return put_report(line, &scene);
 }
 

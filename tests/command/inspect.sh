@@ -29,7 +29,7 @@ damages() {
 test_inspect_counts() {
     begin
     report 0 '0 0 0 0 0 0 0 2 0 0 0 0 3 0 0 0'
-    has 'a sound capture' 'run_read accepts it.' "$(out)"
+    has 'a sound capture' 'damaged: run_read accepts it.' "$(out)"
     has 'what is plain C' 'counted in plain C' "$(out)"
     has 'that nothing is corrected' 'Nothing has been corrected.' "$(tr '\n' ' ' <"$said/out")"
     same 'a sound capture has no list' '' "$(grep -E 'The first|Over the run' "$said/out")"
@@ -128,6 +128,7 @@ test_inspect_picture() {
     same 'frames' 3 "$(grep -c '<title>frame ' picture.svg)"
     cp damaged $'<a & "b">\n\xFF'
     run 1 inspect "$header" "$marker" $'<a & "b">\n\xFF' --svg picture.svg
+    has 'an escaped name in the report' '<a & "b">\n\xFF: run_read refuses it' "$(out)"
     has 'an escaped name' '&#60;a &#38; "b"&#62;??: refused' "$(<picture.svg)"
     if command -v python3 >"$said/out"; then
         same 'the picture is XML' yes "$(python3 -c 'import sys, xml.dom.minidom as dom
