@@ -104,7 +104,9 @@ test_batch_goes_on() {
     honest list.results
     cp f1 f4
     cp made/s1 made/s4
+    prefix=(env --ignore-signal=CHLD)
     batched 1 1 4 1 0 0 list
+    prefix=()
     cp f1 f2
     cp made/s1 made/s2
     batched 0 1 5 0 0 0 list
