@@ -193,7 +193,7 @@ static bool has_digest(const char *name, size_t limit, const char *digest) {
     struct entry_part part = {0};
     const bool read = take_in(name, limit, &bytes);
     if (read) {
-        entry_part(&part, bytes.at, bytes.len);
+        entry_part(&part, bytes.at, bytes.len, bytes.len < limit);
     }
     free(bytes.at);
     return read && strcmp(part.digest, digest) == 0;

@@ -147,11 +147,13 @@ void entry_marker(struct entry *entry, const uint8_t *marker, size_t len) {
     digits_of(CAPITALS, marker, len, entry->marker_digits, sizeof entry->marker_digits);
 }
 
-void entry_part(struct entry_part *part, const uint8_t *at, size_t len) {
+void entry_part(struct entry_part *part, const uint8_t *at, size_t len, bool whole) {
     uint8_t digest[SHA256_BYTES];
-    sha256(at, len, digest);
     part->size = len;
-    digits_of(SMALL, digest, sizeof digest, part->digest, sizeof part->digest);
+    if (whole) {
+        sha256(at, len, digest);
+        digits_of(SMALL, digest, sizeof digest, part->digest, sizeof part->digest);
+    }
 }
 
 void entry_answer(struct entry *entry, uint64_t answer) {

@@ -50,8 +50,10 @@ struct entry {
 void entry_begin(struct entry *entry, const char *what);
 void entry_header(struct entry *entry, const uint8_t *header, size_t len);
 void entry_marker(struct entry *entry, const uint8_t *marker, size_t len);
-void entry_part(struct entry_part *part, const uint8_t *at, size_t len);
 void entry_answer(struct entry *entry, uint64_t answer);
+
+/* Bytes that are not the whole file get no digest. */
+void entry_part(struct entry_part *part, const uint8_t *at, size_t len, bool whole);
 
 /* Where the log goes. */
 struct log {

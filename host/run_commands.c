@@ -31,11 +31,11 @@ static bool take_in_run(bool writing, const struct operands *operands, struct le
     }
     entry_marker(entry, run->marker.at, run->marker.len);
     struct bytes *const from = writing ? &run->frames : &run->slots;
-    if (!take_in(writing ? operands->frames : operands->slots, writing ? FRAMES_LIMIT : SLOTS_LIMIT,
-                 from)) {
+    const size_t limit = writing ? FRAMES_LIMIT : SLOTS_LIMIT;
+    if (!take_in(writing ? operands->frames : operands->slots, limit, from)) {
         return false;
     }
-    entry_part(writing ? &entry->frames : &entry->slots, from->at, from->len);
+    entry_part(writing ? &entry->frames : &entry->slots, from->at, from->len, from->len < limit);
     return true;
 }
 
@@ -81,7 +81,7 @@ static enum status make_run(enum way way, const struct line *line, struct lent *
     if (way != VERIFYING && !put_as_told(line, name, to->at, to->len)) {
         return FAILED;
     }
-    entry_part(writing ? &entry->slots : &entry->frames, to->at, to->len);
+    entry_part(writing ? &entry->slots : &entry->frames, to->at, to->len, true);
     return DONE;
 }
 

@@ -3,7 +3,7 @@
  *
  *   FAULT=NAME:COUNT:ERROR    the COUNT-th call of NAME fails with this error number
  *   FAULT=slow                reads and writes move little at a time, and signals interrupt them
- *   FAULT=hold                the first fsync never returns
+ *   FAULT=hold                fsync waits as long as there is a file `hold` in the folder
  *   FAULT=nonblocking         the standard files do not block
  *
  * NAME is read, write, fsync, fchmod, close, rename, link or thread (pthread_create).
@@ -72,8 +72,8 @@ ssize_t write(int file, const void *from, size_t count) {
 }
 
 int fsync(int file) {
-    while (is("hold")) {
-        pause();
+    while (is("hold") && access("hold", F_OK) == 0) {
+        usleep(5000);
     }
     return fails("fsync") ? -1 : (int)syscall(SYS_fsync, file);
 }

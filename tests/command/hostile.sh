@@ -1,6 +1,7 @@
 # Full disks, little memory, failing systems, killed runs.
 # shellcheck shell=bash disable=SC2034,SC2154
 
+# A disk with too little room, and files that may not grow.
 once_full_disk() {
     begin
     prefix=(bash -c 'ulimit -f 1000; exec "$@"' bash)
@@ -31,6 +32,7 @@ once_little_memory() {
     prefix=()
 }
 
+# The system fails the command at each step of an output.
 once_faults() {
     begin
     for fault in read:1:5 write:1:28 write:1:5 fsync:1:5 close:2:5 rename:1:5; do
@@ -57,97 +59,67 @@ once_faults() {
     prefix=()
 }
 
-halt() {
-    kill -STOP "$1" 2>/dev/null || return 1
-    while [[ $(<"/proc/$1/stat") != *') T '* ]]; do
-        kill -0 "$1" || return 1
-    done 2>/dev/null
-}
-
-caught() {
-    for ((try = 0; try < 20; try++)); do
-        cp before out
-        "$@" "$mahyrei" --log /dev/null write "$largest" "$largest_marker" many out &
-        caught=$!
-        while kill -0 "$caught" 2>/dev/null; do
-            for temporary in .mahyrei.*; do
-                if [ -s "$temporary" ] && halt "$caught"; then
-                    [ ! -e "$temporary" ] || return 0
-                    kill -CONT "$caught"
-                fi
-            done
-        done
-        wait "$caught"
-    done
-    same 'a run halted in the middle' yes no
-    return 1
-}
-
-once_killed() {
-    begin
-    head -c 131072 /dev/zero >many
-    echo old | tee before >out
-    list
-    local files=$names status
-    for signal in KILL TERM INT HUP; do
-        caught env --default-signal=INT || return
-        same "output in the middle of a run, before SIG$signal" old "$(cat out)"
-        kill -s "$signal" "$caught"
-        kill -CONT "$caught" 2>/dev/null
-        wait "$caught" 2>/dev/null
-        status=$?
-        same "status after SIG$signal" "$signal" "$(kill -l "$status")"
-        same "output after SIG$signal" old "$(cat out)"
-        [ "$signal" != KILL ] || rm .mahyrei.* # nothing can remove it then
-        list
-        same "files after SIG$signal" "$files" "$names"
-    done
-    caught env || return
-    rm out # as if none had been there
-    kill -KILL "$caught"
-    wait "$caught" 2>/dev/null
-    same 'output after SIGKILL' no "$([ -e out ] && echo yes || echo no)"
-    rm .mahyrei.*
-    caught env --ignore-signal=HUP || return # as under nohup
-    kill -HUP "$caught"
-    kill -CONT "$caught"
-    wait "$caught"
-    same 'status where SIGHUP is ignored' 0 $?
-    same 'slot bytes of the largest run' 182205600 "$(stat -c %s out)"
-    run 0 read "$largest" "$largest_marker" out back
-    alike 'frames of the largest run' many back
-}
-
-# ended SIGNAL: a run that is about to bring its output to the disk, ended by this signal
-ended() {
-    local signal=$1 temporary='' status
+# held WORD...: starts a run through these words, its process in $held, and waits until it is about
+# to bring its output to the disk; there it stays as long as there is a file `hold`
+held() {
+    local temporary=''
+    : >hold
     rm -f .mahyrei.*
     # shellcheck disable=SC2016
-    env --default-signal "LD_PRELOAD=$faults" FAULT=hold bash -c 'ulimit -c 0; exec "$@"' bash \
+    "$@" env "LD_PRELOAD=$faults" FAULT=hold bash -c 'ulimit -c 0; exec "$@"' bash \
         "$mahyrei" --log /dev/null write "$header" "$marker" frames out &
-    caught=$!
-    while [ ! -s "$temporary" ] && kill -0 "$caught"; do
+    held=$!
+    while [ ! -s "$temporary" ] && kill -0 "$held"; do
         for temporary in .mahyrei.*; do :; done
     done
-    kill -s "$signal" "$caught"
-    for ((i = 0; i < 200 && $(kill -0 "$caught" && echo 1 || echo 0); i++)); do
-        sleep 0.02
-    done
-    kill -KILL "$caught"
-    wait "$caught" 2>/dev/null
-    status=$?
-    same "status after signal $signal" "$signal" "$(kill -l "$status")"
-    same "what signal $signal leaves" '' "$(find . -name '.mahyrei*')"
-    same "output after signal $signal" old "$(<out)"
 }
 
+# ended SIGNAL: a held run, ended by this signal
+ended() {
+    local signal=$1 status
+    held env --default-signal
+    kill -s "$signal" "$held"
+    for ((i = 0; i < 200 && $(kill -0 "$held" && echo 1 || echo 0); i++)); do
+        sleep 0.02
+    done
+    kill -KILL "$held"
+    wait "$held" 2>/dev/null
+    status=$?
+    same "status after signal $signal" "$signal" "$(kill -l "$status")"
+    same "output after signal $signal" old "$(<out)"
+    [ "$signal" != KILL ] || rm .mahyrei.* # nothing can remove it then
+    same "what signal $signal leaves" '' "$(find . -name '.mahyrei*')"
+}
+
+# Nothing half written has the output's name, and no signal but SIGKILL leaves anything behind.
 once_ended_by_any_signal() {
     begin
     echo old >out
-    for signal in HUP INT QUIT ILL TRAP ABRT BUS FPE USR1 SEGV USR2 ALRM TERM STKFLT XCPU VTALRM \
-        PROF IO PWR SYS RTMIN RTMAX; do
+    for signal in KILL HUP INT QUIT ILL TRAP ABRT BUS FPE USR1 SEGV USR2 ALRM TERM STKFLT XCPU \
+        VTALRM PROF IO PWR SYS RTMIN RTMAX; do
         ended "$signal" 2>/dev/null
     done
+    rm out # as if none had been there
+    held env 2>/dev/null
+    kill -KILL "$held"
+    wait "$held" 2>/dev/null
+    same 'output after SIGKILL where none was there' no "$([ -e out ] && echo yes || echo no)"
+    held env --ignore-signal=HUP 2>/dev/null # as under nohup
+    kill -HUP "$held"
+    sleep 0.1
+    rm hold
+    wait "$held"
+    same 'status where SIGHUP is ignored' 0 $?
+    alike 'slots where SIGHUP is ignored' slots out
+}
+
+once_largest() {
+    begin
+    head -c 131072 /dev/zero >many
+    run 0 write "$largest" "$largest_marker" many out
+    same 'slot bytes of the largest run' 182205600 "$(stat -c %s out)"
+    run 0 read "$largest" "$largest_marker" out back
+    alike 'frames of the largest run' many back
 }
 
 # The library wants less than 1 MiB of stack; the command brings its own.

@@ -1,6 +1,7 @@
 # What is installed, the man page, and the demo.
 # shellcheck shell=bash disable=SC2034,SC2154
 
+# The man page has README's sentences, all subcommands and all options.
 once_manual() {
     local text
     for ((number = 0; number <= 18; number++)); do
@@ -28,6 +29,7 @@ made() {
     same "status of make $*: $(out)" 0 $?
 }
 
+# What `make install` puts down serves README's example program.
 once_install() {
     begin
     local prefix_folder="$work/a prefix" files libraries flags

@@ -128,7 +128,7 @@ test_open_files() {
     same 'what else is in a log that was not handed over' '' "$(grep -Ev "$log_line" log)"
     cp before archive
     exec 7>>archive
-    run 2 read "$header" "$marker" slots "/proc/$$/fd/7"
+    run 2 read "$header" "$marker" slots "/proc/$BASHPID/fd/7"
     exec 7>&-
     has 'the open file of another program' 'the open file of another program' "$err"
     alike 'that file' before archive

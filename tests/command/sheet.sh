@@ -20,6 +20,7 @@ test_sheet() {
     same 'the sheet of a missing file' '' "$(out)"
 }
 
+# The line and the proved program's line, for headers that pass and headers that fail.
 once_sheet_beside_runsheet() {
     if [ -z "$runsheet" ]; then
         echo 'command: no runsheet was given; the sheets are not compared with it'
@@ -100,7 +101,7 @@ test_header() {
         'A=18446744073709551615 6 A'; do
         read -r field number name <<<"$wrong"
         rm -f file
-        run 1 header -o file $(printf '%s\n' "${fields[@]}" | sed "s/^$name=.*/$field/")
+        run 1 header -o file "${fields[@]/#$name=*/$field}"
         has "a header with $field" "refused, number $number, place 0: $(sentence "$number")" "$err"
         has "the field of $field" "mahyrei: header: $name is ${field#*=}" "$err"
         same "the file of $field" no "$([ -e file ] && echo yes || echo no)"
