@@ -244,17 +244,16 @@ once_batch_progress() {
     fi
     begin
     "$mahyrei" -q write "$example" "$example_marker" example run
-    for ((run = 0; run < 20; run++)); do
+    for ((run = 0; run < 40; run++)); do
         printf 'read\t%s\t%s\trun\tback%s\n' "$example" "$example_marker" "$run"
     done >list
-    local wiped=$'\r\e\\[K' form
-    form="^(${wiped}mahyrei: [0-9]+ of 20 runs, [0-9]+\\.[05] s)+${wiped}mahyrei: 20 runs: 20 done"
-    local begun=${EPOCHREALTIME/./}
+    local wiped=$'\r\e\\[K' form begun=${EPOCHREALTIME/./}
+    form="^(${wiped}mahyrei: [0-9]+ of 40 runs, [0-9]+\\.[05] s)*($wiped)?mahyrei: 40 runs: 40 done"
     script -qec "$mahyrei batch --jobs 1 list" /dev/null </dev/null >"$said/out"
-    if ((${EPOCHREALTIME/./} - begun < 700000)); then
-        form='^mahyrei: 20 runs: 20 done' # a machine that is too fast to show any
-    fi
     same "progress of a list: $(cat -v "$said/out")" yes "$([[ $(out) =~ $form ]] && echo yes)"
+    if ((${EPOCHREALTIME/./} - begun > 1000000)); then # not on a machine that is done before
+        has 'the beginning of it' ' of 40 runs, 0.5 s' "$(out)"
+    fi
 }
 
 # children PROCESS: those it has now, in $children; false where there are none
