@@ -70,8 +70,10 @@ bool sync_folder(int folder) {
 
 enum { HOPS = 40 };
 
+/* A number as the system writes it. */
 static bool digits_alone(const char *text) {
-    return text[0] != '\0' && text[strspn(text, "0123456789")] == '\0';
+    return text[0] != '\0' && (text[0] != '0' || text[1] == '\0') &&
+           text[strspn(text, "0123456789")] == '\0';
 }
 
 /* Whether this is the folder of some process's open files: /proc/7/fd or /proc/7/task/8/fd. */

@@ -9,6 +9,7 @@
 #include "files.h"
 #include "library.h"
 #include "mahyrei_plain.h"
+#include "numbers.h"
 #include "places.h"
 #include "sheet.h"
 
@@ -79,13 +80,6 @@ enum status sheet_command(const struct line *line, struct entry *entry) {
 }
 
 /* ---- header */
-
-static bool read_number(const char *text, uint64_t *number) {
-    char *end;
-    errno = 0;
-    *number = strtoull(text, &end, 10);
-    return text[0] >= '0' && text[0] <= '9' && *end == '\0' && errno == 0;
-}
 
 static bool read_rate(const char *text, uint64_t *rate) {
     static const char *const RATES[] = {"1/3", "1/2", "2/3"};

@@ -2,7 +2,7 @@
 
 #include "report.h"
 
-bool take_number(const char *text, uint64_t *number) {
+bool read_number(const char *text, uint64_t *number) {
     const char *at = text;
     *number = 0;
     for (; *at >= '0' && *at <= '9'; at++) {
@@ -12,7 +12,11 @@ bool take_number(const char *text, uint64_t *number) {
         }
         *number = *number * 10 + digit;
     }
-    if (at == text || *at != '\0') {
+    return at != text && *at == '\0';
+}
+
+bool take_number(const char *text, uint64_t *number) {
+    if (!read_number(text, number)) {
         complain_text(text, "not a number, or too large");
         return false;
     }

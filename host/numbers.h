@@ -5,7 +5,10 @@
 #include <stdbool.h>
 #include <stdint.h>
 
-/* Decimal digits and nothing else, up to the largest number; what is wrong has been said. */
+/* Decimal digits and nothing else, up to the largest number. */
+bool read_number(const char *text, uint64_t *number);
+
+/* The same; what is wrong has been said. */
 bool take_number(const char *text, uint64_t *number);
 
 #endif

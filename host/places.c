@@ -80,6 +80,9 @@ static void say_sizes(const struct sheet *sheet, const struct lent *run,
 
 static void say_spare(const struct sheet *sheet, const struct lent *run, const char *about) {
     const size_t last = sheet->sizes.slot_bytes - 1;
+    if (last >= run->slots.len) {
+        return;
+    }
     remark(about, "the slots end with slot %" PRIu64 "; the last byte, %zu, is %02X",
            sheet->sizes.slots - 1, last, run->slots.at[last]);
 }

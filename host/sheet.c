@@ -2,6 +2,8 @@
 
 #include <inttypes.h>
 
+#include "json.h"
+
 static const char *const RATES[] = {"1/3", "1/2", "2/3"};
 
 unsigned sheet_of(const struct bytes *header, struct sheet *sheet) {
@@ -106,7 +108,8 @@ void print_sheet_json(FILE *to, const struct bytes *header, const struct sheet *
     fprintf(to, "\",\"accepted\":%s,\"number\":%u", number == MAHYREI_ACCEPTED ? "true" : "false",
             number);
     if (number != MAHYREI_ACCEPTED) {
-        fprintf(to, ",\"sentence\":\"%s\"", mahyrei_sentence(number));
+        fputs(",\"sentence\":", to);
+        json_print(to, mahyrei_sentence(number));
     }
     if (count > 0) {
         fprintf(to, ",\"rate\":\"%s\"", rate_text(sheet));
