@@ -22,11 +22,17 @@
 enum { SKIPPED = FAILED + 1, ENDS };
 enum { JOBS_MOST = 1024, SAID = 4096 };
 
+/* What the process of a run sends when it is done with it. */
+struct message {
+    int end;
+    struct entry entry;
+};
+
 /* A process at work on a run. */
 struct worker {
     pid_t pid;
     const struct item *item;
-    int entry, said_from; /* what it sends: its entry, and what it says on standard error */
+    int message, said_from; /* where its message comes from, and what it says on standard error */
     size_t said_len;
     char said[SAID];
 };
@@ -68,17 +74,18 @@ static int make_run(const struct batch *batch, const struct item *item, struct e
 }
 
 static _Noreturn void work(const struct batch *batch, const struct item *item, pid_t parent,
-                           const int entry_to[2], const int said_to[2]) {
-    struct entry entry;
+                           const int message_to[2], const int said_to[2]) {
+    struct message message;
     progress_forget();
     if (!stay_with(parent) || dup2(said_to[1], STDERR_FILENO) < 0) {
         _exit(FAILED);
     }
     close(said_to[0]);
     close(said_to[1]);
-    close(entry_to[0]);
-    const int end = make_run(batch, item, &entry);
-    _exit(write_all(entry_to[1], &entry, sizeof entry) ? end : FAILED);
+    close(message_to[0]);
+    memset(&message, 0, sizeof message);
+    message.end = make_run(batch, item, &message.entry);
+    _exit(write_all(message_to[1], &message, sizeof message) ? DONE : FAILED);
 }
 
 /* ---- beginning and ending runs */
@@ -98,36 +105,36 @@ static void close_pipe(const int ends[2]) {
 }
 
 /* The process, or -1 and errno. */
-static pid_t begin_with(const struct batch *batch, const struct item *item, const int entry[2],
+static pid_t begin_with(const struct batch *batch, const struct item *item, const int message[2],
                         const int said[2]) {
     const pid_t parent = getpid(), pid = fork();
     if (pid == 0) {
-        work(batch, item, parent, entry, said);
+        work(batch, item, parent, message, said);
     }
     return pid;
 }
 
 static bool begin(struct batch *batch) {
     const struct item *const item = &batch->list.items[batch->next];
-    int entry[2], said[2];
-    if (!make_pipe(entry)) {
+    int message[2], said[2];
+    if (!make_pipe(message)) {
         return false;
     }
     if (!make_pipe(said)) {
-        close_pipe(entry);
+        close_pipe(message);
         return false;
     }
-    const pid_t pid = begin_with(batch, item, entry, said);
+    const pid_t pid = begin_with(batch, item, message, said);
     const int kept = errno;
-    close(entry[1]);
+    close(message[1]);
     close(said[1]);
     if (pid < 0) {
-        close(entry[0]);
+        close(message[0]);
         close(said[0]);
         errno = kept;
         return false;
     }
-    batch->workers[batch->running++] = (struct worker){pid, item, entry[0], said[0], 0, {0}};
+    batch->workers[batch->running++] = (struct worker){pid, item, message[0], said[0], 0, {0}};
     batch->next++;
     return true;
 }
@@ -145,21 +152,22 @@ static void begin_some(struct batch *batch) {
     }
 }
 
+/* The signal that ended a process, or 0. */
 static int wait_for(pid_t pid) {
     int status = 0;
     while (waitpid(pid, &status, 0) < 0 && errno == EINTR) {
     }
-    return status;
+    return WIFSIGNALED(status) ? WTERMSIG(status) : 0;
 }
 
-/* The entry that a run sent, whole or not at all. */
-static bool take_entry(int from, struct entry *entry) {
-    uint8_t *const to = (void *)entry;
+/* The message that a run sent, whole or not at all. */
+static bool take_message(int from, struct message *message) {
+    uint8_t *const to = (void *)message;
     size_t got = 0;
-    for (ssize_t more = 1; more > 0 && got<sizeof *entry; got += more> 0 ? (size_t)more : 0) {
-        more = read_some(from, to + got, sizeof *entry - got);
+    for (ssize_t more = 1; more > 0 && got<sizeof *message; got += more> 0 ? (size_t)more : 0) {
+        more = read_some(from, to + got, sizeof *message - got);
     }
-    return got == sizeof *entry;
+    return got == sizeof *message;
 }
 
 static void end_said(struct worker *worker) {
@@ -169,20 +177,18 @@ static void end_said(struct worker *worker) {
     worker->said[worker->said_len] = '\0';
 }
 
-/* A run whose process was ended, or sent nothing, has failed, whatever was written. */
+/* A run that was ended before it sent its message has failed, whatever was written. Its status is
+ * in the message: that of the process is lost where the caller has children ignored. */
 static void finish(struct batch *batch, struct worker *worker) {
-    struct entry entry;
-    const int status = wait_for(worker->pid);
-    const bool sent = take_entry(worker->entry, &entry);
-    const int signal = WIFSIGNALED(status) ? WTERMSIG(status) : 0;
-    const int end =
-        WIFEXITED(status) && sent && WEXITSTATUS(status) < ENDS ? WEXITSTATUS(status) : FAILED;
+    struct message message;
+    const bool sent = take_message(worker->message, &message);
+    const int signal = wait_for(worker->pid), end = sent ? message.end : FAILED;
     end_said(worker);
-    close(worker->entry);
+    close(worker->message);
     close(worker->said_from);
     batch->counts[end]++;
     if (end != SKIPPED) {
-        const struct result result = {worker->item, end, signal, sent ? &entry : NULL,
+        const struct result result = {worker->item, end, signal, sent ? &message.entry : NULL,
                                       worker->said};
         batch->broken = !results_add(&batch->results, &result) || batch->broken;
     }

@@ -3,7 +3,8 @@
 #include <inttypes.h>
 #include <stdio.h>
 #include <stdlib.h>
-#include <string.h>
+#include <sys/stat.h>
+#include <unistd.h>
 
 #include "commands.h"
 #include "findings.h"
@@ -310,10 +311,32 @@ static enum status put_report(const struct line *line, const struct scene *scene
     return scene->answer == MAHYREI_ACCEPTED ? DONE : REFUSED;
 }
 
+/* A picture in place of what was captured would be a loss that nobody meant. */
+static bool picture_ready(const struct line *line) {
+    const char *const picture = line->options[SVG];
+    struct stat drawn, read;
+    if (picture == NULL || (!is_dash(picture) && stat(picture, &drawn) != 0)) {
+        return true;
+    }
+    if (is_dash(picture)) {
+        complain_text("--svg", "a file; standard output has the report");
+        return false;
+    }
+    for (int i = 0; i < line->count; i++) {
+        const char *const name = line->operands[i];
+        const int got = is_dash(name) ? fstat(STDIN_FILENO, &read) : stat(name, &read);
+        if (got == 0 && read.st_dev == drawn.st_dev && read.st_ino == drawn.st_ino) {
+            complain_text(picture, "this is what is looked at, and no picture goes there");
+            return false;
+        }
+    }
+    return true;
+}
+
 static enum status inspect(const struct line *line, struct lent *run, struct findings *findings) {
     struct capture capture;
     uint64_t answer;
-    if (!take_in_capture(line->operands, run)) {
+    if (!picture_ready(line) || !take_in_capture(line->operands, run)) {
         return FAILED;
     }
     progress_phase(CODING);

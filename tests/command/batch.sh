@@ -104,7 +104,9 @@ test_batch_goes_on() {
     honest list.results
     cp f1 f4
     cp made/s1 made/s4
+    prefix=(env --ignore-signal=CHLD)
     batched 1 1 4 1 0 0 list
+    prefix=()
     cp f1 f2
     cp made/s1 made/s2
     batched 0 1 5 0 0 0 list
@@ -242,17 +244,16 @@ once_batch_progress() {
     fi
     begin
     "$mahyrei" -q write "$example" "$example_marker" example run
-    for ((run = 0; run < 20; run++)); do
+    for ((run = 0; run < 40; run++)); do
         printf 'read\t%s\t%s\trun\tback%s\n' "$example" "$example_marker" "$run"
     done >list
-    local wiped=$'\r\e\\[K' form
-    form="^(${wiped}mahyrei: [0-9]+ of 20 runs, [0-9]+\\.[05] s)+${wiped}mahyrei: 20 runs: 20 done"
-    local begun=${EPOCHREALTIME/./}
+    local wiped=$'\r\e\\[K' form begun=${EPOCHREALTIME/./}
+    form="^(${wiped}mahyrei: [0-9]+ of 40 runs, [0-9]+\\.[05] s)*($wiped)?mahyrei: 40 runs: 40 done"
     script -qec "$mahyrei batch --jobs 1 list" /dev/null </dev/null >"$said/out"
-    if ((${EPOCHREALTIME/./} - begun < 700000)); then
-        form='^mahyrei: 20 runs: 20 done' # a machine that is too fast to show any
-    fi
     same "progress of a list: $(cat -v "$said/out")" yes "$([[ $(out) =~ $form ]] && echo yes)"
+    if ((${EPOCHREALTIME/./} - begun > 1000000)); then # not on a machine that is done before
+        has 'the beginning of it' ' of 40 runs, 0.5 s' "$(out)"
+    fi
 }
 
 # children PROCESS: those it has now, in $children; false where there are none
@@ -266,58 +267,67 @@ until_state() {
     while grep -q "^State:.[^$2]" "/proc/$1/status" 2>/dev/null; do sleep 0.01; done
 }
 
-# Stops a list and its runs in the middle, ends the list by this signal, and lets the runs go on. Its
-# status, in $status; the outputs that were there before, in $before.
-end_in_the_middle() {
-    until [ -s list.results ]; do sleep 0.01; done
-    kill -STOP "$2"
-    until_state "$2" TZ
-    children "$2"
-    for child in $children; do
-        kill -STOP "$child"
-        until_state "$child" TZ
-    done
-    before=$(ls out*)
-    kill -s "$1" "$2"
-    kill -CONT "$2" 2>/dev/null
-    wait "$2" 2>/dev/null
-    status=$?
-    for child in $children; do
-        kill -CONT "$child" 2>/dev/null
-        until_state "$child" Z
-    done
+# halted COUNT: begins `list` until it and its runs are stopped with some of so many still to do; the
+# processes are in $batch and $children
+halted() {
+    for ((try = 0; try < 20; try++)); do
+        rm -f list.results out*
+        "$mahyrei" batch --jobs 2 list 2>"$said/err" &
+        batch=$!
+        until [ -s list.results ]; do sleep 0.01; done
+        kill -STOP "$batch"
+        until_state "$batch" TZ
+        if children "$batch" && [ "$(wc -l <list.results)" -lt "$1" ]; then
+            for child in $children; do
+                kill -STOP "$child"
+                until_state "$child" TZ
+            done
+            return
+        fi
+        kill -CONT "$batch"
+        wait "$batch"
+    done 2>/dev/null
 }
 
-# Ended in the middle: whatever is claimed is there, the rest is made when it is started again.
+# Ended in the middle: whatever is claimed is there, no run goes on without the list, and the rest is
+# made when it is started again.
 once_batch_killed() {
     begin
-    local count=10 batch shorter before status
+    local count=10 batch shorter before status lines
     shorter=$(header 1 6 84 30 223 16 2) # two megabytes of slots
     for ((run = 0; run < count; run++)); do
         printf 'write\t%s\t%s\texample\tout%s\n' "$shorter" "$example_marker" "$run"
     done >list
     for signal in TERM KILL; do
-        rm -f list.results out*
-        "$mahyrei" batch --jobs 2 list 2>"$said/err" &
-        batch=$!
-        end_in_the_middle "$signal" "$batch"
-        same "status after SIG$signal" "$signal" "$(kill -l "$status")"
+        halted "$count"
+        before=$(ls out*)
+        kill -s "$signal" "$batch"
+        kill -CONT "$batch" 2>/dev/null
+        wait "$batch" 2>/dev/null
+        same "status after SIG$signal" "$signal" "$(kill -l $?)"
+        for child in $children; do
+            kill -CONT "$child" 2>/dev/null
+            until_state "$child" Z
+        done
         same "no run goes on after SIG$signal" "$before" "$(ls out*)"
         same "temporary files after SIG$signal" '' "$(find . -name '.mahyrei*')"
         honest list.results
-        local lines
         lines=$(grep -c '"status": 0' list.results)
-        same "some were left at SIG$signal" yes "$([ "$lines" -lt "$count" ] && echo yes)"
         batched 0 "$((count - lines))" "$lines" 0 0 0 list
         honest list.results
     done
-    rm -f list.results out*
-    "$mahyrei" batch --jobs 1 list 2>"$said/err" &
-    batch=$!
-    # shellcheck disable=SC2086
-    until children "$batch" && kill -KILL $children 2>/dev/null; do :; done
-    wait "$batch"
-    same 'status after a run was killed' 2 $?
+    # One of its runs is killed; it may just have ended.
+    for ((try = 0; try < 20; try++)); do
+        halted "$count"
+        # shellcheck disable=SC2086
+        kill -KILL ${children%% *}
+        # shellcheck disable=SC2086
+        kill -CONT ${children#* } "$batch" 2>/dev/null
+        wait "$batch"
+        status=$?
+        [ "$status" -eq 0 ] || break
+    done 2>/dev/null
+    same 'status after a run was killed' 2 "$status"
     same 'runs that were killed' 1 "$(grep -c '"status": 2, .*"signal": 9' list.results)"
     same 'runs that were not' "$((count - 1))" "$(grep -c '"status": 0' list.results)"
     rm -f .mahyrei.* # SIGKILL can leave one

@@ -141,6 +141,17 @@ dom.parse("picture.svg"); print("yes")')"
     has 'a picture that cannot be written' 'none/picture.svg: ' "$err"
     same 'no report then' '' "$(out)"
     run 2 show "$header" slots 0 1 --svg picture.svg
+    cp damaged kept
+    ln -s damaged leads
+    for name in damaged ./damaged leads; do
+        run 2 inspect "$header" "$marker" damaged --svg "$name"
+        has 'a picture over the capture' "$name: this is what is looked at" "$err"
+    done
+    run 2 inspect header marker - --svg damaged <damaged
+    run 2 inspect header marker damaged --svg marker
+    run 2 inspect header marker damaged --svg -
+    has 'a picture on standard output' '--svg: a file' "$err"
+    alike 'the capture after that' kept damaged
     "$mahyrei" -q write "$example" "$example_marker" example many
     printf '\x80' | dd of=many bs=1 seek=4000001 conv=notrunc 2>"$said/err"
     run 1 inspect "$example" "$example_marker" many --svg picture.svg

@@ -35,6 +35,7 @@ once_shared() {
     version=$("$mahyrei" --version)
     same 'the links to it' "libmahyrei.so.0 libmahyrei.so.${version#* }" \
         "$(readlink $so) $(readlink $so.0)"
+    has 'what the module looks for' '_LIBRARY = "libmahyrei.so.0"' "$(<"$root/python/mahyrei.py")"
     # README's program, with the shared library and with the archive.
     local flags="-Iprefix/include -Lprefix/lib -lmahyrei"
     if command -v pkg-config >"$said/out"; then
