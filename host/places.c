@@ -11,11 +11,15 @@ static const char *shown(const char *operand) {
     return is_dash(operand) ? "standard input" : operand;
 }
 
+static const char *plural(size_t count) {
+    return count == 1 ? "" : "s";
+}
+
 /* ---- headers: numbers 1 to 7 */
 
 static void say_header_bytes(const struct bytes *header, const char *about) {
     if (header->len != MAHYREI_HEADER_BYTES) {
-        remark(about, "the header has %zu bytes%s, and needs %d", header->len,
+        remark(about, "the header has %zu byte%s%s, and needs %d", header->len, plural(header->len),
                header->len == HEADER_LIMIT ? " or more" : "", MAHYREI_HEADER_BYTES);
     } else {
         remark(about, "the last 16 bits of the header are %02X%02X", header->at[6], header->at[7]);
@@ -59,8 +63,8 @@ static void say_marker(const struct sheet *sheet, const struct bytes *marker, co
 static void say_size(const struct bytes *bytes, const char *operand, const char *what,
                      size_t implied, size_t limit) {
     if (bytes->len != implied) {
-        remark(shown(operand), "the %s have %zu bytes%s, and the header implies %zu", what,
-               bytes->len, bytes->len == limit ? " or more" : "", implied);
+        remark(shown(operand), "the %s have %zu byte%s%s, and the header implies %zu", what,
+               bytes->len, plural(bytes->len), bytes->len == limit ? " or more" : "", implied);
     }
 }
 

@@ -62,7 +62,7 @@ says() {
 test_refusal_says_where() {
     begin
     local m=$marker
-    says '00: the header has 1 bytes, and needs 8' write 00 "$m" frames out
+    says '00: the header has 1 byte, and needs 8' write 00 "$m" frames out
     says "${header}00: the header has 9 bytes or more, and needs 8" write "${header}00" "$m" frames out
     says 'standard input: the header has 0 bytes, and needs 8' write - "$m" frames out </dev/null
     says "${header:0:15}1: the last 16 bits of the header are 0001" read "${header:0:15}1" "$m" slots out
@@ -71,7 +71,7 @@ test_refusal_says_where() {
     says "$(header 1 4 2 189 500 5 3): N is 2, B is 189, and S is 3780" \
         read "$(header 1 4 2 189 500 5 3)" "$m" slots out
     says '0500100309: symbol 2 of the marker is 16, and M is 16' read "$header" 0500100309 slots out
-    says '05: the marker'"'"'s symbols have 1 bytes, and the header implies 5' \
+    says '05: the marker'"'"'s symbols have 1 byte, and the header implies 5' \
         read "$header" 05 slots out
     head -c 1499 frames >short
     says 'short: the frames have 1499 bytes, and the header implies 1500' \
