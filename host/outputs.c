@@ -1,7 +1,6 @@
 /* Outputs. */
 #include <errno.h>
 #include <fcntl.h>
-#include <limits.h>
 #include <stdlib.h>
 #include <string.h>
 #include <sys/stat.h>
@@ -100,6 +99,10 @@ static bool complain_of(const struct output *output) {
 static bool replace(const char *name, const struct stat *old, struct output *output) {
     char *const path = folder_of(name);
     const int folder = path == NULL ? -1 : open(path, O_RDONLY | O_DIRECTORY | O_CLOEXEC);
+    if (folder < 0 && path != NULL) {
+        output->step = "its folder cannot be opened:";
+        output->where = path;
+    }
     bool good = folder >= 0 &&
                 close_after(folder, write_temporary(path, old, name, output) &&
                                         take_name(name, path, output) && sync_folder(folder));

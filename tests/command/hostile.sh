@@ -176,6 +176,10 @@ test_unwritable_folder() {
     has 'a file in a folder that may not be written' \
         "shut/out: no temporary file can be made in $work/shut: Permission denied" "$err"
     same 'that file' old "$(<shut/out)"
+    chmod 311 shut # files can be made there, but it cannot be brought to the disk
+    run 2 write "$header" "$marker" frames shut/new
+    has 'a folder that may not be read' \
+        'shut/new: its folder cannot be opened: shut: Permission denied' "$err"
     chmod 755 shut
     prefix=()
 }

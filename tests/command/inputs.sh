@@ -16,8 +16,10 @@ test_files() {
     unharmed 2 'directory: Is a directory' write "$header" "$marker" directory out
     unharmed 2 'directory: Is a directory' read "$header" "$marker" directory out
     unharmed 2 'directory: Is a directory' write "$header" "$marker" frames directory
-    unharmed 2 'none/out: No such file' write "$header" "$marker" frames none/out
-    unharmed 2 'none/: No such file' write "$header" "$marker" frames none/
+    unharmed 2 'none/out: its folder cannot be opened: none: No such file' \
+        write "$header" "$marker" frames none/out
+    unharmed 2 'none/: its folder cannot be opened: none: No such file' \
+        write "$header" "$marker" frames none/
     unharmed 2 'frames/out: Not a directory' write "$header" "$marker" frames frames/out
     unharmed 2 ': No such file' write "$header" "$marker" frames ''
     logged "$said/err" "write header=$header marker=5 frames=1500 slots=- answer=0 place=0 status=2"

@@ -76,23 +76,15 @@ once_install_here() {
     same 'what is left here' '' "$(ls -d here 2>/dev/null)"
 }
 
-# What a packager gives adds to what the build needs, and a compiler can come by the environment.
+# What a packager gives adds to what the build needs; clang has warnings of its own.
 once_packager() {
     begin
     local compiler=clang
     command -v clang >"$said/out" || compiler=cc
-    cat >compiler <<'END'
-#!/bin/sh
-echo "$@" >>compiled
-END
-    echo "exec $compiler \"\$@\"" >>compiler
+    printf '%s\n' '#!/bin/sh' "echo \"\$@\" >>'$work/compiled'" "exec $compiler \"\$@\"" >compiler
     chmod +x compiler
-    (
-        cd "$work" && CC=$work/compiler make -s -C "$root" --no-print-directory \
-            CFLAGS='-O0 -g' CPPFLAGS=-DPACKAGED LDFLAGS=-Wl,-z,now HOST="$work/built" program
-    ) >"$said/out" 2>&1
-    same "status with a packager's flags: $(out)" 0 $?
-    mv "$root/compiled" . 2>/dev/null
+    made CC="$work/compiler" CFLAGS='-O0 -g' CPPFLAGS=-DPACKAGED LDFLAGS=-Wl,-z,now \
+        HOST="$work/built" program
     for word in -O0 -g -DPACKAGED -Wl,-z,now -std=c11 -Iinclude -Werror; do
         has 'words to the compiler' " $word " " $(cat compiled) "
     done
