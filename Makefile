@@ -84,7 +84,7 @@ test:
 PYTHON_TEST = if ! command -v python3 >/dev/null; then \
     echo 'python: no python3 here; the module is not tried'; \
     else MAHYREI_LIBRARY=$(abspath $(SHARED)) tests/python/module $(PROGRAM) $(HOST)/slots; fi
-HOST_TESTS = $(SHARED) $(addprefix $(HOST)/,word_calls run_calls plain_calls sha256_vectors \
+HOST_TESTS = $(SHARED) $(addprefix $(HOST)/,mahyrei_lying word_calls run_calls plain_calls sha256_vectors \
     second_test compare_words compare_runs) \
     $(COMMAND_TESTS)
 host-test: $(HOST_TESTS)
@@ -191,6 +191,10 @@ $(PROGRAM): $(HOST_SOURCES) $(wildcard host/*.h) $(HEADER) $(LINKED)
 
 $(HOST)/mahyrei_sanitized: $(HOST_SOURCES) $(wildcard host/*.h) $(HEADER) $(LINKED)
 	@$(COMPILE) $(SANITIZED) $(HOST_FLAGS) $(HOST_SOURCES) $(LIBS) $(LDFLAGS) -o $@
+
+# The command with a library whose answers are wrong.
+$(HOST)/mahyrei_lying: tests/c/lying.c $(HOST_SOURCES) $(wildcard host/*.h) $(HEADER) $(LINKED)
+	@$(COMPILE) $(HOST_FLAGS) -Wl,--wrap,run_read $< $(HOST_SOURCES) $(LIBS) $(LDFLAGS) -o $@
 
 $(HOST)/faults.so: tests/c/faults.c
 	@mkdir -p $(@D)

@@ -1,9 +1,11 @@
 #include "findings.h"
 
+#include <errno.h>
 #include <stdlib.h>
 #include <string.h>
 
 #include "library.h"
+#include "report.h"
 
 const struct fault_line FAULT_LINES[FAULTS] = {
     [MISSING] = {"symbols missing at the end", 'x', "#8c96a0", MAHYREI_BAD_LENGTH},
@@ -70,7 +72,7 @@ static bool find_words(const struct capture *capture, struct findings *findings)
         findings->words[i] = NOT_ASKED;
         if (word_of(capture, i, word) &&
             !library_word_read(capture->run.fields.rate, word,
-                               findings->blocks.at + i * MAHYREI_BLOCK_BYTES_MAX,
+                               findings->blocks + i * MAHYREI_BLOCK_BYTES_MAX,
                                &findings->words[i])) {
             return false;
         }
@@ -84,7 +86,7 @@ static bool find_words(const struct capture *capture, struct findings *findings)
 static bool stream_bit(const struct capture *capture, const struct findings *findings, uint64_t bit,
                        unsigned *value) {
     const uint64_t block = bit / capture->run.sizes.k, in = bit % capture->run.sizes.k;
-    const uint8_t *const at = findings->blocks.at + block * MAHYREI_BLOCK_BYTES_MAX;
+    const uint8_t *const at = findings->blocks + block * MAHYREI_BLOCK_BYTES_MAX;
     *value = at[in / 8] >> (7 - in % 8) & 1;
     return findings->words[block] == MAHYREI_ACCEPTED;
 }
@@ -121,17 +123,15 @@ static void find_frames(const struct capture *capture, struct findings *findings
 /* ---- all of it */
 
 static bool make_rooms(const struct capture *capture, struct findings *findings) {
-    struct bytes words, frames;
+    const uint64_t C = capture->run.sizes.C, A = capture->run.fields.A;
     *findings = (struct findings){0};
-    const bool first = make_room(capture->run.sizes.C * sizeof *findings->words, &words);
-    findings->words = (void *)words.at;
-    const bool second =
-        first && make_room(capture->run.fields.A * sizeof *findings->frames, &frames);
-    findings->frames = second ? (void *)frames.at : NULL;
-    if (!second || !make_room(capture->run.sizes.C * MAHYREI_BLOCK_BYTES_MAX, &findings->blocks)) {
+    findings->words = calloc(C, sizeof *findings->words);
+    findings->blocks = calloc(C, MAHYREI_BLOCK_BYTES_MAX);
+    findings->frames = calloc(A, sizeof *findings->frames);
+    if (findings->words == NULL || findings->blocks == NULL || findings->frames == NULL) {
+        complain("memory", ENOMEM);
         return false;
     }
-    memset(findings->blocks.at, 0, findings->blocks.len);
     return true;
 }
 
@@ -150,7 +150,7 @@ bool find_all(const struct capture *capture, const uint8_t *marker, struct findi
 void free_findings(struct findings *findings) {
     free(findings->words);
     free(findings->frames);
-    free(findings->blocks.at);
+    free(findings->blocks);
     *findings = (struct findings){0};
 }
 

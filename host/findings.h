@@ -31,10 +31,10 @@ enum frame_state { FRAME_RIGHT, FRAME_WRONG, FRAME_UNKNOWN };
 
 struct findings {
     struct found symbols[FAULTS];
-    struct found spare;  /* set bits behind the last slot, by their number in the capture */
-    struct found fill;   /* set bits behind the last frame, by their number in the stream */
-    uint64_t *words;     /* by word: what word_read answers, or NOT_ASKED */
-    struct bytes blocks; /* of the words that were accepted, each in room for the largest */
+    struct found spare; /* set bits behind the last slot, by their number in the capture */
+    struct found fill;  /* set bits behind the last frame, by their number in the stream */
+    uint64_t *words;    /* by word: what word_read answers, or NOT_ASKED */
+    uint8_t *blocks;    /* of the words that were accepted, each in room for the largest */
     enum frame_state *frames;
 };
 

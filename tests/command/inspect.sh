@@ -107,6 +107,22 @@ test_inspect_lengths() {
     same 'status of a report that cannot be printed' 2 $?
 }
 
+# What is at odds with the answer of run_read is not shown.
+once_inspect_at_odds() {
+    begin
+    mahyrei=$root/target/host/mahyrei_lying
+    run 0 inspect "$header" "$marker" slots
+    for damage in 'lose 7000' 'move 3787' 'move 6' 'turn 1 7000' 'code 0 0 1 3 4 5'; do
+        # shellcheck disable=SC2086
+        damages $damage
+        run 2 inspect "$header" "$marker" damaged --svg picture.svg
+        same "a report after $damage" '' "$(out)"
+        has 'what is said then' 'what was found does not go with the answer of run_read' "$err"
+        same 'a picture then' no "$([ -e picture.svg ] || echo no)"
+    done
+    mahyrei=$top/bin/mahyrei
+}
+
 # drawn COLOUR CELLS: the picture has so many cells of this colour
 drawn() {
     same "cells of colour $1" "$2" \
