@@ -6,8 +6,8 @@
  * and they are not proved. Nothing rests on them: run_write and run_read put every question to the
  * header themselves, so a size that came out wrong here would be refused there, with 8.
  *
- * They keep no state, allocate nothing and need a few hundred bytes of stack. They are in
- * libmahyrei with the calls.
+ * They keep no state, allocate nothing, and need memset, strcmp and a few hundred bytes of stack.
+ * They are in libmahyrei with the calls.
  */
 #ifndef MAHYREI_PLAIN_H
 #define MAHYREI_PLAIN_H

@@ -88,37 +88,48 @@ unsigned mahyrei_fields_check(const struct mahyrei_fields *fields, const char **
 
 /* ---- headers */
 
+/* So many bits from a place on, most significant first. The header may be longer than any number.
+ */
+static uint64_t bits_at(const uint8_t *header, unsigned at, unsigned count) {
+    uint64_t value = 0;
+    for (unsigned i = at; i < at + count; i++) {
+        value = value << 1 | (header[i / 8] >> (7 - i % 8) & 1U);
+    }
+    return value;
+}
+
+static void put_bits(uint8_t *header, unsigned at, unsigned count, uint64_t value) {
+    for (unsigned i = at + count; i-- > at; value >>= 1) {
+        header[i / 8] = (uint8_t)(header[i / 8] | (value & 1) << (7 - i % 8));
+    }
+}
+
 unsigned mahyrei_header_fields(const uint8_t *header, size_t header_len,
                                struct mahyrei_fields *fields) {
-    uint64_t bits = 0;
+    unsigned at = 0;
     *fields = (struct mahyrei_fields){0};
     if (header_len != MAHYREI_HEADER_BYTES) {
         return MAHYREI_BAD_HEADER;
     }
-    for (size_t i = 0; i < MAHYREI_HEADER_BYTES; i++) {
-        bits = bits << 8 | header[i];
-    }
     for (size_t i = 0; i < FIELD_COUNT; i++) {
-        *field_of(fields, &FIELDS[i]) = bits >> (HEADER_BITS - FIELDS[i].bits);
-        bits <<= FIELDS[i].bits;
+        *field_of(fields, &FIELDS[i]) = bits_at(header, at, FIELDS[i].bits);
+        at += FIELDS[i].bits;
     }
-    return bits != 0 ? MAHYREI_BAD_HEADER : mahyrei_fields_check(fields, NULL);
+    return bits_at(header, at, HEADER_BITS - at) != 0 ? MAHYREI_BAD_HEADER
+                                                      : mahyrei_fields_check(fields, NULL);
 }
 
 unsigned mahyrei_header_make(const struct mahyrei_fields *fields,
                              uint8_t header[MAHYREI_HEADER_BYTES], const char **wrong) {
     const unsigned number = mahyrei_fields_check(fields, wrong);
-    uint64_t bits = 0;
-    unsigned left = HEADER_BITS;
+    unsigned at = 0;
     if (number != MAHYREI_ACCEPTED) {
         return number;
     }
+    memset(header, 0, MAHYREI_HEADER_BYTES);
     for (size_t i = 0; i < FIELD_COUNT; i++) {
-        left -= FIELDS[i].bits;
-        bits |= value_of(fields, &FIELDS[i]) << left;
-    }
-    for (size_t i = MAHYREI_HEADER_BYTES; i-- > 0; bits >>= 8) {
-        header[i] = (uint8_t)(bits & 255);
+        put_bits(header, at, FIELDS[i].bits, value_of(fields, &FIELDS[i]));
+        at += FIELDS[i].bits;
     }
     return number;
 }
