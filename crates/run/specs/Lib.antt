@@ -1,4 +1,3 @@
 pub mod Run
 pub mod Steps
 pub mod Return
-pub mod Parts

@@ -27,7 +27,7 @@ use Rattle.capture.specs.Answer.{slotsSay}
 use Rattle.capture.specs.Needs.{Captured}
 use Rattle.run.specs.Run.{streamIn, framesOf, wordsSay, streamSays, bufferSays}
 use Rattle.run.specs.Return.{fit}
-use Rattle.run.specs.Parts.{part}
+use Rattle.bits.specs.Pieces.{piece}
 use Rattle.run_reader.specs.Needs.{Sound, blocksRoom}
 
 -- the blocks of any run fit their room
@@ -88,16 +88,16 @@ module _ (q : Parameters) (p : Plan) (ep : p ≡ planOf q) (slots : List ℕ) wh
 
     -- the blocks that were read
     module _ (v : Valid (q .fields)) (said : wordsSay (q .fields) (wordOut p slots) ≡ Done) (blocks : List ℕ)
-        (are : (j : ℕ) → j < blockCount (q .fields) → part (blockBytes (q .fields .rate)) blocks j ≡ blockIn (q .fields .rate) (wordOut p slots j)) where
-      agree : (x : ℕ) → x < blockCount (q .fields) * infoBits (q .fields .rate) → joined (q .fields .rate) (part (blockBytes (q .fields .rate)) blocks) x ≡ streamIn (q .fields) (wordOut (planOf q) slots) x
+        (are : (j : ℕ) → j < blockCount (q .fields) → piece (blockBytes (q .fields .rate)) blocks j ≡ blockIn (q .fields .rate) (wordOut p slots j)) where
+      agree : (x : ℕ) → x < blockCount (q .fields) * infoBits (q .fields .rate) → joined (q .fields .rate) (piece (blockBytes (q .fields .rate)) blocks) x ≡ streamIn (q .fields) (wordOut (planOf q) slots) x
       unfolding streamIn
       agree x l =
-          joined-same (q .fields .rate) (blockCount (q .fields)) (part (blockBytes (q .fields .rate)) blocks) (λ j. blockIn (q .fields .rate) (wordOut p slots j)) are x l
+          joined-same (q .fields .rate) (blockCount (q .fields)) (piece (blockBytes (q .fields .rate)) blocks) (λ j. blockIn (q .fields .rate) (wordOut p slots j)) are x l
           ∙ ap (λ (y : Plan). joined (q .fields .rate) (λ j. blockIn (q .fields .rate) (wordOut y slots j)) x) ep
 
       -- by 16 and 18, or accepted
       pub buffer-frames : (r : Answer)
-          → r ≡ framesSay (q .fields .size) (q .fields .frames) (blockCount (q .fields) * infoBits (q .fields .rate)) (joined (q .fields .rate) (part (blockBytes (q .fields .rate)) blocks))
+          → r ≡ framesSay (q .fields .size) (q .fields .frames) (blockCount (q .fields) * infoBits (q .fields .rate)) (joined (q .fields .rate) (piece (blockBytes (q .fields .rate)) blocks))
           → r ≡ bufferSays (q .fields) (planOf q) slots
       unfolding bufferSays streamSays
       buffer-frames r e =
@@ -105,6 +105,6 @@ module _ (q : Parameters) (p : Plan) (ep : p ≡ planOf q) (slots : List ℕ) wh
           e ∙ say-same (q .fields .size) (q .fields .frames) (blockCount (q .fields) * infoBits (q .fields .rate)) (v .size-least) (fit (q .fields) v) _ _ agree
           ∙ sym (rw (good-plan, words) refl)
 
-      pub frames-out : framesIn (q .fields .size) (q .fields .frames) (joined (q .fields .rate) (part (blockBytes (q .fields .rate)) blocks)) ≡ framesOf (q .fields) (wordOut (planOf q) slots)
+      pub frames-out : framesIn (q .fields .size) (q .fields .frames) (joined (q .fields .rate) (piece (blockBytes (q .fields .rate)) blocks)) ≡ framesOf (q .fields) (wordOut (planOf q) slots)
       unfolding framesOf
       frames-out = in-same (q .fields .size) (q .fields .frames) (blockCount (q .fields) * infoBits (q .fields .rate)) (v .size-least) (fit (q .fields) v) _ _ agree

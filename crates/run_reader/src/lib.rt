@@ -16,7 +16,7 @@ ghost use Rattle.plan.specs.Accepted.{Entered};
 ghost use Rattle.plan.specs.Plan.{planOf};
 ghost use Rattle.frames.specs.Frames.{joined, framesIn, framesSay};
 ghost use Rattle.capture.specs.Capture.{wordOut};
-ghost use Rattle.run.specs.Parts.{part};
+ghost use Rattle.bits.specs.Pieces.{piece};
 ghost use Rattle.run.specs.Run.{wordSays, wordsSay, framesOf, framesRead, bufferSays, readSays};
 ghost use Rattle.run_reader.specs.Needs.{ReadsWord, ReadsWords, Reads, Finishes};
 
@@ -42,7 +42,7 @@ fn read_word(
 fn read_words(f: Fields, p: Plan, slots: &[u8], word: &mut [u8], blocks: &mut [u8]) -> Answer
     requires { ⌜ ReadsWords f p (now slots) (now word) (now blocks) ⌝ }
     ensures { λ r. ⌜ r ≡ wordsSay f (wordOut p (now (slots .entry))) ⌝ }
-    ensures { λ r. ⌜ (r ≡ Done → (j : ℕ) → j < blockCount f → part (blockBytes (f .rate)) (now (blocks .exit)) j ≡ blockIn (f .rate) (wordOut p (now (slots .entry)) j)) ⌝ }
+    ensures { λ r. ⌜ (r ≡ Done → (j : ℕ) → j < blockCount f → piece (blockBytes (f .rate)) (now (blocks .exit)) j ≡ blockIn (f .rate) (wordOut p (now (slots .entry)) j)) ⌝ }
 {
     let n = quantities::block_count(f);
     let h = sizes::block_bytes(f.rate);
@@ -62,8 +62,8 @@ fn read_words(f: Fields, p: Plan, slots: &[u8], word: &mut [u8], blocks: &mut [u
 // Questions 16 and 18, and the frames. Nothing is written before they are answered yes.
 fn finish(f: Fields, blocks: &[u8], frames: &mut [u8]) -> Answer
     requires { ⌜ Finishes f (now blocks) (now frames) ⌝ }
-    ensures { λ r. ⌜ r ≡ framesSay (f .size) (f .frames) (blockCount f * infoBits (f .rate)) (joined (f .rate) (part (blockBytes (f .rate)) (now (blocks .entry)))) ⌝ }
-    ensures { λ r. ⌜ now (frames .exit) ≡ after r (framesIn (f .size) (f .frames) (joined (f .rate) (part (blockBytes (f .rate)) (now (blocks .entry))))) (now (frames .entry)) ⌝ }
+    ensures { λ r. ⌜ r ≡ framesSay (f .size) (f .frames) (blockCount f * infoBits (f .rate)) (joined (f .rate) (piece (blockBytes (f .rate)) (now (blocks .entry)))) ⌝ }
+    ensures { λ r. ⌜ now (frames .exit) ≡ after r (framesIn (f .size) (f .frames) (joined (f .rate) (piece (blockBytes (f .rate)) (now (blocks .entry))))) (now (frames .entry)) ⌝ }
 {
     let rate = f.rate;
     let size = f.size;

@@ -6,7 +6,6 @@ use native.Mathlib.Omega.{arith}
 use lib.ListN.{length}
 use Rattle.answers.specs.declared.Answer.{Answer}
 use Rattle.answers.specs.Answer.{after}
-use Rattle.sizes.specs.Sizes.{wordBytes}
 use Rattle.word.specs.Word.{Packed, wordOf}
 use Rattle.word.specs.Word.{writeSays as wordWrites}
 use Rattle.word.specs.Exports.{packed-written}
@@ -27,6 +26,7 @@ use Rattle.slots.specs.Laws.{slots-same}
 use Rattle.run.specs.Run.{streamOf, wordAt}
 use Rattle.run_writer.specs.Needs.{wordsRoom}
 use Rattle.bits.specs.Pieces.{piece}
+use Rattle.sizes.specs.Sizes.{wordBytes}
 
 -- a packed block is always written
 pub coded : (f : Fields) → Valid f → (frames : List ℕ) (j n : ℕ) (block old new : List ℕ) (r : Answer) → block ≡ blockAt (f .rate) (streamBit (f .size) (f .frames) frames) j → n ≡ wordBytes
@@ -51,7 +51,7 @@ frames-lent f v frames e =
 pub plan-lent : (q : Parameters) (p : Plan) (words slots : List ℕ) → p ≡ planOf q → Valid (q .fields) → Fine (planOf q) → length words ≡ wordsRoom → length slots ≡ slotBytes (planOf q) → Lent p words slots
 plan-lent q p words slots e v fine lw ls =
     let few : blockCount (q .fields) ≤ 211 = blocks-most (q .fields) v in
-    let enough : planOf q .words * 1890 ≤ length words = omega (arith, plan-words q) in
+    let enough : planOf q .words * wordBytes ≤ length words = omega (arith, plan-words q) in
     rw e (record { given = record { fine = fine; long = enough }; room = ls })
 
 -- the slots of words that stand back to back

@@ -6,6 +6,7 @@ use native.Mathlib.Omega.{arith}
 use native.Mathlib.Nat.{le-refl, mul-le-mul, mod-lt}
 use lib.ListN.{length}
 use lib.Pow.{pow-mono, pow-pos}
+use Rattle.sizes.specs.Sizes.{wordBits}
 use Rattle.channel.specs.Needs.{Placing}
 use Rattle.channel.specs.Places.{delay}
 use Rattle.channel.specs.Symbols as symbols
@@ -32,7 +33,7 @@ bounds p fine =
     let one : 1 ≤ p .order = rw (fine .order-is) (pow-pos (p .bits)) in
     let order : p .order ≤ 256 = let e = fine .order-is in let h : 2 ^ p .bits ≤ 2 ^ 8 = pow-mono (fine .bits-most) in omega arith in
     let group = fine .group-is in
-    let size : p .symbols * p .bits ≡ 15120 = fine .symbols-are in
+    let size : p .symbols * p .bits ≡ wordBits = fine .symbols-are in
     record {
       symbols-least = symbols.symbols-least (p .bits) (p .symbols) size;
       symbols-most = omega (arith, mul-le-mul (le-refl (p .symbols)) (fine .bits-least));

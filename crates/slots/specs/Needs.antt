@@ -3,13 +3,14 @@ use mathlib.Core.Path.{_≡_}
 use mathlib.Core.List.{List}
 use Prim.Native.Nat.{ℕ, _*_, _%_, _≤_, _<_}
 use lib.ListN.{length}
+use Rattle.sizes.specs.Sizes.{wordBytes}
 use Rattle.plan.specs.declared.Plan.{Plan}
 use Rattle.plan.specs.Plan.{Fine, slotBytes}
 use Rattle.slots.specs.Writing.{stride}
 
 pub record Given (p : Plan) (words : List ℕ) : Type 0 where
   pub fine : Fine p
-  pub long : p .words * 1890 ≤ length words
+  pub long : p .words * wordBytes ≤ length words
 
 pub record Lent (p : Plan) (words slots : List ℕ) : Type 0 where
   pub given : Given p words

@@ -6,7 +6,7 @@ use Rattle.header.specs.Quantities.{frameBytes}
 use Rattle.frames.specs.Frames.{joined, framesIn, framesSay}
 use Rattle.answers.specs.declared.Answer.{Answer}
 use Rattle.answers.specs.Answer.{after}
-use Rattle.run.specs.Parts.{part}
+use Rattle.bits.specs.Pieces.{piece}
 use Rattle.run_reader.proofs.Reading.{frames-judged}
 use Rattle.answers.proofs.Refused.{kept}
 use borrow.Author.Needs.{needs}
@@ -31,7 +31,7 @@ returns : tie.Need-returns
 returns c =
     let s = c .before .before .before .before .before .before in
     let f = s .args .f in
-    let st = joined (f .rate) (part (blockBytes (f .rate)) (s .args .blocks .now)) in
+    let st = joined (f .rate) (piece (blockBytes (f .rate)) (s .args .blocks .now)) in
     let j = c .before .before .judge in
     let b = c .before .before .before .block-count in (
       j .ensures ∙ ap (λ (n : ℕ). framesSay (f .size) (f .frames) (n * infoBits (f .rate)) st) (b .ensures),
@@ -51,7 +51,7 @@ returns-2 : tie.Need-returns-2
 returns-2 c =
     let s = c .before .before .before .before .before .before .before .before .before .before in
     let f = s .args .f in
-    let st = joined (f .rate) (part (blockBytes (f .rate)) (s .args .blocks .now)) in
+    let st = joined (f .rate) (piece (blockBytes (f .rate)) (s .args .blocks .now)) in
     let j = c .before .before .before .before .before .before .judge in
     let b = c .before .before .before .before .before .before .before .block-count in (
       j .ensures ∙ ap (λ (n : ℕ). framesSay (f .size) (f .frames) (n * infoBits (f .rate)) st) (b .ensures),

@@ -20,7 +20,8 @@ use Rattle.header.specs.Quantities.{blockCount}
 use Rattle.capture.specs.Capture.{wordOut}
 use Rattle.run.specs.Run.{wordSays, wordsSay}
 use Rattle.run_reader.specs.Needs.{blocksRoom}
-use Rattle.run.specs.Parts.{part, parts-more}
+use Rattle.bits.specs.Pieces.{piece, pieces-more}
+use Rattle.sizes.specs.Sizes.{wordBytes}
 use Rattle.run_reader.proofs.Reading.{blocks-fit}
 use Rattle.answers.specs.declared.Answer.the-variants.{Done}
 use Rattle.run_reader.proofs.read_words.Statement.{statement}
@@ -32,7 +33,7 @@ gives f word j = isDone (wordSays f word j)
 
 abbrev Inv-loop : tie.InvT-loop
 Inv-loop f p slots word₀ blocks₀ n h j₀ word blocks j =
-    (j ≤ n) × (length word ≡ 1890) × (length blocks ≡ blocksRoom) × ((i : ℕ) → i < j → part h blocks i ≡ blockIn (f .rate) (wordOut p slots i))
+    (j ≤ n) × (length word ≡ wordBytes) × (length blocks ≡ blocksRoom) × ((i : ℕ) → i < j → piece h blocks i ≡ blockIn (f .rate) (wordOut p slots i))
     × (upTo (gives f (wordOut p slots)) j n ≡ upTo (gives f (wordOut p slots)) 0 n)
 
 abbrev μ-loop : tie.MeasureT-loop
@@ -150,7 +151,7 @@ loop-again c =
       omega (arith, t),
       r .kept .1 .1 .1 .1 .0 ∙ l .inv .1,
       long ∙ l .inv .2,
-      parts-more h (l .j) k block (l .blocks) new (omega (arith, room)) size long (l .inv .3) here,
+      pieces-more h (l .j) k block (l .blocks) new (omega (arith, room)) size long (l .inv .3) here,
       first-on (gives (s .args .f) word) (n .result) (l .j) t (ap isDone (sym (r .ensures .0) ∙ done)) ∙ l .inv .4,
     )
 
@@ -168,7 +169,7 @@ returns-2 c =
     let n = c .before .before .before .block-count in
     let h = c .before .before .block-bytes in (
       order-yes (blockCount (s .args .f)) (n .result) (l .j) (wordSays (s .args .f) (wordOut (s .args .p) (s .args .slots .now))) (n .ensures) (c .loop-test .left) (l .inv .0) (l .inv .4),
-      λ d j b. ap (λ (k : ℕ). part k (l .blocks) j) (sym (h .ensures)) ∙ l .inv .3 j (omega (arith, n .ensures, c .loop-test .left)),
+      λ d j b. ap (λ (k : ℕ). piece k (l .blocks) j) (sym (h .ensures)) ∙ l .inv .3 j (omega (arith, n .ensures, c .loop-test .left)),
     )
 
 pub read-words-spec : {M : Type 1} → statement M

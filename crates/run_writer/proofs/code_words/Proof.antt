@@ -6,15 +6,14 @@ use Prim.Native.Nat.{ℕ, _+_, _-_, _*_, _≤_, _<_}
 use native.Mathlib.Omega.{arith}
 use lib.ListN.{length}
 use borrow.Rule.Slice.PartMut.{putMid, mid-len, same-len-mid}
-use Rattle.sizes.specs.Sizes.{wordBytes}
 use Rattle.header.specs.Quantities.{blockCount}
 use Rattle.header.specs.Bounds.{blocks-most}
 use Rattle.run.specs.Run.{wordAt}
 use Rattle.run_writer.specs.Needs.{wordsRoom}
-use Rattle.run.specs.Parts.{parts-more}
+use Rattle.bits.specs.Pieces.{piece, pieces-more}
+use Rattle.sizes.specs.Sizes.{wordBytes}
 use Rattle.run_writer.proofs.code_words.Statement.{statement}
 use Rattle.run_writer.proofs.code_words.Tie as tie
-use Rattle.bits.specs.Pieces.{piece}
 
 abbrev Inv-loop : tie.InvT-loop
 Inv-loop f frames space₀ words₀ n j₀ space words j =
@@ -87,7 +86,7 @@ loop-again c =
       omega (arith, t),
       w .kept .1 .1 .1 .0 ∙ l .inv .1,
       long ∙ l .inv .2,
-      parts-more wordBytes (l .j) k (wordAt (s .args .f) (s .args .frames .now)) (l .words) new (omega (arith, inside)) size long (l .inv .3) (w .ensures),
+      pieces-more wordBytes (l .j) k (wordAt (s .args .f) (s .args .frames .now)) (l .words) new (omega (arith, inside)) size long (l .inv .3) (w .ensures),
     )
 
 same-length : tie.Need-same-length Inv-loop μ-loop
