@@ -1,6 +1,6 @@
 pub mod Code
 pub mod Distance
 pub mod Near
-pub mod Ready
+pub mod Needs
 pub mod Turns
 pub mod Compare

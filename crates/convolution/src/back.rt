@@ -4,7 +4,7 @@ ghost use Prim.Native.Nat.{_+_, _-_, _*_};
 ghost use lib.ListN.{getD};
 ghost use Rattle.bits.specs.Table.{tab};
 ghost use Rattle.convolution.specs.Code.{decode};
-ghost use Rattle.convolution.specs.Ready.{Steps, Pairs};
+ghost use Rattle.convolution.specs.Needs.{Steps, Pairs};
 
 // Rates 1/3 and 1/2: a second output every `step` places.
 pub fn steps(step: usize, n: usize, coded: &[u8], input: &mut [u8])

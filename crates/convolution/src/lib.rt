@@ -12,7 +12,7 @@ ghost use Rattle.bits.specs.Table.{tab};
 ghost use Rattle.sizes.specs.Rate.{inputBits};
 ghost use Rattle.sizes.specs.Sizes.{wordBits};
 ghost use Rattle.convolution.specs.Code.{encode as encoded, decode as decoded};
-ghost use Rattle.convolution.specs.Ready.{Encodes, Decodes};
+ghost use Rattle.convolution.specs.Needs.{Encodes, Decodes};
 
 // Step 4: the coded bits of the input bits.
 pub fn encode(rate: u64, input: &[u8], coded: &mut [u8])

@@ -7,7 +7,7 @@ ghost use lib.ListN.{getD};
 ghost use Rattle.bits.specs.Table.{tab};
 ghost use Rattle.sizes.specs.Sizes.{wordBits};
 ghost use Rattle.convolution.specs.Code.{encode};
-ghost use Rattle.convolution.specs.Ready.{Threes, Twos};
+ghost use Rattle.convolution.specs.Needs.{Threes, Twos};
 ghost use Rattle.convolution.specs.Turns.{putTwo, putThree};
 
 const THREES: usize = 5040;
