@@ -23,7 +23,7 @@ fn residue_out(p: plan::Plan, b: &[u8], j: usize, c: usize, r: usize, out: &mut 
     let mut i = x % symbols;
     let mut s = x / symbols * (symbols + count) + (count + i);
     while at < symbols {
-        out[at] = pulses::symbol_there(p.order, p.group, b, s) as u8;
+        out[at] = pulses::numbers::seen(p.order, p.group, b, s) as u8;
         s += channel::symbols_on(i, rows, symbols, count);
         i = channel::place_on(i, rows, symbols);
         at += rows;

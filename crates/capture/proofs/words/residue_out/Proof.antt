@@ -6,7 +6,7 @@ use lib.ListN.{length}
 use borrow.Author.Needs.{needs}
 use Rattle.channel.specs.Channel as channel
 use Rattle.channel.specs.Places.{delay, place-rows, rows-mod}
-use Rattle.pulses.specs.Needs.{held}
+use Rattle.pulses.specs.Needs.{fewer}
 use Rattle.plan.specs.Plan.{unit, symbolCount}
 use Rattle.slots.specs.Bounds.{Bounds, bounds, delay-most, lies}
 use Rattle.capture.specs.Capture.{symbolIn}
@@ -114,14 +114,14 @@ loop-holds c =
       residue-none p (a .b .now) (a .j) (a .r) (a .out .now) (t - a .j * p .symbols) res (omega arith),
     )
 
-symbol-there-requires : tie.Need-symbol-there-requires Inv-loop μ-loop
-symbol-there-requires c κs =
+seen-requires : tie.Need-seen-requires Inv-loop μ-loop
+seen-requires c κs =
     let s = c .before .before .before .before .before .before in
     let p = s .args .p in
     let h = s .pre in
     let l = c .before .loop in
     let w : l .s < symbolCount p = rw (l .inv .3) (stands-in p (h .0 .fine) (s .args .j) (l .at) (h .1) (omega arith) .1) in
-    (held (p .order) (p .group) (symbolCount p) (s .args .b .now) (lies p (h .0 .fine) (s .args .b .now) (h .0 .long)) (l .s) w, h .0 .passed (l .s) w)
+    (fewer (p .order) (p .group) (symbolCount p) (s .args .b .now) (lies p (h .0 .fine) (s .args .b .now) (h .0 .long)) (l .s + 1) (omega arith), h .0 .passed (l .s) w)
 
 cast-out : tie.Need-cast-out Inv-loop μ-loop
 cast-out c =
@@ -132,7 +132,7 @@ cast-out c =
     let k = bounds p (h .0 .fine) in
     let w : l .s < symbolCount p = rw (l .inv .3) (stands-in p (h .0 .fine) (s .args .j) (l .at) (h .1) (omega arith) .1) in
     let v = h .0 .passed (l .s) w in
-    let e = c .symbol-there .ensures in
+    let e = c .seen .ensures in
     record { fits = omega arith }
 
 slice-write-out : tie.Need-slice-write-out Inv-loop μ-loop
@@ -178,8 +178,8 @@ loop-again c =
       ap (λ (u : ℕ). u % p .rows) on ∙ rows-mod (p .rows) t ∙ l .inv .1,
       c .place-on .ensures x (l .inv .2) ∙ ap (λ (u : ℕ). u % p .symbols) (sym far),
       ap (λ (u : ℕ). u + c .before .symbols-on .result) (l .inv .3) ∙ sym (c .before .symbols-on .ensures .1 x (l .inv .2)) ∙ ap (symbolOf p) (sym far),
-      residue-more p (a .b .now) (a .j) (a .r) (a .out .now) (l .at) (c .before .before .symbol-there .result) (l .out) (l .inv .1) (omega arith)
-          (c .before .before .symbol-there .ensures ∙ ap (symbolIn p (a .b .now)) (l .inv .3)) (l .inv .4),
+      residue-more p (a .b .now) (a .j) (a .r) (a .out .now) (l .at) (c .before .before .seen .result) (l .out) (l .inv .1) (omega arith)
+          (c .before .before .seen .ensures ∙ ap (symbolIn p (a .b .now)) (l .inv .3)) (l .inv .4),
     )
 
 same-length : tie.Need-same-length Inv-loop μ-loop
@@ -210,7 +210,7 @@ residue-out-spec =
     add-s-2
     add-s-3
     loop-holds
-    symbol-there-requires
+    seen-requires
     cast-out
     slice-write-out
     symbols-on-requires
