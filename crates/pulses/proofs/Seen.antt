@@ -5,7 +5,6 @@ use mathlib.Core.Logic.{⊎-elim}
 use Prim.Native.Nat.{ℕ, _+_, _-_, _*_, _/_, _%_, _^_, _≤_, _<_}
 use native.Mathlib.Omega.{arith}
 use native.Mathlib.Nat.{zero-div}
-use lib.Bits.{bitOr, or-zero-l, or-zero-r}
 use lib.Dec.{eqb}
 use borrow.Author.Tests.{lt-ltb, le-ltb, eq-eqb, ne-eqb, eqb-true}
 use Rattle.bits.specs.Choice.{bool, bool-true, eq-or-ne, lt-or-le}
@@ -71,33 +70,44 @@ front-start f a = record { low = λ l. (refl, refl); high = λ l. absurd (omega 
 pub front-room : (f : ℕ → ℕ) (a k any zeros : ℕ) → Front f a k any zeros → zeros ≤ k
 front-room f a k any zeros s = ⊎-elim (λ (l : a < k). let e = s .high l .1 in omega arith) (λ (l : k ≤ a). let e = s .low l .1 in omega arith) (lt-or-le a k)
 
-pub front-more : (f : ℕ → ℕ) (a k any zeros v z : ℕ) → 1 ≤ f a → ((k ≡ a → ⊥) → f k ≡ 0) → Front f a k any zeros → v ≡ f k → z ≡ bool (eqb (bitOr any v) 0)
-    → Front f a (k + 1) (bitOr any v) (zeros + z)
+pub front-more : (f : ℕ → ℕ) (a k any zeros v z : ℕ) → 1 ≤ f a → ((k ≡ a → ⊥) → f k ≡ 0) → Front f a k any zeros → v ≡ f k → z ≡ bool (eqb (any + v) 0)
+    → Front f a (k + 1) (any + v) (zeros + z)
 front-more f a k any zeros v z some others s here hz =
     record {
       low = λ l.
           let o = s .low (omega arith) in
           let zero : v ≡ 0 = here ∙ others (λ q. omega arith) in
-          let all : bitOr any v ≡ 0 = ap (bitOr any) zero ∙ or-zero-r any ∙ o .0 in
-          let z1 : z ≡ 1 = hz ∙ ap bool (eq-eqb (bitOr any v) 0 all) in
+          let none = o .0 in
+          let all : any + v ≡ 0 = omega arith in
+          let z1 : z ≡ 1 = hz ∙ ap bool (eq-eqb (any + v) 0 all) in
           let e = o .1 in
           (all, omega arith);
       high = λ l. ⊎-elim
           (λ (n : k ≡ a).
           let o = s .low (omega arith) in
-          let all : bitOr any v ≡ f a = ap (λ (u : ℕ). bitOr u v) (o .0) ∙ or-zero-l v ∙ here ∙ ap f n in
-          let z0 : z ≡ 0 = hz ∙ ap bool (ne-eqb (bitOr any v) 0 (λ w. omega (arith, all))) in
+          let none = o .0 in
+          let all : any + v ≡ f a = omega (arith, here ∙ ap f n) in
+          let z0 : z ≡ 0 = hz ∙ ap bool (ne-eqb (any + v) 0 (λ w. omega (arith, all))) in
           let e = o .1 in
           (all, omega arith))
           (λ (n : k ≡ a → ⊥).
           let o = s .high (let q : a < k = ⊎-elim (λ (y : a < k). y) (λ (y : k ≤ a). absurd (n (omega arith))) (lt-or-le a k) in q) in
           let zero : v ≡ 0 = here ∙ others n in
-          let all : bitOr any v ≡ f a = ap (bitOr any) zero ∙ or-zero-r any ∙ o .0 in
-          let z0 : z ≡ 0 = hz ∙ ap bool (ne-eqb (bitOr any v) 0 (λ w. omega (arith, all))) in
+          let one = o .0 in
+          let all : any + v ≡ f a = omega arith in
+          let z0 : z ≡ 0 = hz ∙ ap bool (ne-eqb (any + v) 0 (λ w. omega (arith, all))) in
           let e = o .1 in
           (all, omega arith))
           (eq-or-ne k a);
     }
+
+-- the sum stays below what each number stays below
+pub front-sum : (f : ℕ → ℕ) (a k any zeros v w : ℕ) → ((i : ℕ) → f i < w) → ((k ≡ a → ⊥) → f k ≡ 0) → Front f a k any zeros → v ≡ f k → any + v < w
+front-sum f a k any zeros v w small others s here =
+    ⊎-elim
+    (λ (l : a < k). let e = s .high l .0 in let z = others (λ q. omega arith) in let q = small a in omega arith)
+    (λ (l : k ≤ a). let e = s .low l .0 in let q = small k in omega arith)
+    (lt-or-le a k)
 
 module _ (order group : ℕ) (b : List ℕ) (s at : ℕ) (big : order ≤ group) (here : s * group ≡ 8 * at) (has : symbolIn order group b s < order) where
   far-bit : (i t : ℕ) → 64 * i + t < order → bitAt b (8 * (at + 8 * i) + t) ≡ bool (eqb (64 * i + t) (symbolIn order group b s))

@@ -127,7 +127,7 @@ fn seen_far(order: usize, group: usize, b: &[u8], s: usize) -> usize
     let mut zeros = 0usize;
     let mut k = 0usize;
     while k < n {
-        any = any | bits::packing::eight(b, at + 8 * k);
+        any += bits::packing::eight(b, at + 8 * k);
         zeros += none(any);
         k += 1;
     }

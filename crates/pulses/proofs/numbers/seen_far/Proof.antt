@@ -2,14 +2,15 @@
 use mathlib.Core.Path.{_≡_, sym, ap, _∙_}
 use native.Mathlib.Omega.{arith}
 use native.Mathlib.Nat.{mul-left-comm}
-use lib.Bits.{bitOr}
 use lib.Dec.{eqb}
 use borrow.Author.Needs.{needs}
 use Rattle.bits.specs.Choice.{bool-lt}
-use Prim.Native.Nat.{ℕ, _+_, _-_, _*_, _/_, _≤_, _<_}
+use Rattle.bits.specs.Pack.{val-lt, bit-lt}
+use Rattle.bits.specs.Window.{bitsFrom}
+use Prim.Native.Nat.{ℕ, _+_, _-_, _*_, _/_, _^_, _≤_, _<_}
 use Rattle.pulses.specs.Pulses.{symbolIn}
 use Rattle.pulses.proofs.Swept.{numberAt}
-use Rattle.pulses.proofs.Seen.{Front, front-start, front-room, front-more, far-none, far-some, far-seen}
+use Rattle.pulses.proofs.Seen.{Front, front-start, front-room, front-more, front-sum, far-none, far-some, far-seen}
 use Rattle.pulses.proofs.numbers.seen_far.Statement.{statement}
 use Rattle.pulses.proofs.numbers.seen_far.Tie as tie
 
@@ -45,6 +46,22 @@ add-eight c = let h = c .before .before .before .pre .0 in let e = at-byte (c .b
 eight-requires : tie.Need-eight-requires Inv-loop μ-loop
 eight-requires c κs = let h = c .before .before .before .pre .0 in let e = at-byte (c .before .before .before) in omega arith
 
+add-any : tie.Need-add-any Inv-loop μ-loop
+add-any c =
+    let s = c .before .before .before .before in
+    let a = s .args in
+    let h = s .pre .0 in
+    let l = c .before .before .loop in
+    let e = at-byte s in
+    let big = h .guard-least in
+    let whole = h .numbers in
+    let at : ℕ = a .s * a .group / 8 in
+    record {
+      fits = front-sum (numberAt (a .b .now) at) (symbolIn (a .order) (a .group) (a .b .now) (a .s) / 64) (l .k) (l .any) (l .zeros) (c .eight .result) (2 ^ 64)
+          (λ i. val-lt (bitsFrom (a .b .now) (8 * (at + 8 * i))) (λ t. bit-lt (a .b .now) (8 * (at + 8 * i) + t)) 64)
+          (λ n. far-none (a .order) (a .group) (a .b .now) (a .s) at (omega arith) (e .0) (s .pre .1) (l .k) (omega arith) n) (l .inv .1) (c .eight .ensures);
+    }
+
 none-requires : tie.Need-none-requires Inv-loop μ-loop
 none-requires c κs = search needs
 
@@ -52,7 +69,7 @@ add-zeros : tie.Need-add-zeros Inv-loop μ-loop
 add-zeros c =
     let l = c .before .before .before .loop in
     let e = c .none .ensures in
-    let t = bool-lt (eqb (bitOr (l .any) (c .before .eight .result)) 0) in
+    let t = bool-lt (eqb (l .any + c .before .eight .result) 0) in
     let m = front-room _ _ _ _ _ (l .inv .1) in
     let h = c .before .before .before .before .before .pre .0 in
     omega arith
@@ -120,6 +137,7 @@ seen-far-spec =
     mul-eight
     add-eight
     eight-requires
+    add-any
     none-requires
     add-zeros
     add-k
