@@ -6,11 +6,18 @@ SHELL := /bin/bash
 .DELETE_ON_ERROR:
 .PHONY: help test host-test demo bench lib program install uninstall clean FORCE
 
+# make has a CC and a CXX of its own where nobody gave one.
+ifeq ($(origin CC),default)
 CC = gcc
+endif
+ifeq ($(origin CXX),default)
 CXX = g++
+endif
 RUSTC = rustc
 WARNINGS = -Wall -Wextra -Wpedantic -Werror -Wconversion
-CFLAGS = -std=c11 -O2 $(WARNINGS) -Iinclude
+# A packager's CPPFLAGS, CFLAGS and LDFLAGS add to what the build needs.
+CFLAGS ?= -O2
+COMPILE = $(CC) -std=c11 $(WARNINGS) -Iinclude $(CPPFLAGS) $(CFLAGS)
 PLAIN = -O3 -march=native
 SANITIZED = -O1 -g -fsanitize=address,undefined -fno-sanitize-recover=all
 RUSTFLAGS = --edition 2021 -O -D warnings
@@ -23,8 +30,12 @@ VERSION = 0.1.0
 # Several archives are linked in the order given.
 LIBRARY = target/lib/libmahyrei.a
 LIBS = $(LIBRARY)
+# The shared library, from the same objects. Programs look for it by its ABI, which changes when one
+# that was linked with an older one could no longer run with it.
+ABI = 0
+SHARED = $(dir $(firstword $(LIBS)))libmahyrei.so.$(VERSION)
 HOST = target/host
-HEADER = include/mahyrei.h
+HEADER = include/mahyrei.h include/mahyrei_plain.h
 PROGRAM = $(HOST)/mahyrei
 
 # Where `make install` puts things. DESTDIR goes before each of them, for packages.
@@ -33,6 +44,8 @@ BINDIR ?= $(PREFIX)/bin
 LIBDIR ?= $(PREFIX)/lib
 INCLUDEDIR ?= $(PREFIX)/include
 MANDIR ?= $(PREFIX)/share/man
+PYTHONDIR ?= $(PREFIX)/share/mahyrei/python
+COMPLETIONDIR ?= $(PREFIX)/share/bash-completion/completions
 DESTDIR ?=
 
 # The tests run on a small stack, in KiB, as the library promises to.
@@ -51,12 +64,13 @@ help:
 	@echo 'make test       prove every crate (rt ci), then host-test; last line: N passed, 0 failed'
 	@echo 'make host-test  the tests outside the proofs alone; SEED=n, WORDS=n and RUNS=n choose what'
 	@echo '                is compared'
-	@echo 'make demo       write a run, see its first symbols, read it back, damage it'
+	@echo 'make demo       write a run, see its first symbols, read it back, damage it, look into it'
 	@echo 'make bench      times of the library beside plain C and plain Rust'
-	@echo 'make lib        the static library: $(LIBS)'
+	@echo 'make lib        the static library and the shared one: $(LIBS)'
+	@echo '                $(SHARED)'
 	@echo 'make program    the command: $(PROGRAM)'
-	@echo 'make install    library, header, pkg-config file, command and man page, under PREFIX=$(PREFIX)'
-	@echo '                and DESTDIR; make uninstall takes them away'
+	@echo 'make install    libraries, headers, pkg-config file, command, man pages and Python module,'
+	@echo '                under PREFIX=$(PREFIX) and DESTDIR; make uninstall takes them away'
 	@echo 'make clean      remove what was built outside the proofs'
 	@echo 'make soak       the four calls against the second implementation, on all cores for'
 	@echo '                SECONDS=n, with a fresh seed or SEED=n'
@@ -67,44 +81,57 @@ help:
 test:
 	@tests/run
 
-HOST_TESTS = $(addprefix $(HOST)/,word_calls run_calls second_test compare_words compare_runs) \
+PYTHON_TEST = if ! command -v python3 >/dev/null; then \
+    echo 'python: no python3 here; the module is not tried'; \
+    else MAHYREI_LIBRARY=$(abspath $(SHARED)) tests/python/module $(PROGRAM) $(HOST)/slots; fi
+HOST_TESTS = $(SHARED) $(addprefix $(HOST)/,mahyrei_lying word_calls run_calls plain_calls sha256_vectors \
+    second_test compare_words compare_runs) \
     $(COMMAND_TESTS)
 host-test: $(HOST_TESTS)
-	@echo '#include "mahyrei.h"' | $(CXX) -x c++ $(WARNINGS) -Iinclude -fsyntax-only -
+	@echo '#include "mahyrei_plain.h"' | $(CXX) -x c++ $(WARNINGS) -Iinclude -fsyntax-only -
 	@$(STACK) && ASAN_OPTIONS=detect_leaks=0 $(HOST)/word_calls
 	@$(STACK) && ASAN_OPTIONS=detect_leaks=0 $(HOST)/run_calls
+	@$(STACK) && ASAN_OPTIONS=detect_leaks=0 $(HOST)/plain_calls
+	@ASAN_OPTIONS=detect_leaks=0 $(HOST)/sha256_vectors
 	@$(STACK) && $(HOST)/second_test --quiet
 	@$(STACK) && SEED=$(SEED) WORDS=$(WORDS) $(HOST)/compare_words
 	@$(STACK) && SEED=$(SEED) RUNS=$(RUNS) $(HOST)/compare_runs
-	@$(STACK) && tests/command $(COMMAND_TESTS)
+	@$(STACK) && tests/command/run $(COMMAND_TESTS)
+	@$(PYTHON_TEST)
 	@echo 'tests outside the proofs: passed'
 
 demo: $(PROGRAM) $(HOST)/slots
 	@demo/run $^
+
+# README's picture of a damaged capture, which is the demo's.
+.PHONY: picture
+picture: $(PROGRAM) $(HOST)/slots
+	@demo/run $^ docs/capture.svg >/dev/null
 
 bench: $(HOST)/bench_words $(HOST)/bench_runs
 	@$(HOST)/bench_words
 	@echo
 	@$(HOST)/bench_runs
 
-lib: $(LIBS)
+lib: $(LIBS) $(SHARED)
 
 program: $(PROGRAM)
 
-INSTALLED = $(BINDIR)/mahyrei $(LIBDIR)/libmahyrei.a $(LIBDIR)/pkgconfig/mahyrei.pc \
-    $(INCLUDEDIR)/mahyrei.h $(MANDIR)/man1/mahyrei.1
-install: $(LIBS) $(PROGRAM)
-	install -d $(foreach file,$(INSTALLED),'$(DESTDIR)$(dir $(file))')
-	install -m 755 $(PROGRAM) '$(DESTDIR)$(BINDIR)/mahyrei'
-	install -m 644 $(LIBS) '$(DESTDIR)$(LIBDIR)/libmahyrei.a'
-	install -m 644 $(HEADER) '$(DESTDIR)$(INCLUDEDIR)/mahyrei.h'
-	install -m 644 host/mahyrei.1 '$(DESTDIR)$(MANDIR)/man1/mahyrei.1'
-	sed -e 's|@PREFIX@|$(PREFIX)|' -e 's|@LIBDIR@|$(LIBDIR)|' -e 's|@INCLUDEDIR@|$(INCLUDEDIR)|' \
-	    -e 's|@VERSION@|$(VERSION)|' host/mahyrei.pc.in >'$(DESTDIR)$(LIBDIR)/pkgconfig/mahyrei.pc'
-	chmod 644 '$(DESTDIR)$(LIBDIR)/pkgconfig/mahyrei.pc'
+# A shell does it, which can take blanks in the names of folders.
+install uninstall: export DESTDIR := $(DESTDIR)
+install uninstall: export PREFIX := $(PREFIX)
+install uninstall: export BINDIR := $(BINDIR)
+install uninstall: export LIBDIR := $(LIBDIR)
+install uninstall: export INCLUDEDIR := $(INCLUDEDIR)
+install uninstall: export MANDIR := $(MANDIR)
+install uninstall: export PYTHONDIR := $(PYTHONDIR)
+install uninstall: export COMPLETIONDIR := $(COMPLETIONDIR)
+BUILT = VERSION='$(VERSION)' ABI='$(ABI)' PROGRAM='$(PROGRAM)' ARCHIVE='$(LIBS)' SHARED='$(SHARED)'
+install: $(LIBS) $(SHARED) $(PROGRAM)
+	@$(BUILT) host/install put
 
 uninstall:
-	rm -f $(foreach file,$(INSTALLED),'$(DESTDIR)$(file)')
+	@$(BUILT) host/install take
 
 clean:
 	rm -rf $(HOST) target/lib
@@ -117,10 +144,25 @@ target/staticlib/lib%.a: $(PROVED)
 target/bin/runsheet: $(PROVED)
 	rt check runsheet
 
-# The crate `calls` has every call that C sees.
-$(LIBRARY): target/staticlib/libcalls.a
+# Plain C for C programs (mahyrei_plain.h), which is in every archive beside the calls.
+PARTS = $(patsubst plain/%.c,target/lib/plain/%.o,$(wildcard plain/*.c))
+target/lib/plain/%.o: plain/%.c $(HEADER)
+	@mkdir -p $(@D)
+	@$(COMPILE) -fPIC -c $< -o $@
+
+# The crate `calls` has every call that C sees. The library is its archive, and the plain C beside it.
+$(LIBRARY): target/staticlib/libcalls.a $(PARTS)
 	@mkdir -p $(@D)
 	@cp $< $@
+	@ar rs $@ $(PARTS)
+
+# The objects of the archives are position independent: -z text is an error where they are not.
+$(SHARED): $(LIBS) $(HOST)/archives plain/libmahyrei.map
+	@$(CC) $(CFLAGS) -shared -Wl,-soname,libmahyrei.so.$(ABI) \
+	    -Wl,--version-script,plain/libmahyrei.map -Wl,-z,text,-z,defs,-z,relro,-z,now \
+	    -Wl,--whole-archive $(LIBS) -Wl,--no-whole-archive $(LDFLAGS) -o $@
+	@ln -sf $(@F) $(@D)/libmahyrei.so.$(ABI)
+	@ln -sf libmahyrei.so.$(ABI) $(@D)/libmahyrei.so
 
 # Names the archives in use: a program linked with others is linked again.
 LINKED = $(LIBS) $(HOST)/archives
@@ -132,31 +174,40 @@ $(HOST)/archives: FORCE
 # The four calls in plain C.
 STANDIN = $(HOST)/standin
 PLAIN_SOURCES = bench/plain_word.c bench/plain_word.h tests/c/plain_run.c
-$(STANDIN)/libmahyrei.a: $(PLAIN_SOURCES) $(HEADER)
+$(STANDIN)/libmahyrei.a: $(PLAIN_SOURCES) $(HEADER) $(PARTS)
 	@mkdir -p $(@D)
-	@$(CC) $(CFLAGS) $(PLAIN) -c bench/plain_word.c -o $(STANDIN)/plain_word.o
-	@$(CC) $(CFLAGS) $(PLAIN) -Dplain_word_write=word_write -Dplain_word_read=word_read \
+	@$(COMPILE) $(PLAIN) -fPIC -c bench/plain_word.c -o $(STANDIN)/plain_word.o
+	@$(COMPILE) $(PLAIN) -fPIC -Dplain_word_write=word_write -Dplain_word_read=word_read \
 	    -c bench/plain_word.c -o $(STANDIN)/word.o
-	@$(CC) $(CFLAGS) $(PLAIN) -Ibench -c tests/c/plain_run.c -o $(STANDIN)/run.o
+	@$(COMPILE) $(PLAIN) -fPIC -Ibench -c tests/c/plain_run.c -o $(STANDIN)/run.o
 	@rm -f $@
-	@ar rcs $@ $(addprefix $(STANDIN)/,plain_word.o word.o run.o)
+	@ar rcs $@ $(addprefix $(STANDIN)/,plain_word.o word.o run.o) $(PARTS)
 
 HOST_SOURCES = $(wildcard host/*.c)
-HOST_FLAGS = -D_XOPEN_SOURCE=700 -DMAHYREI_VERSION='"$(VERSION)"'
+HOST_FLAGS = -D_XOPEN_SOURCE=700 -DMAHYREI_VERSION='"$(VERSION)"' -pthread
 $(PROGRAM): $(HOST_SOURCES) $(wildcard host/*.h) $(HEADER) $(LINKED)
-	@$(CC) $(CFLAGS) $(HOST_FLAGS) $(HOST_SOURCES) $(LIBS) -o $@
+	@$(COMPILE) $(HOST_FLAGS) $(HOST_SOURCES) $(LIBS) $(LDFLAGS) -o $@
 
 $(HOST)/mahyrei_sanitized: $(HOST_SOURCES) $(wildcard host/*.h) $(HEADER) $(LINKED)
-	@$(CC) $(CFLAGS) $(SANITIZED) $(HOST_FLAGS) $(HOST_SOURCES) $(LIBS) -o $@
+	@$(COMPILE) $(SANITIZED) $(HOST_FLAGS) $(HOST_SOURCES) $(LIBS) $(LDFLAGS) -o $@
+
+# The command with a library whose answers are wrong.
+$(HOST)/mahyrei_lying: tests/c/lying.c $(HOST_SOURCES) $(wildcard host/*.h) $(HEADER) $(LINKED)
+	@$(COMPILE) $(HOST_FLAGS) -Wl,--wrap,run_read $< $(HOST_SOURCES) $(LIBS) $(LDFLAGS) -o $@
 
 $(HOST)/faults.so: tests/c/faults.c
 	@mkdir -p $(@D)
-	@$(CC) $(CFLAGS) -shared -fPIC $< -o $@
+	@$(COMPILE) -shared -fPIC $< -o $@
 
 $(HOST)/%_calls: tests/c/%_calls.c $(HEADER) $(LINKED)
-	@$(CC) $(CFLAGS) $(SANITIZED) $< $(LIBS) -o $@
+	@$(COMPILE) $(SANITIZED) $< $(LIBS) -o $@
+
+$(HOST)/sha256_vectors: tests/c/sha256_vectors.c host/sha256.c host/sha256.h
+	@mkdir -p $(@D)
+	@$(COMPILE) $(SANITIZED) -Ihost $< host/sha256.c -o $@
 
 SECOND = $(addprefix tests/second/,lib.rs compare.rs library.rs run.rs word.rs run_cases.rs \
+    $(addprefix run_cases/,calls.rs damages.rs edges.rs headers.rs kinds.rs refusals.rs sample.rs) \
     word_cases.rs)
 $(HOST)/second_test: $(SECOND)
 	@mkdir -p $(@D)
@@ -172,14 +223,14 @@ $(HOST)/compare_%: tests/second/compare_%.rs $(HOST)/libsecond.rlib $(LINKED)
 # The demo's tool stands on the command's parts.
 HOST_PARTS = $(filter-out host/main.c,$(HOST_SOURCES))
 $(HOST)/slots: demo/slots.c $(HOST_PARTS) $(wildcard host/*.h) $(HEADER) $(LINKED)
-	@$(CC) $(CFLAGS) $(HOST_FLAGS) -Ihost $< $(HOST_PARTS) $(LIBS) -o $@
+	@$(COMPILE) $(HOST_FLAGS) -Ihost $< $(HOST_PARTS) $(LIBS) $(LDFLAGS) -o $@
 
 $(HOST)/plain_word.o: bench/plain_word.c bench/plain_word.h $(HEADER)
 	@mkdir -p $(@D)
-	@$(CC) $(CFLAGS) $(PLAIN) -c $< -o $@
+	@$(COMPILE) $(PLAIN) -c $< -o $@
 
 $(HOST)/bench_words: bench/bench_words.c $(HOST)/plain_word.o bench/plain_word.h $(HEADER) $(LINKED)
-	@$(CC) $(CFLAGS) $< $(HOST)/plain_word.o $(LIBS) -o $@
+	@$(COMPILE) $< $(HOST)/plain_word.o $(LIBS) -o $@
 
 $(HOST)/bench_runs: bench/bench_runs.rs $(HOST)/libsecond.rlib $(LINKED)
 	@$(RUSTC) $(RUSTFLAGS) $< $(LINK_RUST) -o $@
@@ -195,7 +246,7 @@ fuzz: $(HOST)/fuzz_drive
 	@tests/fuzz/run $(SECONDS) $< $(LIBS)
 
 # The crates of the product that have code.
-CRATES ?= bits answers sizes crc convolution interleaver accumulator randomizer word header plan frames \
+CRATES ?= bits answers sizes crc convolution interleaver accumulator randomizer word header plan stream frames \
     pulses channel slots capture run_writer run_reader calls sheet runsheet
 COUNT ?= 60
 .PHONY: mutants
@@ -216,9 +267,9 @@ $(HOST)/run_calls: tests/c/runs.h
 # The fuzz target with a driver in place of libFuzzer, beside the run calls in plain C.
 $(HOST)/plain_run.o: tests/c/plain_run.c bench/plain_word.h $(HEADER)
 	@mkdir -p $(@D)
-	@$(CC) $(CFLAGS) $(PLAIN) -Ibench -Drun_write=plain_run_write -Drun_read=plain_run_read \
+	@$(COMPILE) $(PLAIN) -Ibench -Drun_write=plain_run_write -Drun_read=plain_run_read \
 	    -c $< -o $@
 
 FUZZ_TARGET = tests/fuzz/drive.c tests/fuzz/calls.c $(HOST)/plain_word.o $(HOST)/plain_run.o
 $(HOST)/fuzz_drive: $(FUZZ_TARGET) tests/fuzz/calls.h tests/c/runs.h $(HEADER) $(LINKED)
-	@$(CC) $(CFLAGS) $(SANITIZED) -Ibench $(FUZZ_TARGET) $(LIBS) -o $@
+	@$(COMPILE) $(SANITIZED) -Ibench $(FUZZ_TARGET) $(LIBS) -o $@

@@ -9,6 +9,18 @@
 #include <stddef.h>
 #include <stdint.h>
 
+#include "descriptors.h"
+#include "mahyrei.h"
+
+/* How much of each operand is read: one byte more than any header implies. What is longer gets the
+ * same answer, and need not be held. */
+enum {
+    HEADER_LIMIT = MAHYREI_HEADER_BYTES + 1,
+    MARKER_LIMIT = MAHYREI_MARKER_MAX + 1,
+    FRAMES_LIMIT = MAHYREI_FRAMES_BYTES_MAX + 1,
+    SLOTS_LIMIT = MAHYREI_SLOTS_BYTES_MAX + 1
+};
+
 /* Bytes of the heap; NULL where there are none. */
 struct bytes {
     uint8_t *at;
@@ -22,20 +34,33 @@ bool is_dash(const char *name);
 bool make_room(size_t len, struct bytes *room);
 
 /* Reads a file, up to the limit: of a longer one the bytes behind the limit are left alone, so that
- * an endless input ends too. */
+ * an endless input ends too. A name that stands for an open file, such as /dev/stdin, is read from
+ * where it is, like `-`. */
 bool take_in(const char *name, size_t limit, struct bytes *to);
 
-/* The same for a file or hexadecimal text: `hex:` and digits, or nothing but digits. */
-bool take_in_text(const char *operand, size_t limit, struct bytes *to);
+/* Whether an operand is hexadecimal text: `hex:` and digits, or nothing but digits, with or without
+ * 0x, and blanks and colons between bytes. */
+bool is_text(const char *operand);
 
-/* Writes all of it to an open file; false and errno where that fails. */
-bool write_all(int file, const void *from, size_t len);
+/* The same for a file or hexadecimal text. Text without `hex:` that is also the name of a file is
+ * refused: nobody could say which was meant. */
+bool take_in_text(const char *operand, size_t limit, struct bytes *to);
 
 /*
  * Writes an output. A file gets the bytes all at once: they go to a temporary file in its folder,
- * which is renamed when it is whole and on the disk. A device, a pipe and standard output get the
- * bytes as they are written.
+ * which is renamed when it is whole and on the disk. A device, a pipe and an open file, standard
+ * output among them, get the bytes as they are written; those that are on a disk are brought there.
  */
 bool put_out(const char *name, const void *from, size_t len);
+
+/* The same, but a file of this name is left alone, and that is a failure. */
+bool put_new(const char *name, const void *from, size_t len);
+
+/* Before anything is done: whether bytes can be meant for this output. They are not meant for a
+ * terminal unless `forced`, nor for a file that is there where `only_new`. */
+bool output_ready(const char *name, bool forced, bool only_new);
+
+/* Prints text on standard output. */
+bool put_text(const char *text, size_t len);
 
 #endif

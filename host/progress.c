@@ -9,7 +9,7 @@
 
 /* The library call is one call that nothing comes back from until it ends, so a timer's signal
  * draws the line; its handler uses these, and write(2). */
-static volatile sig_atomic_t at_phase, halves, shown;
+static volatile sig_atomic_t at_phase, halves, shown, ended, all;
 
 static void say(const char *text, size_t len) {
     /* A line that does not come out harms nobody, and there is nowhere to say so. */
@@ -17,28 +17,54 @@ static void say(const char *text, size_t len) {
     (void)ignored;
 }
 
-static void tick(int signal_number) {
-    static const char *const TEXTS[] = {"reading the input", "in the library",
-                                        "writing the output"};
-    (void)signal_number;
-    const int kept = errno;
-    char line[64] = "\r\033[Kmahyrei: ", digits[12];
-    size_t len = strlen(line), count = 0;
-    const char *const text = TEXTS[at_phase];
-    memcpy(line + len, text, strlen(text));
-    len += strlen(text);
-    line[len++] = ',';
-    line[len++] = ' ';
-    halves = halves + 1;
-    for (int rest = (int)halves / 2; count == 0 || rest > 0; rest /= 10) {
+/* A line that grows in the handler. */
+struct text {
+    size_t len;
+    char at[128];
+};
+
+static void add(struct text *text, const char *more) {
+    const size_t len = strlen(more);
+    memcpy(text->at + text->len, more, len);
+    text->len += len;
+}
+
+static void add_number(struct text *text, int number) {
+    char digits[12];
+    size_t count = 0;
+    for (int rest = number; count == 0 || rest > 0; rest /= 10) {
         digits[count++] = (char)('0' + rest % 10);
     }
     while (count > 0) {
-        line[len++] = digits[--count];
+        text->at[text->len++] = digits[--count];
     }
-    memcpy(line + len, halves % 2 == 0 ? ".0 s" : ".5 s", 4);
+}
+
+static void add_phase(struct text *text) {
+    static const char *const TEXTS[] = {"reading the input", "in the library",
+                                        "writing the output"};
+    if (at_phase != COUNTING) {
+        add(text, TEXTS[at_phase]);
+        return;
+    }
+    add_number(text, ended);
+    add(text, " of ");
+    add_number(text, all);
+    add(text, " runs");
+}
+
+static void tick(int signal_number) {
+    (void)signal_number;
+    const int kept = errno;
+    struct text line = {0};
+    halves = halves + 1;
+    add(&line, "\r\033[Kmahyrei: ");
+    add_phase(&line);
+    add(&line, ", ");
+    add_number(&line, (int)halves / 2);
+    add(&line, halves % 2 == 0 ? ".0 s" : ".5 s");
     shown = 1;
-    say(line, len + 4);
+    say(line.at, line.len);
     errno = kept;
 }
 
@@ -62,6 +88,16 @@ void progress_start(void) {
 
 void progress_phase(enum phase phase) {
     at_phase = (sig_atomic_t)phase;
+}
+
+void progress_count(int runs_ended, int runs) {
+    ended = runs_ended;
+    all = runs;
+    at_phase = COUNTING;
+}
+
+void progress_forget(void) {
+    shown = 0;
 }
 
 void progress_wipe(void) {

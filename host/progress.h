@@ -5,10 +5,16 @@
 #ifndef PROGRESS_H
 #define PROGRESS_H
 
-enum phase { TAKING_IN, CODING, PUTTING_OUT };
+enum phase { TAKING_IN, CODING, PUTTING_OUT, COUNTING };
 
 void progress_start(void);
 void progress_phase(enum phase phase);
+
+/* Of a list of runs, so many have ended. */
+void progress_count(int runs_ended, int runs);
+
+/* In a process of one's own: the line is the parent's. */
+void progress_forget(void);
 
 /* Stops the ticking and wipes the line; more than once does no harm. */
 void progress_stop(void);

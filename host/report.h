@@ -5,10 +5,22 @@
 #include <stdbool.h>
 #include <stddef.h>
 #include <stdint.h>
+#include <stdio.h>
+
+/* Prints a name or whatever else comes from outside. All but printable ASCII is escaped, as \n, \\
+ * or \xE9, so that nothing in a name can pass for a line, move a cursor, or look like another name.
+ * Blanks are escaped where fields are told apart by them. */
+void print_escaped(FILE *to, const char *text, bool blanks);
 
 /* Says on standard error what failed and why. */
 void complain(const char *what, int error);
 void complain_text(const char *what, const char *why);
+
+/* The same, with what could not be done and where: `what: step where: error`. */
+void complain_at(const char *what, const char *step, const char *where, int error);
+
+/* Says a line of one's own, with what it is about before it unless that is NULL. */
+void remark(const char *about, const char *form, ...) __attribute__((format(printf, 2, 3)));
 
 /* Says on standard error the number, the place and the sentence of a refusal. */
 void say_refusal(uint64_t answer);
@@ -16,24 +28,51 @@ void say_refusal(uint64_t answer);
 /* A size that is not known, since nothing was read or written. */
 #define NO_SIZE SIZE_MAX
 
-enum { ENTRY_HEADER = 32 };
+enum { ENTRY_HEX = 72, ENTRY_DIGEST = 65 };
+
+/* Frames or slots of a run, as the log has them. */
+struct entry_part {
+    const char *name; /* NULL where the run has none */
+    size_t size;
+    char digest[ENTRY_DIGEST]; /* SHA-256 in hexadecimal digits */
+};
 
 /* One run, as the log has it. */
 struct entry {
     const char *what;
-    char header[ENTRY_HEADER]; /* in hexadecimal digits */
-    size_t marker, frames, slots;
+    char header[ENTRY_HEX], marker_digits[ENTRY_HEX];
+    size_t marker;
+    struct entry_part frames, slots;
     bool answered;
     uint64_t answer;
 };
 
 void entry_begin(struct entry *entry, const char *what);
 void entry_header(struct entry *entry, const uint8_t *header, size_t len);
+void entry_marker(struct entry *entry, const uint8_t *marker, size_t len);
+void entry_answer(struct entry *entry, uint64_t answer);
 
-/* The log's file: the one named, or standard error. -1 where it cannot be opened. */
-int log_open(const char *name);
+/* Bytes that are not the whole file get no digest. */
+void entry_part(struct entry_part *part, const uint8_t *at, size_t len, bool whole);
 
-/* Adds the line of a run in one write, and closes the log. */
-bool log_end(int log, const char *name, const struct entry *entry, int status);
+/* Where the log goes. */
+struct log {
+    int file;         /* -1 where there is none */
+    const char *name; /* NULL for standard error */
+    bool ours;        /* opened here, and so to be closed */
+    bool created;     /* there was no such file before */
+};
+
+/* The log's file: the one named, which can be an open file such as /dev/fd/3, or standard error.
+ * False where it cannot be opened. */
+bool log_open(struct log *log, const char *name);
+
+/* Closes it, and takes it away if it was not there before. */
+void log_drop(struct log *log);
+
+/* Adds the line of a run in one write, brings a log that was opened here to the disk, and closes
+ * it.
+ */
+bool log_end(struct log *log, const struct entry *entry, int status);
 
 #endif

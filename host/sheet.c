@@ -1,63 +1,121 @@
 #include "sheet.h"
 
 #include <inttypes.h>
-#include <stdio.h>
 
-#include "mahyrei.h"
+#include "json.h"
 
-/* Takes so many bits off the front. */
-static uint64_t take(uint64_t *bits, unsigned count) {
-    const uint64_t field = *bits >> (64 - count);
-    *bits <<= count;
-    return field;
+static const char *const RATES[] = {"1/3", "1/2", "2/3"};
+
+unsigned sheet_of(const struct bytes *header, struct sheet *sheet) {
+    mahyrei_header_fields(header->at, header->len, &sheet->fields);
+    return mahyrei_sizes(header->at, header->len, &sheet->sizes);
 }
 
-static void take_fields(const uint8_t *header, struct sheet *sheet) {
-    uint64_t bits = 0;
-    for (size_t i = 0; i < MAHYREI_HEADER_BYTES; i++) {
-        bits = bits << 8 | header[i];
+void print_sheet(FILE *to, const struct sheet *sheet, unsigned number) {
+    const struct mahyrei_fields *const fields = &sheet->fields;
+    const struct mahyrei_sizes *const sizes = &sheet->sizes;
+    if (number != MAHYREI_ACCEPTED) {
+        fprintf(to, "no %u\n", number);
+        return;
     }
-    sheet->rate = take(&bits, 2);
-    sheet->m = take(&bits, 4);
-    sheet->N = take(&bits, 8);
-    sheet->B = take(&bits, 9);
-    sheet->F = take(&bits, 12);
-    sheet->W = take(&bits, 6);
-    sheet->A = take(&bits, 7);
+    fprintf(to,
+            "%s %" PRIu64 " %" PRIu64 " %" PRIu64 " %" PRIu64 " %" PRIu64 " %" PRIu64 " %" PRIu64
+            " %" PRIu64 " %" PRIu64 "\n",
+            RATES[fields->rate], sizes->M, fields->N, fields->B, fields->F, fields->W, fields->A,
+            sizes->C, sizes->symbols, sizes->slots);
 }
 
-/* The quantities as mahyrei.h has them. */
-static void work_out(struct sheet *sheet) {
-    const uint64_t k = word_block_bytes(sheet->rate) * 8 - 2, S = MAHYREI_WORD_BITS / sheet->m;
-    sheet->M = UINT64_C(1) << sheet->m;
-    sheet->C = (sheet->A * (8 * sheet->F + 64) + k - 1) / k;
-    sheet->symbols = (sheet->C + sheet->N * (sheet->N - 1) * sheet->B / S) * (S + sheet->W);
-    sheet->slots = sheet->symbols * (sheet->M + sheet->M / 4);
-    sheet->frame_bytes = (size_t)(sheet->A * sheet->F);
-    sheet->slot_bytes = (size_t)((sheet->slots + 7) / 8);
-}
+/* ---- by name */
 
-uint64_t sheet_of(const struct bytes *header, struct sheet *sheet) {
-    *sheet = (struct sheet){0};
-    /* With nothing else lent, a good header comes as far as 8: its marker has at least one symbol,
-     * and none is there. */
-    const uint64_t answer = run_write(header->at, header->len, NULL, 0, NULL, 0, NULL, 0);
-    if (answer_number(answer) != MAHYREI_BAD_LENGTH) {
-        return answer;
+/* One field or size: its name, its value, and what it is. */
+struct row {
+    const char *name;
+    uint64_t value;
+    const char *meaning;
+};
+
+enum { FIELD_ROWS = 6, ROWS = 17 };
+
+/* The fields but the rate, which is no number to read; then what follows from them. */
+static void fill_rows(const struct sheet *sheet, struct row rows[ROWS]) {
+    const struct mahyrei_fields *const fields = &sheet->fields;
+    const struct mahyrei_sizes *const sizes = &sheet->sizes;
+    const struct row all[ROWS] = {
+        {"m", fields->m, "bits of a symbol"},
+        {"N", fields->N, "rows of the channel interleaver"},
+        {"B", fields->B, "step by which its rows grow"},
+        {"F", fields->F, "bytes of a frame"},
+        {"W", fields->W, "symbols of the marker"},
+        {"A", fields->A, "frames"},
+        {"M", sizes->M, "pulse order"},
+        {"k", sizes->k, "information bits of a block"},
+        {"S", sizes->S, "symbols of a word"},
+        {"C", sizes->C, "blocks, and words"},
+        {"R", sizes->R, "rows of S symbols, each behind a marker"},
+        {"symbols", sizes->symbols, "of the run, markers counted"},
+        {"group", sizes->group, "slots of a symbol, guard slots counted"},
+        {"slots", sizes->slots, "of the run"},
+        {"marker_bytes", sizes->marker_bytes, "of MARKER"},
+        {"frame_bytes", sizes->frame_bytes, "of FRAMES"},
+        {"slot_bytes", sizes->slot_bytes, "of SLOTS"},
+    };
+    for (int i = 0; i < ROWS; i++) {
+        rows[i] = all[i];
     }
-    take_fields(header->at, sheet);
-    work_out(sheet);
-    return MAHYREI_ACCEPTED;
 }
 
-size_t sheet_line(const struct sheet *sheet, uint64_t answer, char line[SHEET_LINE]) {
-    static const char *const RATES[] = {"1/3", "1/2", "2/3"};
-    const int len = answer != MAHYREI_ACCEPTED
-                        ? snprintf(line, SHEET_LINE, "no %u\n", answer_number(answer))
-                        : snprintf(line, SHEET_LINE,
-                                   "%s %" PRIu64 " %" PRIu64 " %" PRIu64 " %" PRIu64 " %" PRIu64
-                                   " %" PRIu64 " %" PRIu64 " %" PRIu64 " %" PRIu64 "\n",
-                                   RATES[sheet->rate], sheet->M, sheet->N, sheet->B, sheet->F,
-                                   sheet->W, sheet->A, sheet->C, sheet->symbols, sheet->slots);
-    return (size_t)len;
+/* How many rows there are for a header: none, its fields, or all. */
+static int row_count(const struct bytes *header, unsigned number) {
+    return number == MAHYREI_ACCEPTED ? ROWS : header->len == MAHYREI_HEADER_BYTES ? FIELD_ROWS : 0;
+}
+
+static void print_digits(FILE *to, const struct bytes *header) {
+    for (size_t i = 0; i < header->len; i++) {
+        fprintf(to, "%02X", header->at[i]);
+    }
+}
+
+static const char *rate_text(const struct sheet *sheet) {
+    return sheet->fields.rate < 3 ? RATES[sheet->fields.rate] : "none";
+}
+
+void print_sheet_long(FILE *to, const struct bytes *header, const struct sheet *sheet,
+                      unsigned number) {
+    struct row rows[ROWS];
+    const int count = row_count(header, number);
+    fill_rows(sheet, rows);
+    fprintf(to, "%-14s", "header");
+    print_digits(to, header);
+    fputc('\n', to);
+    if (count > 0) {
+        fprintf(to, "%-14s%-12s %s\n", "rate", rate_text(sheet), "code rate");
+    }
+    for (int i = 0; i < count; i++) {
+        fprintf(to, "%-14s%-12" PRIu64 " %s\n", rows[i].name, rows[i].value, rows[i].meaning);
+    }
+    if (number != MAHYREI_ACCEPTED) {
+        fprintf(to, "%-14s%-12u %s\n", "no", number, mahyrei_sentence(number));
+    }
+}
+
+void print_sheet_json(FILE *to, const struct bytes *header, const struct sheet *sheet,
+                      unsigned number) {
+    struct row rows[ROWS];
+    const int count = row_count(header, number);
+    fill_rows(sheet, rows);
+    fputs("{\"header\":\"", to);
+    print_digits(to, header);
+    fprintf(to, "\",\"accepted\":%s,\"number\":%u", number == MAHYREI_ACCEPTED ? "true" : "false",
+            number);
+    if (number != MAHYREI_ACCEPTED) {
+        fputs(",\"sentence\":", to);
+        json_print(to, mahyrei_sentence(number));
+    }
+    if (count > 0) {
+        fprintf(to, ",\"rate\":\"%s\"", rate_text(sheet));
+    }
+    for (int i = 0; i < count; i++) {
+        fprintf(to, ",\"%s\":%" PRIu64, rows[i].name, rows[i].value);
+    }
+    fputs("}\n", to);
 }

@@ -1,30 +1,29 @@
-/*
- * What follows from a header: how much room a run takes, and the line that runsheet prints.
- *
- * Whether a header is good is the library's to say. What is worked out here is only how much room
- * to lend it: were a length wrong, the library would refuse the run with 8.
- */
+/* What follows from a header, and the line that runsheet prints. */
 #ifndef SHEET_H
 #define SHEET_H
 
 #include <stddef.h>
 #include <stdint.h>
+#include <stdio.h>
 
 #include "files.h"
+#include "mahyrei_plain.h"
 
-/* The fields by document 01's letters; all zero for a header that the library refuses. */
+/* The fields, where the header is long enough to have any; the sizes, where it is accepted. */
 struct sheet {
-    uint64_t rate, m, N, B, F, W, A;
-    uint64_t M, C, symbols, slots;
-    size_t frame_bytes, slot_bytes;
+    struct mahyrei_fields fields;
+    struct mahyrei_sizes sizes;
 };
 
-/* Fills in the sheet. The library's answer to the header alone: 0, or a number from 1 to 7. */
-uint64_t sheet_of(const struct bytes *header, struct sheet *sheet);
+/* Fills in the sheet by the plain functions: 0, or a number from 1 to 7. */
+unsigned sheet_of(const struct bytes *header, struct sheet *sheet);
 
-enum { SHEET_LINE = 256 };
-
-/* The sheet as one line, as runsheet prints it for this answer; its length. */
-size_t sheet_line(const struct sheet *sheet, uint64_t answer, char line[SHEET_LINE]);
+/* The sheet for this number: as the line that runsheet prints; a line for each field and size; as
+ * JSON. */
+void print_sheet(FILE *to, const struct sheet *sheet, unsigned number);
+void print_sheet_long(FILE *to, const struct bytes *header, const struct sheet *sheet,
+                      unsigned number);
+void print_sheet_json(FILE *to, const struct bytes *header, const struct sheet *sheet,
+                      unsigned number);
 
 #endif

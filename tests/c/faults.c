@@ -3,11 +3,16 @@
  *
  *   FAULT=NAME:COUNT:ERROR    the COUNT-th call of NAME fails with this error number
  *   FAULT=slow                reads and writes move little at a time, and signals interrupt them
+ *   FAULT=hold                fsync waits as long as there is a file `hold` in the folder
+ *   FAULT=nonblocking         the standard files do not block
  *
- * NAME is read, write, fsync, fchmod, close or rename.
+ * NAME is read, write, fsync, fchmod, close, rename, link or thread (pthread_create).
  */
-#define _DEFAULT_SOURCE /* syscall */
+#define _GNU_SOURCE /* syscall, RTLD_NEXT */
+#include <dlfcn.h>
 #include <errno.h>
+#include <fcntl.h>
+#include <pthread.h>
 #include <stdbool.h>
 #include <stdio.h>
 #include <stdlib.h>
@@ -32,9 +37,19 @@ static bool fails(const char *name) {
     return left > 0 && --left == 0;
 }
 
-static bool slow(void) {
+static bool is(const char *kind) {
     const char *const fault = getenv("FAULT");
-    return fault != NULL && strcmp(fault, "slow") == 0;
+    return fault != NULL && strcmp(fault, kind) == 0;
+}
+
+static bool slow(void) {
+    return is("slow");
+}
+
+__attribute__((constructor)) static void unblock(void) {
+    for (int file = 0; file < 3 && is("nonblocking"); file++) {
+        fcntl(file, F_SETFL, fcntl(file, F_GETFL) | O_NONBLOCK);
+    }
 }
 
 /* How much a slow call moves: nothing, since it was interrupted, or an odd piece. */
@@ -57,6 +72,9 @@ ssize_t write(int file, const void *from, size_t count) {
 }
 
 int fsync(int file) {
+    while (is("hold") && access("hold", F_OK) == 0) {
+        usleep(5000);
+    }
     return fails("fsync") ? -1 : (int)syscall(SYS_fsync, file);
 }
 
@@ -71,4 +89,17 @@ int close(int file) {
 
 int rename(const char *from, const char *to) {
     return fails("rename") ? -1 : (int)syscall(SYS_rename, from, to);
+}
+
+int link(const char *from, const char *to) {
+    return fails("link") ? -1 : (int)syscall(SYS_link, from, to);
+}
+
+typedef int create_thread(pthread_t *, const pthread_attr_t *, void *(*)(void *), void *);
+
+int pthread_create(pthread_t *thread, const pthread_attr_t *attributes, void *(*start)(void *),
+                   void *argument) {
+    create_thread *create;
+    *(void **)&create = dlsym(RTLD_NEXT, "pthread_create");
+    return fails("thread") ? errno : create(thread, attributes, start, argument);
 }

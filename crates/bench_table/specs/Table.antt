@@ -5,6 +5,8 @@ use mathlib.Core.List.{List, [], _∷_, map}
 use Prim.Native.Nat.{ℕ, _+_, _/_, _^_}
 use lib.ListN.{getD, length, replicate}
 use Rattle.bits.specs.Pack.{val, bitAt}
+use Rattle.bits.specs.Pieces.{piece}
+use Rattle.sizes.specs.Sizes.{wordBytes}
 use Rattle.sizes.specs.Rate.{inputsPer, codedPer}
 use Rattle.crc.specs.Check.{register, advance}
 use Rattle.convolution.specs.Code.{encode, stepOf, first, second, delay}
@@ -13,7 +15,6 @@ use Rattle.accumulator.specs.Accumulator.{accumulate}
 use Rattle.randomizer.specs.Randomizer.{sequence, window, next}
 use Rattle.plan.specs.declared.Plan.{Plan}
 use Rattle.channel.specs.Channel as channel
-use Rattle.channel.specs.Symbols.{wordIn}
 use Rattle.pulses.specs.Pulses as pulses
 use Rattle.slots.specs.Slots.{dataAt, slotBit}
 
@@ -67,9 +68,9 @@ table =
     -- step 6: the accumulator of 1101
     ∷ row (val (accumulate (these (1 ∷ 1 ∷ 0 ∷ 1 ∷ []))) 4) 0b1001
     -- step 8: the symbol that bits 1101 are at m = 4
-    ∷ row (dataAt (plan 4 0) (wordIn (packed 0b1101_0000)) 0) 13
+    ∷ row (dataAt (plan 4 0) (piece wordBytes (packed 0b1101_0000)) 0) 13
     -- step 10: the slots of symbol 2 at M = 4, its guard slot last; it is the marker symbol, so that they are the run's first
-    ∷ row (val (slotBit (plan 2 2) (wordIn (packed 0))) (plan 2 2 .group)) 0b0010_0
+    ∷ row (val (slotBit (plan 2 2) (piece wordBytes (packed 0))) (plan 2 2 .group)) 0b0010_0
     ∷ []
 
 pub rows : length table ≡ 14

@@ -3,6 +3,9 @@ pub mod Sum
 pub mod Table
 pub mod Pack
 pub mod Parts
+pub mod Pieces
+pub mod Stretch
+pub mod Places
 pub mod First
 pub mod Loops
 pub mod Weight
@@ -11,3 +14,4 @@ pub mod Put
 pub mod Leading
 pub mod Window
 pub mod Needs
+pub mod Change

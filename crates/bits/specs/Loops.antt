@@ -6,7 +6,7 @@ use Prim.Native.Nat.{ℕ, _+_, _-_, _*_, _/_, _%_, _^_, _≤_, _<_}
 use native.Mathlib.Omega.{arith}
 use native.Mathlib.Numerals.{add-one}
 use native.Mathlib.Nat.{mod-eq-of-lt}
-use lib.Bits.{bitOr, or-shifted}
+use lib.Bits.{bitAnd, bitOr, and-mask, or-shifted}
 use lib.Pow.{pow-mono}
 use lib.ListN.{length, getD, set, length-set}
 use lib.Seq.{getD-set-same, getD-set-other}
@@ -49,13 +49,14 @@ unpack-more packed before after i s h k l =
     (lt-or-le k (8 * i))
 
 -- one bit more of a number: `v << 1 | b` on 64 bits
-pub push : (f : ℕ → ℕ) (n : ℕ) → Bits f → n ≤ 62 → bitOr (val f n * 2 ^ 1 % 2 ^ 64) (f n) ≡ val f (n + 1)
+pub push : (f : ℕ → ℕ) (n : ℕ) → Bits f → n < 64 → bitOr (val f n * 2 ^ 1 % 2 ^ 64) (f n) ≡ val f (n + 1)
 unfolding val
 push f n b h =
-    let small : val f n < 2 ^ 62 = let a = val-lt f b n in let m : 2 ^ n ≤ 2 ^ 62 = pow-mono h in omega arith in
+    let l : n ≤ 63 = omega arith in
+    let small : val f n < 2 ^ 63 = let a = val-lt f b n in let m : 2 ^ n ≤ 2 ^ 63 = pow-mono l in omega arith in
     let e : val f n * 2 ^ 1 % 2 ^ 64 ≡ val f n * 2 ^ 1 = omega arith in
     ap (λ (v : ℕ). bitOr v (f n)) e ∙ or-shifted (val f n) 1 (f n) (b n) ∙ ap (val f) (sym (add-one n))
 
--- eight bits make a byte
-pub byte-mod : (f : ℕ → ℕ) → Bits f → val f 8 % 256 ≡ val f 8
-byte-mod f b = mod-eq-of-lt (val-lt f b 8)
+-- eight bits make a byte: `v & 255`
+pub byte-mask : (f : ℕ → ℕ) → Bits f → bitAnd (val f 8) 255 ≡ val f 8
+byte-mask f b = and-mask (val f 8) 8 ∙ mod-eq-of-lt (val-lt f b 8)

@@ -3,11 +3,11 @@ use mathlib.Core.Path.{_≡_, refl, sym, ap, ap₂, _∙_}
 use mathlib.Core.List.{List}
 use Prim.Native.Nat.{ℕ, zero, suc, _+_, _-_, _*_, _/_, _%_, _^_, _≤_, _<_}
 use native.Mathlib.Omega.{arith}
-use native.Mathlib.Nat.{pow-suc, add-mul, mul-assoc}
+use native.Mathlib.Nat.{pow-suc, add-mul, mul-assoc, zero-div}
 use lib.Bits.{bitAnd, bitOr, and-mask, or-shifted}
 use lib.Pow.{high, low, pow-add, shl-lt, shl-exact}
 use lib.ListN.{getD}
-use Rattle.bits.specs.Pack.{val, bitAt, Bits, Bytes, cut, val-lt, val-same, val-bits, bit-lt, cut-in, cut-past}
+use Rattle.bits.specs.Pack.{val, bitAt, Bits, Bytes, cut, val-lt, val-same, val-bits, bit-val, bit-lt, cut-in, cut-past}
 
 -- the first a bits, and the n after them
 pub val-split : (f : ℕ → ℕ) (a n : ℕ) → val f (a + n) ≡ val f a * 2 ^ n + val (λ t. f (a + t)) n
@@ -39,17 +39,21 @@ byte-val xs b i =
     ap₂ (λ (x y : ℕ). getD xs x 0 / 2 ^ y % 2) (omega arith) (omega arith))
     ∙ val-bits (getD xs i 0) 8 (b i)
 
--- one byte more: `(h << 8) | b`
+-- eight bits more: `(v << 8) | b`
+pub push-eight : (f : ℕ → ℕ) → Bits f → (i : ℕ) → i < 8 → bitOr (val f (8 * i) * 2 ^ 8 % 2 ^ 64) (val (λ t. f (8 * i + t)) 8) ≡ val f (8 * (i + 1))
+push-eight f b i l =
+    let e : 8 * (i + 1) ≡ 8 * i + 8 = omega arith in
+    join (val f (8 * i)) (val (λ t. f (8 * i + t)) 8) (8 * i) 8 (val-lt f b (8 * i)) (val-lt (λ t. f (8 * i + t)) (λ t. b (8 * i + t)) 8) (omega arith)
+    ∙ sym (ap (val f) e ∙ val-split f (8 * i) 8)
+
+-- a byte of packed bytes more
 pub push-byte : (xs : List ℕ) → Bytes xs → (at i : ℕ) → i < 8
     → bitOr (val (λ t. bitAt xs (8 * at + t)) (8 * i) * 2 ^ 8 % 2 ^ 64) (getD xs (at + i) 0) ≡ val (λ t. bitAt xs (8 * at + t)) (8 * (i + 1))
 push-byte xs b at i l =
     let f : ℕ → ℕ = λ t. bitAt xs (8 * at + t) in
-    let e : 8 * (i + 1) ≡ 8 * i + 8 = omega arith in
     let next : getD xs (at + i) 0 ≡ val (λ t. f (8 * i + t)) 8 =
     sym (byte-val xs b (at + i)) ∙ val-same (λ t. bitAt xs (8 * (at + i) + t)) (λ t. f (8 * i + t)) 8 (λ t k. ap (bitAt xs) (omega arith)) in
-    join (val f (8 * i)) (getD xs (at + i) 0) (8 * i) 8 (val-lt f (λ t. bit-lt xs (8 * at + t)) (8 * i)) (b (at + i)) (omega arith)
-    ∙ ap (λ (v : ℕ). val f (8 * i) * 2 ^ 8 + v) next
-    ∙ sym (ap (val f) e ∙ val-split f (8 * i) 8)
+    ap (bitOr (val f (8 * i) * 2 ^ 8 % 2 ^ 64)) next ∙ push-eight f (λ t. bit-lt xs (8 * at + t)) i l
 
 -- one byte more of a number whose bytes stand at their places: `v | (b << d)`
 pub join-byte : (xs : List ℕ) → Bytes xs → (at i d : ℕ) → 8 * i + (8 + d) ≤ 64
@@ -71,10 +75,15 @@ join-byte xs b at i d l =
 
 -- ---- zeros behind
 
-val-none : (f : ℕ → ℕ) (n : ℕ) → ((i : ℕ) → i < n → f i ≡ 0) → val f n ≡ 0
+pub val-none : (f : ℕ → ℕ) (n : ℕ) → ((i : ℕ) → i < n → f i ≡ 0) → val f n ≡ 0
 unfolding val
 val-none f zero h = refl
 val-none f (suc n) h = let a = val-none f n (λ i l. h i (omega arith)) in let b = h n (omega arith) in omega arith
+
+-- and back: the bits of 0 are zero
+pub none-val : (f : ℕ → ℕ) → Bits f → (n : ℕ) → val f n ≡ 0 → (i : ℕ) → i < n → f i ≡ 0
+none-val f b n e i l =
+    sym (bit-val f b (n - 1 - i) i n (omega arith)) ∙ ap (λ (v : ℕ). v / 2 ^ (n - 1 - i) % 2) e ∙ ap (λ (v : ℕ). v % 2) (zero-div (2 ^ (n - 1 - i)))
 
 -- a number with zeros behind it is shifted up
 pub val-cut : (f : ℕ → ℕ) (m n : ℕ) → m ≤ n → val (cut m f) n ≡ val f m * 2 ^ (n - m)

@@ -130,9 +130,9 @@ fn byte_of(bits: &[u8], i: usize) -> u8
 {
     let at = 8 * i;
     if at + 8 <= bits.len() {
-        return (number(bits, at, 8) % 256) as u8;
+        return (number(bits, at, 8) & 255) as u8;
     }
-    (last_byte(bits, at) % 256) as u8
+    (last_byte(bits, at) & 255) as u8
 }
 
 // Packs bits, with zeros behind them, into all of `out`.

@@ -10,11 +10,9 @@ use lib.ListN.{length, getD, take, drop}
 use lib.Seq.{getD-take, getD-drop}
 use Rattle.bits.specs.Choice.{lt-or-le, eq-or-ne}
 use Rattle.bits.specs.Pack.{val, bitAt, Bits, Bytes, val-lt, val-same, val-bits, bit-lt, bit-val, length-bytes, bytes-are, bit-bytes, bytes-made}
+use Rattle.bits.specs.Pieces.{piece}
+use Rattle.sizes.specs.Sizes.{wordBytes}
 use Rattle.channel.specs.Channel.{dataAt, wordBit, wordOf}
-
--- word j of words that lie back to back
-abbrev pub wordIn : List ℕ → ℕ → List ℕ
-wordIn words j = take 1890 (drop (j * 1890) words)
 
 pub data-below : (bits symbols : ℕ) (word : ℕ → List ℕ) (t : ℕ) → dataAt bits symbols word t < 2 ^ bits
 unfolding dataAt
@@ -34,7 +32,7 @@ data-same bits symbols words word other h t l =
     ap (λ (xs : List ℕ). val (λ i. bitAt xs (bits * (t % symbols) + i)) bits) (h (t / symbols) (div-lt-iff-lt-mul s .1 l)))
     (eq-or-ne symbols 0)
 
-word-bit : (words : List ℕ) (j y : ℕ) → y < 15120 → bitAt (wordIn words j) y ≡ bitAt words (j * 15120 + y)
+word-bit : (words : List ℕ) (j y : ℕ) → y < 15120 → bitAt (piece wordBytes words j) y ≡ bitAt words (j * 15120 + y)
 unfolding bitAt
 word-bit words j y h =
     let d : j * 1890 + y / 8 ≡ (j * 15120 + y) / 8 = omega arith in
@@ -79,10 +77,10 @@ module _ (bits symbols : ℕ) (size : symbols * bits ≡ 15120) where
       (omega arith, omega arith)
 
   -- the words lie back to back: symbol t is the m bits from m·t on
-  pub data-flat : (words : List ℕ) (t : ℕ) → dataAt bits symbols (wordIn words) t ≡ val (λ i. bitAt words (bits * t + i)) bits
+  pub data-flat : (words : List ℕ) (t : ℕ) → dataAt bits symbols (piece wordBytes words) t ≡ val (λ i. bitAt words (bits * t + i)) bits
   unfolding dataAt
   data-flat words t =
-      val-same (λ i. bitAt (wordIn words (t / symbols)) (bits * (t % symbols) + i)) (λ i. bitAt words (bits * t + i)) bits (λ i l.
+      val-same (λ i. bitAt (piece wordBytes words (t / symbols)) (bits * (t % symbols) + i)) (λ i. bitAt words (bits * t + i)) bits (λ i l.
       word-bit words (t / symbols) (bits * (t % symbols) + i) (data-place t i l .0) ∙ ap (bitAt words) (data-place t i l .1))
 
   -- it lies within them

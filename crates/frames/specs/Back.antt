@@ -1,74 +1,42 @@
--- Laws of the stream: the frames come back out of it with questions 16 and 18 passed, and a stream that passes them is that of its frames.
+-- There and back: the frames come back out of their stream with questions 16 and 18 answered yes, and a stream that passes them is that of its frames.
 use mathlib.Core.Path.{_≡_, refl, sym, ap, ap₂, _∙_}
-use mathlib.Core.Bool.{Bool, true, false}
+use mathlib.Core.Bool.{true}
 use mathlib.Core.List.{List}
 use mathlib.Core.Logic.{⊎-elim}
 use Prim.Native.Nat.{ℕ, _+_, _-_, _*_, _/_, _%_, _^_, _≤_, _<_}
 use native.Mathlib.Omega.{arith}
 use native.Mathlib.Nat.{mod-lt, div-add-mod', div-lt-iff-lt-mul, mul-left-comm}
 use lib.Arith.{digits-lt, digits-div, digits-mod}
-use lib.Dec.{eqb, ltb}
+use lib.Dec.{eqb}
 use lib.ListN.{length}
-use borrow.Author.Tests.{lt-ltb, le-ltb, eq-eqb, eqb-true}
-use Rattle.bits.specs.Choice.{pick, lt-or-le}
-use Rattle.bits.specs.First.{upTo, all-pass, none-fails, found-none, none-found}
-use Rattle.bits.specs.Pack.{Bits, Bytes, val, bitAt, bit-lt, val-same, val-bits, bit-val, bit-bytes, bytes-are, bytes-made, length-bytes}
-use Rattle.frames.specs.Stream.{frameMarker, markerBit, span, streamBit, marked, firstUnmarked, fillZero, framesIn}
-use Rattle.frames.specs.Answer.{framesSay, zeroAt}
-use Rattle.answers.specs.Answer.{ask, then-done, ask-done}
+use borrow.Author.Tests.{eq-eqb, eqb-true}
+use Rattle.answers.specs.Answer.{ask, ask-done, then-done, Fits, fits-ask, fits-then}
 use Rattle.answers.specs.declared.Answer.the-variants.{Done}
+use Rattle.bits.specs.Choice.{lt-or-le}
+use Rattle.bits.specs.First.{upTo, up-to-le, all-pass, none-fails, found-none, none-found}
+use Rattle.bits.specs.Pack.{Bits, Bytes, val, bitAt, val-same, bit-val, bit-bytes, bytes-are, bytes-made, length-bytes}
+use Rattle.sizes.specs.Sizes.{frameMarker, markerBits, span}
+use Rattle.stream.specs.Stream.{markerBit, streamBit}
+use Rattle.stream.specs.Laws.{marker-val, stream-mark, stream-frame, stream-fill}
+use Rattle.frames.specs.Frames.{marked, firstUnmarked, zeroAt, fillZero, framesSay, framePlace, framesIn}
 
-pick-bit : (b : Bool) (x y : ℕ) → x < 2 → y < 2 → pick b x y < 2
-pick-bit true x y hx hy = hx
-pick-bit false x y hx hy = hy
-
-marker-lt : (r : ℕ) → markerBit r < 2
-unfolding markerBit
-marker-lt r = omega arith
-
-pub stream-bits : (size count : ℕ) (frames : List ℕ) → Bits (streamBit size count frames)
-unfolding streamBit
-stream-bits size count frames x =
-    let place : ℕ = x / span size * (8 * size) + (x % span size - 64) in
-    pick-bit (ltb x (count * span size)) (pick (ltb (x % span size) 64) (markerBit (x % span size)) (bitAt frames place)) 0
-    (pick-bit (ltb (x % span size) 64) (markerBit (x % span size)) (bitAt frames place) (marker-lt (x % span size)) (bit-lt frames place))
-    (omega arith)
-
--- the marker before frame j, the frame itself, and the zeros behind the last
-pub stream-mark : (size count : ℕ) (frames : List ℕ) (j r : ℕ) → j < count → r < 64 → streamBit size count frames (j * span size + r) ≡ markerBit r
-unfolding streamBit
-stream-mark size count frames j r h l =
-    let w : r < span size = omega arith in
-    rw (lt-ltb (j * span size + r) (count * span size) (digits-lt h w), digits-mod j w, lt-ltb r 64 l) refl
-
-pub stream-frame : (size count : ℕ) (frames : List ℕ) (j r : ℕ) → j < count → r < 8 * size
-    → streamBit size count frames (j * span size + (64 + r)) ≡ bitAt frames (j * (8 * size) + r)
-unfolding streamBit
-stream-frame size count frames j r h l =
-    let w : 64 + r < span size = omega arith in
-    let e : 64 + r - 64 ≡ r = omega arith in
-    rw (lt-ltb (j * span size + (64 + r)) (count * span size) (digits-lt h w), digits-div j w, digits-mod j w, le-ltb (64 + r) 64 (omega arith), e) refl
-
-pub stream-fill : (size count : ℕ) (frames : List ℕ) (x : ℕ) → count * span size ≤ x → streamBit size count frames x ≡ 0
-unfolding streamBit
-stream-fill size count frames x h = rw (le-ltb x (count * span size) h) refl
-
--- the bits of the marker make it
-marker-val : val markerBit 64 ≡ frameMarker
-unfolding markerBit
-marker-val = val-bits frameMarker 64 (omega arith)
-
--- questions 16 and 18 are both answered yes on acceptance
-done-parts : (size count end : ℕ) (st : ℕ → ℕ) → framesSay size count end st ≡ Done → (firstUnmarked size count st ≡ count) × (fillZero size count end st ≡ true)
+-- questions 16 and 18 are both answered yes
+both : (size count end : ℕ) (st : ℕ → ℕ) → framesSay size count end st ≡ Done → (firstUnmarked size count st ≡ count) × (fillZero size count end st ≡ true)
 unfolding framesSay
-done-parts size count end st e =
-    let n : ℕ = firstUnmarked size count st in
-    let d = then-done (ask (eqb n count) 16 n) (ask (fillZero size count end st) 18 0) e in
-    (eqb-true n count (ask-done (eqb n count) 16 n (d .0)), ask-done (fillZero size count end st) 18 0 (d .1))
+both size count end st e =
+    let first : ℕ = firstUnmarked size count st in
+    let parts = then-done (ask (eqb first count) 16 first) (ask (fillZero size count end st) 18 0) e in
+    (eqb-true first count (ask-done (eqb first count) 16 first (parts .0)), ask-done (fillZero size count end st) 18 0 (parts .1))
 
--- the place in the stream of bit y of the frames
-abbrev pub framePlace : ℕ → ℕ → ℕ
-framePlace size y = y / (8 * size) * span size + (64 + y % (8 * size))
+-- the answer fits the number that C gets
+pub frames-fit : (size count end : ℕ) (stream : ℕ → ℕ) → count < 2 ^ 32 → Fits (framesSay size count end stream)
+unfolding framesSay firstUnmarked
+frames-fit size count end stream few =
+    let first : ℕ = firstUnmarked size count stream in
+    let x : first ≤ count = up-to-le _ count in
+    fits-then (ask (eqb first count) 16 first) (ask (fillZero size count end stream) 18 0)
+    (fits-ask (eqb first count) 16 first (omega arith) (omega arith))
+    (λ e. fits-ask (fillZero size count end stream) 18 0 (omega arith) (omega arith))
 
 pub frames-are : (size count : ℕ) (st : ℕ → ℕ) → Bits st → (length (framesIn size count st) ≡ count * size) × Bytes (framesIn size count st)
 unfolding framesIn
@@ -87,8 +55,8 @@ module _ (size count end : ℕ) (size1 : 1 ≤ size) (fit : count * span size �
     passes-16 : firstUnmarked size count st ≡ count
     unfolding firstUnmarked marked
     passes-16 = all-pass (marked size st) count (λ j h.
-        eq-eqb (val (λ r. st (j * span size + r)) 64) frameMarker
-        (val-same (λ r. st (j * span size + r)) markerBit 64 (λ r l.
+        eq-eqb (val (λ r. st (j * span size + r)) markerBits) frameMarker
+        (val-same (λ r. st (j * span size + r)) markerBit markerBits (λ r l.
         agree (j * span size + r) (inside j r h (omega arith)) ∙ stream-mark size count frames j r h l)
         ∙ marker-val))
 
@@ -107,28 +75,28 @@ module _ (size count end : ℕ) (size1 : 1 ≤ size) (fit : count * span size �
           let w0 : 0 < 8 * size = omega arith in
           let q : y / (8 * size) < count = div-lt-iff-lt-mul w0 .1 (omega (arith, mul-left-comm count 8 size)) in
           let r : y % (8 * size) < 8 * size = mod-lt y w0 in
-          sym (agree (framePlace size y) (inside (y / (8 * size)) (64 + y % (8 * size)) q (omega arith))
+          sym (agree (framePlace size y) (inside (y / (8 * size)) (markerBits + y % (8 * size)) q (omega arith))
           ∙ stream-frame size count frames (y / (8 * size)) (y % (8 * size)) q r
           ∙ ap (bitAt frames) (div-add-mod' y (8 * size))))),
     )
 
   module _ (st : ℕ → ℕ) (bits : Bits st) where
     -- bit r of frame j
-    frame-bit : (j r : ℕ) → j < count → r < 8 * size → bitAt (framesIn size count st) (j * (8 * size) + r) ≡ st (j * span size + (64 + r))
+    frame-bit : (j r : ℕ) → j < count → r < 8 * size → bitAt (framesIn size count st) (j * (8 * size) + r) ≡ st (j * span size + (markerBits + r))
     unfolding framesIn
     frame-bit j r h l =
         let f : ℕ → ℕ = λ y. st (framePlace size y) in
         let d = digits-lt h l in
         bit-bytes (count * size) f (λ y. bits (framePlace size y)) (j * (8 * size) + r) (omega (arith, mul-left-comm count 8 size))
-        ∙ ap₂ (λ (a b : ℕ). st (a * span size + (64 + b))) (digits-div j l) (digits-mod j l)
+        ∙ ap₂ (λ (a b : ℕ). st (a * span size + (markerBits + b))) (digits-div j l) (digits-mod j l)
 
     -- bit r of a marker that stands
-    mark-bit : (j r : ℕ) → marked size st j ≡ true → r < 64 → st (j * span size + r) ≡ markerBit r
+    mark-bit : (j r : ℕ) → marked size st j ≡ true → r < markerBits → st (j * span size + r) ≡ markerBit r
     unfolding marked markerBit
     mark-bit j r h l =
         let f : ℕ → ℕ = λ r. st (j * span size + r) in
-        sym (bit-val f (λ r. bits (j * span size + r)) (63 - r) r 64 (omega arith))
-        ∙ ap (λ (v : ℕ). v / 2 ^ (63 - r) % 2) (eqb-true (val f 64) frameMarker h)
+        sym (bit-val f (λ r. bits (j * span size + r)) (markerBits - 1 - r) r markerBits (omega arith))
+        ∙ ap (λ (v : ℕ). v / 2 ^ (markerBits - 1 - r) % 2) (eqb-true (val f markerBits) frameMarker h)
 
     zero-bit : fillZero size count end st ≡ true → (x : ℕ) → count * span size ≤ x → x < end → st x ≡ 0
     unfolding fillZero
@@ -139,7 +107,7 @@ module _ (size count end : ℕ) (size1 : 1 ≤ size) (fit : count * span size �
     pub stream-made : framesSay size count end st ≡ Done → (x : ℕ) → x < end → streamBit size count (framesIn size count st) x ≡ st x
     unfolding firstUnmarked
     stream-made good x h =
-        let parts = done-parts size count end st good in
+        let parts = both size count end st good in
         let fs : List ℕ = framesIn size count st in
         let j : ℕ = x / span size in
         let r : ℕ = x % span size in
@@ -150,14 +118,14 @@ module _ (size count end : ℕ) (size1 : 1 ≤ size) (fit : count * span size �
         let q : j < count = div-lt-iff-lt-mul (omega arith) .1 s in
         ap (streamBit size count fs) (sym e)
         ∙ ⊎-elim
-        (λ (m : r < 64). stream-mark size count fs j r q m ∙ sym (mark-bit j r (none-fails (marked size st) count (parts .0) j q) m))
-        (λ (m : 64 ≤ r).
-        let z : j * span size + (64 + (r - 64)) ≡ j * span size + r = omega arith in
+        (λ (m : r < markerBits). stream-mark size count fs j r q m ∙ sym (mark-bit j r (none-fails (marked size st) count (parts .0) j q) m))
+        (λ (m : markerBits ≤ r).
+        let z : j * span size + (markerBits + (r - markerBits)) ≡ j * span size + r = omega arith in
         ap (streamBit size count fs) (sym z)
-        ∙ stream-frame size count fs j (r - 64) q (omega arith)
-        ∙ frame-bit j (r - 64) q (omega arith)
+        ∙ stream-frame size count fs j (r - markerBits) q (omega arith)
+        ∙ frame-bit j (r - markerBits) q (omega arith)
         ∙ ap st z)
-        (lt-or-le r 64)
+        (lt-or-le r markerBits)
         ∙ ap st e)
         (λ (s : count * span size ≤ x). stream-fill size count fs x s ∙ sym (zero-bit (parts .1) x s h))
         (lt-or-le x (count * span size))

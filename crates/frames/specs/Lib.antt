@@ -1,7 +1,5 @@
-pub mod Stream
-pub mod Answer
+pub mod Frames
 pub mod Blocks
 pub mod Back
-pub mod Ranges
-pub mod Bytes
 pub mod Same
+pub mod Needs

@@ -24,10 +24,11 @@ use Rattle.plan.specs.declared.Plan.{Plan}
 use Rattle.plan.specs.Plan.{planIn, Fine, slotBytes}
 use Rattle.plan.specs.Lengths.{callSays}
 use Rattle.plan.specs.Accepted.{Ready, ready, plan-words, let-in, call-fits}
-use Rattle.frames.specs.Stream.{streamBit, blockAt, joined}
-use Rattle.frames.specs.Answer.{framesSay, frames-fit}
-use Rattle.frames.specs.Blocks.{block-packed, block-same, joined-bits, joined-same, joined-blocks, blocks-made}
-use Rattle.frames.specs.Back.{stream-bits, frames-are, frames-back, stream-made}
+use Rattle.stream.specs.Stream.{streamBit, blockAt}
+use Rattle.stream.specs.Laws.{stream-bits, block-packed, block-same}
+use Rattle.frames.specs.Frames.{joined, framesSay}
+use Rattle.frames.specs.Blocks.{joined-bits, joined-same, joined-blocks, blocks-made}
+use Rattle.frames.specs.Back.{frames-fit, frames-are, frames-back, stream-made}
 use Rattle.slots.specs.Slots.{slotsOf}
 use Rattle.slots.specs.Laws.{slots-same, length-slots}
 use Rattle.capture.specs.Capture.{wordOut}

@@ -15,8 +15,8 @@ use Rattle.header.specs.declared.Fields.{Fields}
 use Rattle.plan.specs.declared.Plan.{Plan}
 use Rattle.plan.specs.Plan.{planIn}
 use Rattle.plan.specs.Lengths.{callSays}
-use Rattle.frames.specs.Stream.{streamBit, blockAt, joined, framesIn}
-use Rattle.frames.specs.Answer.{framesSay}
+use Rattle.stream.specs.Stream.{streamBit, blockAt}
+use Rattle.frames.specs.Frames.{joined, framesIn, framesSay}
 use Rattle.slots.specs.Slots.{slotsOf}
 use Rattle.capture.specs.Capture.{wordOut}
 use Rattle.capture.specs.Answer.{slotsSay}

@@ -18,10 +18,9 @@ use Rattle.header.specs.declared.Parameters.{Parameters}
 use Rattle.plan.specs.declared.Plan.{Plan}
 use Rattle.plan.specs.Plan.{planOf, Fine, slotBytes}
 use Rattle.plan.specs.Accepted.{Entered, plan-words}
-use Rattle.frames.specs.Stream.{joined, framesIn}
-use Rattle.frames.specs.Answer.{framesSay}
+use Rattle.frames.specs.Frames.{joined, framesIn, framesSay}
 use Rattle.frames.specs.Blocks.{joined-same}
-use Rattle.frames.specs.Ranges.{Judged}
+use Rattle.frames.specs.Needs.{Judged}
 use Rattle.frames.specs.Same.{say-same, in-same}
 use Rattle.capture.specs.Capture.{wordOut}
 use Rattle.capture.specs.Answer.{slotsSay}

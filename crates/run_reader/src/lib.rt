@@ -14,8 +14,7 @@ ghost use Rattle.word.specs.Word.{blockIn};
 ghost use Rattle.header.specs.Quantities.{blockCount};
 ghost use Rattle.plan.specs.Accepted.{Entered};
 ghost use Rattle.plan.specs.Plan.{planOf};
-ghost use Rattle.frames.specs.Stream.{joined, framesIn};
-ghost use Rattle.frames.specs.Answer.{framesSay};
+ghost use Rattle.frames.specs.Frames.{joined, framesIn, framesSay};
 ghost use Rattle.capture.specs.Capture.{wordOut};
 ghost use Rattle.run.specs.Parts.{part};
 ghost use Rattle.run.specs.Run.{wordSays, wordsSay, framesOf, framesRead, bufferSays, readSays};
@@ -70,11 +69,11 @@ fn finish(f: Fields, blocks: &[u8], frames: &mut [u8]) -> Answer
     let size = f.size;
     let count = f.frames;
     let total = quantities::block_count(f);
-    let answer = frames::judge(rate, blocks, total, size, count);
+    let answer = frames::questions::judge(rate, blocks, total, size, count);
     let Answer::Done = answer else {
         return answer;
     };
-    frames::frames_out(rate, blocks, total, size, count, frames);
+    frames::back::frames_out(rate, blocks, total, size, count, frames);
     answer
 }
 

@@ -18,16 +18,15 @@ use Rattle.header.specs.declared.Parameters.{Parameters}
 use Rattle.plan.specs.declared.Plan.{Plan}
 use Rattle.plan.specs.Plan.{planOf, Fine, slotBytes}
 use Rattle.plan.specs.Accepted.{plan-words}
-use Rattle.frames.specs.Stream.{streamBit, blockAt}
-use Rattle.frames.specs.Blocks.{block-packed}
-use Rattle.frames.specs.Back.{stream-bits}
-use Rattle.frames.specs.Ranges.{Frames}
-use Rattle.channel.specs.Symbols.{wordIn}
+use Rattle.stream.specs.Stream.{streamBit, blockAt}
+use Rattle.stream.specs.Laws.{stream-bits, block-packed}
+use Rattle.stream.specs.Needs.{Frames}
 use Rattle.slots.specs.Slots.{slotsOf}
 use Rattle.slots.specs.Needs.{Lent}
 use Rattle.slots.specs.Laws.{slots-same}
 use Rattle.run.specs.Run.{streamOf, wordAt}
 use Rattle.run_writer.specs.Needs.{wordsRoom}
+use Rattle.bits.specs.Pieces.{piece}
 
 -- a packed block is always written
 pub coded : (f : Fields) → Valid f → (frames : List ℕ) (j n : ℕ) (block old new : List ℕ) (r : Answer) → block ≡ blockAt (f .rate) (streamBit (f .size) (f .frames) frames) j → n ≡ wordBytes
@@ -56,8 +55,8 @@ plan-lent q p words slots e v fine lw ls =
     rw e (record { given = record { fine = fine; long = enough }; room = ls })
 
 -- the slots of words that stand back to back
-pub slots-coded : (q : Parameters) (p : Plan) (words frames slots : List ℕ) → p ≡ planOf q → ((j : ℕ) → j < blockCount (q .fields) → wordIn words j ≡ wordAt (q .fields) frames j)
-    → slots ≡ slotsOf p (wordIn words) → slots ≡ slotsOf (planOf q) (wordAt (q .fields) frames)
+pub slots-coded : (q : Parameters) (p : Plan) (words frames slots : List ℕ) → p ≡ planOf q → ((j : ℕ) → j < blockCount (q .fields) → piece wordBytes words j ≡ wordAt (q .fields) frames j)
+    → slots ≡ slotsOf p (piece wordBytes words) → slots ≡ slotsOf (planOf q) (wordAt (q .fields) frames)
 slots-coded q p words frames slots e h s =
-    s ∙ ap (λ (x : Plan). slotsOf x (wordIn words)) e
-    ∙ slots-same (planOf q) (wordIn words) (wordAt (q .fields) frames) (λ j l. h j (omega (arith, plan-words q)))
+    s ∙ ap (λ (x : Plan). slotsOf x (piece wordBytes words)) e
+    ∙ slots-same (planOf q) (piece wordBytes words) (wordAt (q .fields) frames) (λ j l. h j (omega (arith, plan-words q)))

@@ -10,10 +10,11 @@ ghost use Rattle.answers.specs.Answer.{after};
 ghost use Rattle.header.specs.Quantities.{blockCount};
 ghost use Rattle.plan.specs.Accepted.{Entered};
 ghost use Rattle.plan.specs.Plan.{planOf};
-ghost use Rattle.channel.specs.Symbols.{wordIn};
 ghost use Rattle.slots.specs.Slots.{slotsOf};
 ghost use Rattle.run.specs.Run.{wordAt, runOf, writeSays};
 ghost use Rattle.run_writer.specs.Needs.{Codes, CodesAll, Writes};
+ghost use Rattle.bits.specs.Pieces.{piece};
+ghost use Rattle.sizes.specs.Sizes.{wordBytes};
 
 // Word j of the frames: its block, coded. `space` is for a packed block of any rate.
 fn code_word(f: Fields, frames: &[u8], j: usize, space: &mut [u8], word: &mut [u8])
@@ -24,14 +25,14 @@ fn code_word(f: Fields, frames: &[u8], j: usize, space: &mut [u8], word: &mut [u
     let size = f.size;
     let count = f.frames;
     let h = sizes::block_bytes(rate);
-    frames::fill_block(rate, frames, size, count, j, &mut space[..h]);
+    stream::blocks::fill_block(rate, frames, size, count, j, &mut space[..h]);
     word::write(rate, &space[..h], word);
 }
 
 // All of them, back to back.
 fn code_words(f: Fields, frames: &[u8], space: &mut [u8], words: &mut [u8])
     requires { ⌜ CodesAll f (now frames) (now space) (now words) ⌝ }
-    ensures { λ _. ⌜ ((j : ℕ) → j < blockCount f → wordIn (now (words .exit)) j ≡ wordAt f (now (frames .entry)) j) ⌝ }
+    ensures { λ _. ⌜ ((j : ℕ) → j < blockCount f → piece wordBytes (now (words .exit)) j ≡ wordAt f (now (frames .entry)) j) ⌝ }
 {
     let n = quantities::block_count(f);
     let mut j = 0;

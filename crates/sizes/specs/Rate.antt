@@ -47,6 +47,16 @@ info-le zero = omega arith
 info-le (suc zero) = omega arith
 info-le (suc (suc r)) = omega arith
 
+-- nor shorter than one at 1/3
+pub info-ge : (rate : ℕ) → 5006 ≤ infoBits rate
+unfolding infoBits
+info-ge zero = omega arith
+info-ge (suc zero) = omega arith
+info-ge (suc (suc r)) = omega arith
+
+pub info-pos : (rate : ℕ) → 0 < infoBits rate
+info-pos rate = omega (arith, info-ge rate)
+
 -- room for 10,080 input bits is room for those of any rate
 pub input-room : (rate : ℕ) → rate < 3 → infoBits rate + 34 ≤ 10080
 unfolding infoBits

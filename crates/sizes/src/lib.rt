@@ -1,6 +1,7 @@
 // The sizes that several crates share: those of a word, of a marked frame, and of a block at each code rate (0 for 1/3, 1 for 1/2, 2 for 2/3).
 ghost use mathlib.Core.Path.{_≡_};
-ghost use Prim.Native.Nat.{_<_};
+ghost use Prim.Native.Nat.{_^_, _<_};
+ghost use Rattle.sizes.specs.Sizes.{span as Sizes·span};
 ghost use Rattle.sizes.specs.Rate.{infoBits, inputBits, blockBytes};
 
 // The coded bits of a word, and its bytes.
@@ -12,6 +13,14 @@ pub const WORD_BYTES: usize = 1890;
 pub const FRAME_MARKER: u64 = 0x034776C7272895B0;
 
 pub const MARKER_BITS: usize = 64;
+
+// The bits of a marked frame of `size` bytes.
+pub fn span(size: usize) -> usize
+    requires { ⌜ size < 2 ^ 32 ⌝ }
+    ensures { λ r. ⌜ r ≡ Sizes·span size ⌝ }
+{
+    MARKER_BITS + 8 * size
+}
 
 const THIRD: usize = 5006;
 

@@ -1,6 +1,5 @@
 pub mod Slots
 pub mod Bounds
+pub mod Writing
 pub mod Needs
 pub mod Laws
-pub mod Cleared
-pub mod Writing

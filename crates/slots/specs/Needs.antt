@@ -1,10 +1,11 @@
 -- What the writer is lent.
 use mathlib.Core.Path.{_≡_}
 use mathlib.Core.List.{List}
-use Prim.Native.Nat.{ℕ, _*_, _≤_}
+use Prim.Native.Nat.{ℕ, _*_, _%_, _≤_, _<_}
 use lib.ListN.{length}
 use Rattle.plan.specs.declared.Plan.{Plan}
 use Rattle.plan.specs.Plan.{Fine, slotBytes}
+use Rattle.slots.specs.Writing.{stride}
 
 pub record Given (p : Plan) (words : List ℕ) : Type 0 where
   pub fine : Fine p
@@ -13,3 +14,9 @@ pub record Given (p : Plan) (words : List ℕ) : Type 0 where
 pub record Lent (p : Plan) (words slots : List ℕ) : Type 0 where
   pub given : Given p words
   pub room : length slots ≡ slotBytes p
+
+-- a residue, r, of a row whose first place has residue c
+pub record Residue (p : Plan) (row c r : ℕ) : Type 0 where
+  pub line : row < p .lines
+  pub start : c ≡ row * p .symbols % stride (p .rows)
+  pub small : r < stride (p .rows)

@@ -1,54 +1,54 @@
 // Steps 8 to 10: the words' symbols, spread by the channel interleaver, with markers before every row, as slots with one pulse to a symbol.
 use plan::Plan;
 ghost use mathlib.Core.Path.{_≡_};
-ghost use Prim.Native.Nat.{ℕ, _+_, _*_, _%_, _≤_, _<_};
+ghost use Prim.Native.Nat.{ℕ, _+_, _*_, _%_, _^_, _≤_, _<_};
 ghost use mathlib.Core.List.{List};
 ghost use lib.ListN.{length};
-ghost use Rattle.channel.specs.Symbols.{wordIn};
 ghost use Rattle.plan.specs.Plan.{Fine, unit, total, slotBytes};
-ghost use Rattle.slots.specs.Slots.{dataAt, placed, slotsOf};
-ghost use Rattle.slots.specs.Cleared.{Cleared};
-ghost use Rattle.slots.specs.Needs.{Given, Lent};
-ghost use Rattle.slots.specs.Writing.{Done, rowEnd};
+ghost use Rattle.bits.specs.Change.{flipBit};
+ghost use Rattle.bits.specs.Pieces.{piece};
+ghost use Rattle.sizes.specs.Sizes.{wordBytes};
+ghost use Rattle.slots.specs.Slots.{dataAt, slotsOf};
+ghost use Rattle.slots.specs.Needs.{Given, Lent, Residue};
+ghost use Rattle.slots.specs.Writing.{Holds, front, rowEnd, Repeats, Laid, Zeros, stride, soFar};
 
-// No pulse in the bytes from `from` up to `to`.
-fn clear(slots: &mut [u8], from: usize, to: usize)
-    requires { ⌜ (from ≤ to) × (to ≤ length (now slots)) ⌝ }
-    ensures { λ _. ⌜ Cleared (now (slots .entry)) from to (now (slots .exit)) ⌝ }
+// Zeros' slots in the bytes from `from` up to `to`: they repeat every forty bytes.
+fn lay_zeros(zeros: &[u8], slots: &mut [u8], from: usize, to: usize)
+    requires { ⌜ Repeats (now zeros) × (from ≤ to) × (to ≤ length (now slots)) ⌝ }
+    ensures { λ _. ⌜ Laid (now (zeros .entry)) (now (slots .entry)) from to (now (slots .exit)) ⌝ }
 {
     let mut i = from;
     while i < to {
-        slots[i] = 0;
-        i += 1;
+        let at = i % 40;
+        let n = bits::scan::least(to - i, zeros.len() - at);
+        bits::change::copy_part(zeros, at, slots, i, n);
+        i += n;
     }
 }
 
-// Step 8: symbol t of all words.
-fn data_at(p: Plan, words: &[u8], t: usize) -> usize
-    requires { ⌜ Given p (now words) × (t < total p) ⌝ }
-    ensures { λ r. ⌜ r ≡ dataAt p (wordIn (now (words .entry))) t ⌝ }
+// Many forties of them, so that a row is laid in few parts.
+fn fill_zeros(group: usize, zeros: &mut [u8])
+    requires { ⌜ (1 ≤ group) × (group ≤ 320) × (40 ≤ length (now zeros)) ⌝ }
+    ensures { λ _. ⌜ Zeros group (now (zeros .exit)) ⌝ }
 {
-    let n = p.bits;
-    bits::packing::field(words, n * t, n)
+    let forty = pulses::groups::zeros(group);
+    let n = zeros.len();
+    lay_zeros(&forty, zeros, 0, n);
 }
 
-// Step 9: what stands at place x, which is r modulo N.
-fn placed_at(p: Plan, words: &[u8], x: usize, r: usize) -> usize
-    requires { ⌜ Given p (now words) × (r ≡ x % p .rows) ⌝ }
-    ensures { λ q. ⌜ q ≡ placed p (wordIn (now (words .entry))) x ⌝ }
+// A zero's pulse, which stands at slot x, q slots further on.
+fn move_pulse(slots: &mut [u8], x: usize, q: usize)
+    requires { ⌜ (x + q < 8 * length (now slots)) × (x + q < 2 ^ 32) ⌝ }
+    ensures { λ _. ⌜ now (slots .exit) ≡ flipBit (flipBit (now (slots .entry)) x) (x + q) ⌝ }
 {
-    let all = p.words * p.symbols;
-    let t = channel::hit_by(p.rows, p.step, all, x, r);
-    if t < all {
-        return data_at(p, words, t);
-    }
-    0
+    bits::change::flip(slots, x);
+    bits::change::flip(slots, x + q);
 }
 
 // The pulses of the marker symbols before a row.
 fn put_marks(p: Plan, row: usize, slots: &mut [u8])
     requires { ⌜ Fine p × (row < p .lines) × (length (now slots) ≡ slotBytes p) ⌝ }
-    ensures { λ _. ⌜ ((word : ℕ → List ℕ) (end : ℕ) → Done p word (row * unit p) end (now (slots .entry)) → Done p word (row * unit p + p .count) end (now (slots .exit))) ⌝ }
+    ensures { λ _. ⌜ ((word : ℕ → List ℕ) (end : ℕ) → Holds p (front p word (row * unit p)) end (now (slots .entry)) → Holds p (front p word (row * unit p + p .count)) end (now (slots .exit))) ⌝ }
 {
     let group = p.group;
     let count = p.count;
@@ -56,54 +56,111 @@ fn put_marks(p: Plan, row: usize, slots: &mut [u8])
     let mut k = 0;
     while k < count {
         let mark = p.marks[k] as usize;
-        bits::packing::put_bit(slots, (first + k) * group + mark);
+        move_pulse(slots, (first + k) * group, mark);
         k += 1;
+    }
+}
+
+// Step 8: symbol t of all words.
+fn data_at(p: Plan, words: &[u8], t: usize) -> usize
+    requires { ⌜ Given p (now words) × (t < total p) ⌝ }
+    ensures { λ r. ⌜ r ≡ dataAt p (piece wordBytes (now (words .entry))) t ⌝ }
+{
+    let n = p.bits;
+    bits::packing::field(words, n * t, n)
+}
+
+// Places N apart have one delay. Where N is 1, every eighth place is taken, as neighbours share a byte.
+fn stride_of(rows: usize) -> usize
+    ensures { λ n. ⌜ n ≡ stride rows ⌝ }
+{
+    if rows == 1 { 8 } else { rows }
+}
+
+// The first place from `start` on that is r modulo n, where `start` is c.
+fn first_place(start: usize, c: usize, r: usize, n: usize) -> usize
+    requires { ⌜ (c ≡ start % n) × (r < n) × (n ≤ 128) × (start < 2 ^ 32) ⌝ }
+    ensures { λ x. ⌜ (x % n ≡ r) × (start ≤ x) × (x < start + n) ⌝ }
+{
+    if r < c {
+        return start + (r + n - c);
+    }
+    start + (r - c)
+}
+
+// Step 9, the places of a row that are r modulo the stride: from the first that is hit, symbol after symbol.
+fn put_residue(p: Plan, words: &[u8], row: usize, c: usize, r: usize, slots: &mut [u8])
+    requires { ⌜ Lent p (now words) (now slots) × Residue p row c r ⌝ }
+    ensures { λ _. ⌜ ((end : ℕ) → Holds p (soFar p (piece wordBytes (now (words .entry))) row r 0) end (now (slots .entry)) → Holds p (soFar p (piece wordBytes (now (words .entry))) row (r + 1) 0) end (now (slots .exit))) ⌝ }
+{
+    let rows = p.rows;
+    let symbols = p.symbols;
+    let group = p.group;
+    let count = p.count;
+    let step = p.step;
+    let all = p.words * symbols;
+    let start = row * symbols;
+    let skip = row * count + count;
+    let delay = r % rows * (step * rows);
+    let end = bits::scan::least(start + symbols, delay + all);
+    let n = stride_of(rows);
+    let mut x = bits::scan::most(first_place(start, c, r, n), delay + r);
+    while x < end {
+        let q = data_at(p, words, x - delay);
+        move_pulse(slots, (skip + x) * group, q);
+        x += n;
     }
 }
 
 // The pulses of a row's symbols.
-fn put_places(p: Plan, words: &[u8], row: usize, slots: &mut [u8])
+fn put_residues(p: Plan, words: &[u8], row: usize, slots: &mut [u8])
     requires { ⌜ Lent p (now words) (now slots) × (row < p .lines) ⌝ }
-    ensures { λ _. ⌜ ((end : ℕ) → Done p (wordIn (now (words .entry))) (row * unit p + p .count) end (now (slots .entry)) → Done p (wordIn (now (words .entry))) (row * unit p + p .count + p .symbols) end (now (slots .exit))) ⌝ }
+    ensures { λ _. ⌜ ((end : ℕ) → Holds p (front p (piece wordBytes (now (words .entry))) (row * unit p + p .count)) end (now (slots .entry)) → Holds p (front p (piece wordBytes (now (words .entry))) ((row + 1) * unit p)) end (now (slots .exit))) ⌝ }
 {
-    let group = p.group;
-    let symbols = p.symbols;
-    let rows = p.rows;
-    let first = row * (symbols + p.count) + p.count;
-    let start = row * symbols;
-    let mut r = start % rows;
-    let mut k = 0;
-    while k < symbols {
-        let q = placed_at(p, words, start + k, r);
-        bits::packing::put_bit(slots, (first + k) * group + q);
-        r = channel::next(r, rows);
-        k += 1;
+    let n = stride_of(p.rows);
+    let c = row * p.symbols % n;
+    let mut r = 0;
+    while r < n {
+        put_residue(p, words, row, c, r, slots);
+        r += 1;
     }
 }
 
-// A row with its markers. Its slots are cleared here, so that they are still near when the pulses are set.
-fn put_row(p: Plan, words: &[u8], row: usize, slots: &mut [u8])
-    requires { ⌜ Given p (now words) × (row < p .lines) × Done p (wordIn (now words)) (row * unit p) (rowEnd p row) (now slots) ⌝ }
-    ensures { λ _. ⌜ Done p (wordIn (now (words .entry))) ((row + 1) * unit p) (rowEnd p (row + 1)) (now (slots .exit)) ⌝ }
+// A row with its markers. Its zeros are laid here, so that they are still near when the pulses are moved.
+fn put_row(p: Plan, words: &[u8], zeros: &[u8], row: usize, slots: &mut [u8])
+    requires { ⌜ Given p (now words) × Zeros (p .group) (now zeros) × (row < p .lines) × Holds p (front p (piece wordBytes (now words)) (row * unit p)) (rowEnd p row) (now slots) ⌝ }
+    ensures { λ _. ⌜ Holds p (front p (piece wordBytes (now (words .entry))) ((row + 1) * unit p)) (rowEnd p (row + 1)) (now (slots .exit)) ⌝ }
 {
     let unit = p.symbols + p.count;
     let group = p.group;
     let from = (row * unit * group + 7) / 8;
     let to = ((row + 1) * unit * group + 7) / 8;
-    clear(slots, from, to);
+    lay_zeros(zeros, slots, from, to);
     put_marks(p, row, slots);
-    put_places(p, words, row, slots);
+    put_residues(p, words, row, slots);
+}
+
+fn put_rows(p: Plan, words: &[u8], zeros: &[u8], slots: &mut [u8])
+    requires { ⌜ Lent p (now words) (now slots) × Zeros (p .group) (now zeros) ⌝ }
+    ensures { λ _. ⌜ Holds p (front p (piece wordBytes (now (words .entry))) (p .lines * unit p)) (rowEnd p (p .lines)) (now (slots .exit)) ⌝ }
+{
+    let lines = p.lines;
+    let mut row = 0;
+    while row < lines {
+        put_row(p, words, zeros, row, slots);
+        row += 1;
+    }
 }
 
 // Steps 8 to 10: the slots of words that lie back to back.
 pub fn write(p: Plan, words: &[u8], slots: &mut [u8])
     requires { ⌜ Lent p (now words) (now slots) ⌝ }
-    ensures { λ _. ⌜ now (slots .exit) ≡ slotsOf p (wordIn (now (words .entry))) ⌝ }
+    ensures { λ _. ⌜ now (slots .exit) ≡ slotsOf p (piece wordBytes (now (words .entry))) ⌝ }
 {
-    let lines = p.lines;
-    let mut row = 0;
-    while row < lines {
-        put_row(p, words, row, slots);
-        row += 1;
-    }
+    let group = p.group;
+    let end = p.lines * (p.symbols + p.count) * group;
+    let mut zeros = [0u8; 8000];
+    fill_zeros(group, &mut zeros);
+    put_rows(p, words, &zeros, slots);
+    bits::change::clear_spare(slots, end);
 }

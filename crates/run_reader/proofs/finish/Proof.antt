@@ -3,8 +3,7 @@ use mathlib.Core.Path.{sym, ap, _∙_}
 use Prim.Native.Nat.{ℕ, _*_}
 use Rattle.sizes.specs.Rate.{infoBits, blockBytes}
 use Rattle.header.specs.Quantities.{frameBytes}
-use Rattle.frames.specs.Stream.{joined, framesIn}
-use Rattle.frames.specs.Answer.{framesSay}
+use Rattle.frames.specs.Frames.{joined, framesIn, framesSay}
 use Rattle.answers.specs.declared.Answer.{Answer}
 use Rattle.answers.specs.Answer.{after}
 use Rattle.run.specs.Parts.{part}

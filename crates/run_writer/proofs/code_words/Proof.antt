@@ -9,16 +9,16 @@ use borrow.Rule.Slice.PartMut.{putMid, mid-len, same-len-mid}
 use Rattle.sizes.specs.Sizes.{wordBytes}
 use Rattle.header.specs.Quantities.{blockCount}
 use Rattle.header.specs.Bounds.{blocks-most}
-use Rattle.channel.specs.Symbols.{wordIn}
 use Rattle.run.specs.Run.{wordAt}
 use Rattle.run_writer.specs.Needs.{wordsRoom}
 use Rattle.run.specs.Parts.{parts-more}
 use Rattle.run_writer.proofs.code_words.Statement.{statement}
 use Rattle.run_writer.proofs.code_words.Tie as tie
+use Rattle.bits.specs.Pieces.{piece}
 
 abbrev Inv-loop : tie.InvT-loop
 Inv-loop f frames space₀ words₀ n j₀ space words j =
-    (j ≤ n) × (length space ≡ 1256) × (length words ≡ wordsRoom) × ((i : ℕ) → i < j → wordIn words i ≡ wordAt f frames i)
+    (j ≤ n) × (length space ≡ 1256) × (length words ≡ wordsRoom) × ((i : ℕ) → i < j → piece wordBytes words i ≡ wordAt f frames i)
 
 abbrev μ-loop : tie.MeasureT-loop
 μ-loop f frames space₀ words₀ n j₀ space words j = n - j

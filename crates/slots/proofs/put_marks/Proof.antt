@@ -1,35 +1,43 @@
--- The slots are the definition with the symbols done so far; the marker symbols of a row come first.
+-- The symbols before marker symbol k are there; its pulse is moved from the front of its group.
 use mathlib.Core.Path.{_≡_, refl, sym, _∙_}
 use mathlib.Core.List.{List}
 use Prim.Native.Nat.{ℕ, _+_, _-_, _*_, _≤_, _<_}
 use native.Mathlib.Omega.{arith}
+use native.Mathlib.Nat.{le-refl, mul-le-mul}
 use lib.ListN.{length, getD}
 use borrow.Author.Needs.{needs}
-use Rattle.plan.specs.Plan.{unit, symbolCount}
 use Rattle.channel.specs.Markers.{line-mark}
-use Rattle.slots.specs.Bounds.{bounds}
+use Rattle.plan.specs.Plan.{unit, symbolCount, slotBytes}
 use Rattle.slots.specs.Slots.{placed}
-use Rattle.slots.specs.Writing.{Done, group-inside, row-inside, done-is, done-more}
+use Rattle.slots.specs.Writing.{Holds, front}
+use Rattle.slots.proofs.Moves.{inside}
+use Rattle.slots.proofs.Rows.{sizes, holds-is, holds-next}
 use Rattle.slots.proofs.put_marks.Statement.{statement}
 use Rattle.slots.proofs.put_marks.Tie as tie
 
 abbrev Inv-loop : tie.InvT-loop
 Inv-loop row slots₀ p group count first k₀ slots k =
-    (k ≤ count) × (length slots ≡ length slots₀) × ((word : ℕ → List ℕ) (end : ℕ) → Done p word (row * unit p) end slots₀ → Done p word (row * unit p + k) end slots)
+    (k ≤ count) × (length slots ≡ length slots₀) × ((word : ℕ → List ℕ) (end : ℕ) → Holds p (front p word (row * unit p)) end slots₀ → Holds p (front p word (row * unit p + k)) end slots)
 
 abbrev μ-loop : tie.MeasureT-loop
 μ-loop row slots₀ p group count first k₀ slots k = count - k
 
 add-first : tie.Need-add-first Inv-loop μ-loop
-add-first c = let f = c .before .pre .0 in let k = f .count-most in omega (arith, bounds _ f .symbols-most)
+add-first c =
+    let s = c .before in
+    let p = s .args .t1 in
+    let z = sizes p (s .pre .0) (s .args .row) 0 (s .pre .1) in
+    omega arith
 
 mul-first : tie.Need-mul-first Inv-loop μ-loop
-mul-first c = let s = c .before in let b = s .pre .0 .symbols-bound in omega (arith, row-inside (s .args .t1) (s .args .row) (s .pre .1))
+mul-first c =
+    let s = c .before in
+    let p = s .args .t1 in
+    let z = sizes p (s .pre .0) (s .args .row) 0 (s .pre .1) in
+    omega arith
 
 loop-holds : tie.Need-loop-holds Inv-loop μ-loop
-loop-holds c =
-    let s = c .before in
-    (search needs, refl, λ word end d. done-is (s .args .t1) word _ _ end (s .args .slots .now) (omega arith) d)
+loop-holds c = (search needs, refl, λ word end h. holds-is (c .before .args .t1) word _ _ end _ (omega arith) h)
 
 element-copy-out-mark : tie.Need-element-copy-out-mark Inv-loop μ-loop
 element-copy-out-mark c = search needs
@@ -37,36 +45,33 @@ element-copy-out-mark c = search needs
 cast-mark : tie.Need-cast-mark Inv-loop μ-loop
 cast-mark c = search needs
 
-add-put-bit : tie.Need-add-put-bit Inv-loop μ-loop
-add-put-bit c = let s = c .before .before .before .before .before in let b = s .pre .0 .symbols-bound in omega (arith, row-inside (s .args .t1) (s .args .row) (s .pre .1))
-
-mul-put-bit : tie.Need-mul-put-bit Inv-loop μ-loop
-mul-put-bit c =
+add-move-pulse : tie.Need-add-move-pulse Inv-loop μ-loop
+add-move-pulse c =
     let s = c .before .before .before .before .before in
-    let l = c .before .before .before .loop in
     let p = s .args .t1 in
-    let n : s .args .row * unit p + l .k < symbolCount p = omega (arith, row-inside p (s .args .row) (s .pre .1)) in
-    let b = s .pre .0 .slots-bound in
-    omega (arith, group-inside p (s .args .row * unit p + l .k) n)
+    let z = sizes p (s .pre .0) (s .args .row) 0 (s .pre .1) in
+    omega arith
 
-add-put-bit-2 : tie.Need-add-put-bit-2 Inv-loop μ-loop
-add-put-bit-2 c =
+mul-move-pulse : tie.Need-mul-move-pulse Inv-loop μ-loop
+mul-move-pulse c =
     let s = c .before .before .before .before .before in
-    let l = c .before .before .before .loop in
     let p = s .args .t1 in
-    let n : s .args .row * unit p + l .k < symbolCount p = omega (arith, row-inside p (s .args .row) (s .pre .1)) in
-    let b = s .pre .0 .slots-bound in
-    omega (arith, group-inside p (s .args .row * unit p + l .k) n, s .pre .0 .marks-below (l .k), bounds p (s .pre .0) .group-least)
+    let z = sizes p (s .pre .0) (s .args .row) 0 (s .pre .1) in
+    let k : s .args .row * unit p + c .before .before .before .loop .k ≤ symbolCount p = omega arith in
+    omega (arith, mul-le-mul k (le-refl (p .group)))
 
-put-bit-requires : tie.Need-put-bit-requires Inv-loop μ-loop
-put-bit-requires c κs =
+move-pulse-requires : tie.Need-move-pulse-requires Inv-loop μ-loop
+move-pulse-requires c κs =
     let s = c .before .before .before .before .before in
-    let l = c .before .before .before .loop in
     let p = s .args .t1 in
-    let n : s .args .row * unit p + l .k < symbolCount p = omega (arith, row-inside p (s .args .row) (s .pre .1)) in
-    let e = l .inv .1 in
-    let r = s .pre .2 in
-    omega (arith, group-inside p (s .args .row * unit p + l .k) n, s .pre .0 .marks-below (l .k), bounds p (s .pre .0) .group-least)
+    let z = sizes p (s .pre .0) (s .args .row) 0 (s .pre .1) in
+    let l = c .before .before .before .loop in
+    let at : ℕ = s .args .row * unit p + l .k in
+    let k : at < symbolCount p = omega arith in
+    let q : getD (p .marks) (l .k) 0 < p .group = let b = s .pre .0 .marks-below (l .k) in omega arith in
+    let room : length (l .slots) ≡ slotBytes p = l .inv .1 ∙ s .pre .2 in
+    let i = inside p at (getD (p .marks) (l .k) 0) k q in
+    (omega arith, omega arith)
 
 add-k : tie.Need-add-k Inv-loop μ-loop
 add-k c = search needs
@@ -77,27 +82,25 @@ loop-less c = search needs
 loop-again : tie.Need-loop-again Inv-loop μ-loop
 loop-again c =
     let s = c .before .before .before .before .before .before .before .before in
-    let l = c .before .before .before .before .before .before .loop in
-    let o = c .before .before .put-bit in
     let p = s .args .t1 in
-    let f = s .pre .0 in
-    let j : ℕ = s .args .row * unit p + l .k in
-    let n : j < symbolCount p = omega (arith, row-inside p (s .args .row) (s .pre .1)) in (
+    let z = sizes p (s .pre .0) (s .args .row) 0 (s .pre .1) in
+    let l = c .before .before .before .before .before .before .loop in
+    let o = c .before .before .move-pulse in
+    let at : ℕ = s .args .row * unit p + l .k in
+    let k : at < symbolCount p = omega arith in
+    let q : getD (p .marks) (l .k) 0 < p .group = let b = s .pre .0 .marks-below (l .k) in omega arith in (
       search needs,
       o .kept .0 ∙ l .inv .1,
-      λ word end d. done-is p word (j + 1) (s .args .row * unit p + (l .k + 1)) end (o .last .0) (omega arith)
-          (done-more p f word j end (getD (p .marks) (l .k) 0) (l .slots) (o .last .0) n
-          (sym (line-mark (p .symbols) (p .count) (p .marks) (placed p word) (s .args .row) (l .k) (omega arith))) (l .inv .2 word end d) (o .ensures) (λ i. omega (arith, c .slice-known2 .given i))),
+      λ word end h. holds-is p word (at + 1) (s .args .row * unit p + (l .k + 1)) end (o .last .0) (omega arith)
+          (holds-next p word at end (getD (p .marks) (l .k) 0) (l .slots) (o .last .0) k q
+          (sym (line-mark (p .symbols) (p .count) (p .marks) (placed p word) (s .args .row) (l .k) (omega arith))) (l .inv .2 word end h) (o .ensures) (λ i. omega (arith, c .slice-known2 .given i))),
     )
 
 same-length : tie.Need-same-length Inv-loop μ-loop
 same-length c = c .before .loop .inv .1
 
 returns : tie.Need-returns Inv-loop μ-loop
-returns c =
-    let s = c .before .before .before in
-    let l = c .before .loop in
-    λ word end d. done-is (s .args .t1) word _ _ end (l .slots) (omega arith) (l .inv .2 word end d)
+returns c = let l = c .before .loop in λ word end h. holds-is (c .before .before .before .args .t1) word _ _ end (l .slots) (omega arith) (l .inv .2 word end h)
 
 pub put-marks-spec : {M : Type 1} → statement M
 put-marks-spec =
@@ -110,10 +113,9 @@ put-marks-spec =
     loop-holds
     element-copy-out-mark
     cast-mark
-    add-put-bit
-    mul-put-bit
-    add-put-bit-2
-    put-bit-requires
+    add-move-pulse
+    mul-move-pulse
+    move-pulse-requires
     add-k
     loop-less
     loop-again

@@ -1,87 +1,102 @@
--- The row is cleared, its markers and then its symbols are set; the rows before it stay as they are.
+-- The zeros of the row are laid, its markers and then its symbols are put; the rows before it stay as they are.
 use mathlib.Core.Path.{_∙_}
 use Prim.Native.Nat.{ℕ, _+_, _*_, _≤_}
 use native.Mathlib.Omega.{arith}
 use borrow.Author.Needs.{needs}
 use Rattle.plan.specs.Plan.{unit}
-use Rattle.channel.specs.Symbols.{wordIn}
-use Rattle.slots.specs.Bounds.{bounds}
-use Rattle.slots.specs.Writing.{rowEnd, row-inside, row-end-inside, row-end-on, done-is, done-cleared}
+use Rattle.slots.specs.Writing.{rowEnd}
+use Rattle.slots.proofs.Rows.{sizes, row-end-inside, row-end-on}
+use Rattle.slots.proofs.Zeros.{holds-laid}
 use Rattle.slots.proofs.put_row.Statement.{statement}
 use Rattle.slots.proofs.put_row.Tie as tie
+use Rattle.bits.specs.Pieces.{piece}
+use Rattle.sizes.specs.Sizes.{wordBytes}
 
 add-unit : tie.Need-add-unit
-add-unit c = let f = c .before .before .before .pre .0 .fine in let k = f .count-most in omega (arith, bounds _ f .symbols-most)
+add-unit c =
+    let s = c .before .before .before .before in
+    let p = s .args .p in
+    let z = sizes p (s .pre .0 .fine) (s .args .row) 0 (s .pre .2) in
+    omega arith
 
 mul-from : tie.Need-mul-from
-mul-from c = let s = c .before .before .before in let b = s .pre .0 .fine .symbols-bound in omega (arith, row-inside (s .args .p) (s .args .row) (s .pre .1))
+mul-from c =
+    let s = c .before .before .before .before in
+    let p = s .args .p in
+    let z = sizes p (s .pre .0 .fine) (s .args .row) 0 (s .pre .2) in
+    omega arith
 
 mul-from-2 : tie.Need-mul-from-2
 mul-from-2 c =
-    let s = c .before .before .before in
-    let b = s .pre .0 .fine .slots-bound in
-    omega (arith, row-end-inside (s .args .p) (s .args .row) (omega arith))
+    let s = c .before .before .before .before in
+    let p = s .args .p in
+    let z = sizes p (s .pre .0 .fine) (s .args .row) 0 (s .pre .2) in
+    omega (arith, row-end-inside p (s .args .row) (omega arith))
 
 add-from : tie.Need-add-from
 add-from c =
-    let s = c .before .before .before in
-    let b = s .pre .0 .fine .slots-bound in
-    omega (arith, row-end-inside (s .args .p) (s .args .row) (omega arith))
+    let s = c .before .before .before .before in
+    let p = s .args .p in
+    let z = sizes p (s .pre .0 .fine) (s .args .row) 0 (s .pre .2) in
+    omega (arith, row-end-inside p (s .args .row) (omega arith))
 
 add-to : tie.Need-add-to
-add-to c = search needs
+add-to c =
+    let s = c .before .before .before .before in
+    let p = s .args .p in
+    let z = sizes p (s .pre .0 .fine) (s .args .row) 0 (s .pre .2) in
+    omega arith
 
 mul-to : tie.Need-mul-to
-mul-to c = let s = c .before .before .before in let b = s .pre .0 .fine .symbols-bound in omega (arith, row-inside (s .args .p) (s .args .row) (s .pre .1))
+mul-to c =
+    let s = c .before .before .before .before in
+    let p = s .args .p in
+    let z = sizes p (s .pre .0 .fine) (s .args .row) 0 (s .pre .2) in
+    omega arith
 
 mul-to-2 : tie.Need-mul-to-2
 mul-to-2 c =
-    let s = c .before .before .before in
-    let b = s .pre .0 .fine .slots-bound in
-    omega (arith, row-end-inside (s .args .p) (s .args .row + 1) (omega arith))
+    let s = c .before .before .before .before in
+    let p = s .args .p in
+    let z = sizes p (s .pre .0 .fine) (s .args .row) 0 (s .pre .2) in
+    omega (arith, row-end-inside p (s .args .row + 1) (omega arith))
 
 add-to-2 : tie.Need-add-to-2
 add-to-2 c =
-    let s = c .before .before .before in
-    let b = s .pre .0 .fine .slots-bound in
-    omega (arith, row-end-inside (s .args .p) (s .args .row + 1) (omega arith))
-
-clear-requires : tie.Need-clear-requires
-clear-requires c κs =
     let s = c .before .before .before .before in
     let p = s .args .p in
+    let z = sizes p (s .pre .0 .fine) (s .args .row) 0 (s .pre .2) in
+    omega (arith, row-end-inside p (s .args .row + 1) (omega arith))
+
+lay-zeros-requires : tie.Need-lay-zeros-requires
+lay-zeros-requires c κs =
+    let s = c .before .before .before .before .before in
+    let p = s .args .p in
     let row = s .args .row in
-    let room = s .pre .2 .room in
+    let room = s .pre .3 .room in
     let on : row * unit p * p .group ≤ (row + 1) * unit p * p .group = row-end-on p row in
-    (omega arith, omega (arith, row-end-inside p (row + 1) (omega arith)))
+    (s .pre .1 .repeats, omega arith, omega (arith, row-end-inside p (row + 1) (omega arith)))
 
 put-marks-requires : tie.Need-put-marks-requires
-put-marks-requires c κs =
-    let s = c .before .before .before .before .before .before .before .before in
-    (s .pre .0 .fine, s .pre .1, c .before .before .before .clear .kept .0 ∙ s .pre .2 .room)
+put-marks-requires c κs = let s = c .before .before .before .before .before .before .before .before .before in (s .pre .0 .fine, s .pre .2, c .before .before .before .lay-zeros .ensures .long ∙ s .pre .3 .room)
 
-put-places-requires : tie.Need-put-places-requires
-put-places-requires c κs =
-    let s = c .before .before .before .before .before .before .before .before .before .before .before .before in
-    (record { given = s .pre .0; room = c .before .before .before .put-marks .kept .1 .1 .0 ∙ (c .before .before .before .before .before .before .before .clear .kept .0 ∙ s .pre .2 .room) }, s .pre .1)
+put-residues-requires : tie.Need-put-residues-requires
+put-residues-requires c κs = let s = c .before .before .before .before .before .before .before .before .before .before .before .before .before in (record { given = s .pre .0; room = c .before .before .before .put-marks .kept .1 .1 .0 ∙ (c .before .before .before .before .before .before .before .lay-zeros .ensures .long ∙ s .pre .3 .room) }, s .pre .2)
 
 same-length : tie.Need-same-length
 same-length c = search needs
 
 returns : tie.Need-returns
 returns c =
-    let s = c .before .before .before .before .before .before .before .before .before .before .before .before .before .before .before in
+    let s = c .before .before .before .before .before .before .before .before .before .before .before .before .before .before .before .before in
     let p = s .args .p in
     let row = s .args .row in
-    let w = wordIn (s .args .words .now) in
-    let cleared = c .before .before .before .before .before .before .before .before .before .before .clear in
-    let marks = c .before .before .before .before .before .before .put-marks in
-    let places = c .before .before .put-places in
+    let w = piece wordBytes (s .args .words .now) in
+    let laid = c .before .before .before .before .before .before .before .before .before .before .lay-zeros in
     let end : ℕ = rowEnd p (row + 1) in
     let near : row * unit p * p .group ≤ 8 * rowEnd p row = omega arith in
-    let first = done-cleared p (s .pre .0 .fine) w (row * unit p) (rowEnd p row) end (s .args .slots .now) (cleared .last .0) near (s .pre .2) (cleared .ensures)
-    (λ i. omega (arith, c .before .before .before .before .before .before .before .before .slice-known2 .given i)) in
-    done-is p w (row * unit p + p .count + p .symbols) ((row + 1) * unit p) end _ (omega arith) (places .ensures end (marks .ensures w end first))
+    let first = holds-laid p (s .pre .0 .fine) w (row * unit p) (rowEnd p row) end _ _ _ near (s .pre .1) (s .pre .3) (laid .ensures) (λ i. omega (arith, c .before .before .before .before .before .before .before .before .slice-known2 .given i)) in
+    c .before .before .put-residues .ensures end (c .before .before .before .before .before .before .put-marks .ensures w end first)
 
 pub put-row-spec : {M : Type 1} → statement M
 put-row-spec =
@@ -95,8 +110,8 @@ put-row-spec =
     mul-to
     mul-to-2
     add-to-2
-    clear-requires
+    lay-zeros-requires
     put-marks-requires
-    put-places-requires
+    put-residues-requires
     same-length
     returns)

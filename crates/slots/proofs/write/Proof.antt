@@ -1,57 +1,54 @@
--- The slots are the definition with the rows done so far.
-use mathlib.Core.Path.{_≡_, sym, _∙_}
-use Prim.Native.Nat.{_*_, _-_, _≤_}
+-- All rows are put; then the spare bits behind them, which the zeros ran into, are cleared.
 use native.Mathlib.Omega.{arith}
 use borrow.Author.Needs.{needs}
-use Rattle.plan.specs.Plan.{unit}
-use Rattle.channel.specs.Symbols.{wordIn}
-use Rattle.slots.specs.Writing.{Done, rowEnd, done-none, done-all}
+use Rattle.slots.specs.Bounds.{bounds}
+use Rattle.slots.proofs.Rows.{holds-all}
 use Rattle.slots.proofs.write.Statement.{statement}
 use Rattle.slots.proofs.write.Tie as tie
+use Rattle.bits.specs.Pieces.{piece}
+use Rattle.sizes.specs.Sizes.{wordBytes}
 
-abbrev Inv-loop : tie.InvT-loop
-Inv-loop p words slots₀ lines row₀ slots row = (row ≤ lines) × Done p (wordIn words) (row * unit p) (rowEnd p row) slots
+add-end : tie.Need-add-end
+add-end c = let s = c .before .before .before in let k = bounds (s .args .p) (s .pre .given .fine) in omega arith
 
-abbrev μ-loop : tie.MeasureT-loop
-μ-loop p words slots₀ lines row₀ slots row = lines - row
+mul-end : tie.Need-mul-end
+mul-end c = search needs
 
-loop-holds : tie.Need-loop-holds Inv-loop μ-loop
-loop-holds c =
-    let s = c .before .before in
-    (search needs, done-none (s .args .p) (wordIn (s .args .words .now)) (s .args .slots .now) (s .pre .room) (λ i. omega (arith, c .slice-known .given i)))
+mul-end-2 : tie.Need-mul-end-2
+mul-end-2 c = search needs
 
-put-row-requires : tie.Need-put-row-requires Inv-loop μ-loop
-put-row-requires c κs = (c .before .before .before .before .before .pre .given, c .before .loop-test .taken, c .before .before .loop .inv .1)
+slice-aggregate-fill-zeros : tie.Need-slice-aggregate-fill-zeros
+slice-aggregate-fill-zeros c = search needs
 
-add-row : tie.Need-add-row Inv-loop μ-loop
-add-row c = search needs
+fill-zeros-requires : tie.Need-fill-zeros-requires
+fill-zeros-requires c κs = let s = c .before .before .before .before .before in let k = bounds (s .args .p) (s .pre .given .fine) in (omega arith, omega arith, omega arith)
 
-loop-less : tie.Need-loop-less Inv-loop μ-loop
-loop-less c = search needs
+slice-aggregate-put-rows : tie.Need-slice-aggregate-put-rows
+slice-aggregate-put-rows c = search needs
 
-loop-again : tie.Need-loop-again Inv-loop μ-loop
-loop-again c = (search needs, c .before .before .put-row .ensures)
+put-rows-requires : tie.Need-put-rows-requires
+put-rows-requires c κs = search needs
 
-same-length : tie.Need-same-length Inv-loop μ-loop
-same-length c = c .before .loop .inv .1 .room ∙ sym (c .before .before .before .before .pre .room)
+clear-spare-requires : tie.Need-clear-spare-requires
+clear-spare-requires c κs = search needs
 
-returns : tie.Need-returns Inv-loop μ-loop
-returns c =
-    let s = c .before .before .before .before in
-    let l = c .before .loop in
-    let e : l .row ≡ s .args .p .lines = omega arith in
-    done-all (s .args .p) (wordIn (s .args .words .now)) (l .slots) (rw e at (l .inv .1))
+same-length : tie.Need-same-length
+same-length c = search needs
+
+returns : tie.Need-returns
+returns c = let s = c .before .before .before .before .before .before .before .before .before .before .before .before .before .before .before .before in holds-all (s .args .p) (s .pre .given .fine) (piece wordBytes (s .args .words .now)) _ _ (c .before .before .before .before .before .before .put-rows .ensures) (c .before .before .clear-spare .ensures) (λ i. omega (arith, c .slice-known3 .given i))
 
 pub write-spec : {M : Type 1} → statement M
 write-spec =
     tie.close
     (tie.spec
-    Inv-loop
-    μ-loop
-    loop-holds
-    put-row-requires
-    add-row
-    loop-less
-    loop-again
+    add-end
+    mul-end
+    mul-end-2
+    slice-aggregate-fill-zeros
+    fill-zeros-requires
+    slice-aggregate-put-rows
+    put-rows-requires
+    clear-spare-requires
     same-length
     returns)

@@ -1,0 +1,4 @@
+pub mod Rooms
+pub mod Bytes
+pub mod Fill
+pub mod Answers

@@ -1,0 +1,80 @@
+-- Before each turn the frames so far are laid.
+use mathlib.Core.Path.{_≡_, ap, subst, _∙_}
+use Prim.Native.Nat.{ℕ, _+_, _-_, _*_, _≤_}
+use native.Mathlib.Omega.{arith}
+use lib.ListN.{getD}
+use Rattle.bits.specs.Pack.{bytes-by-byte}
+use Rattle.bits.specs.Pieces.{piece}
+use Rattle.bits.specs.Stretch.{Laid, laid-none}
+use Rattle.sizes.specs.Rate.{blockBytes}
+use Rattle.frames.specs.Frames.{joined, framePlace, framesIn}
+use Rattle.frames.proofs.Bytes.{frames-more}
+use borrow.Author.Needs.{needs}
+use Rattle.frames.proofs.back.frames_out.Statement.{statement}
+use Rattle.frames.proofs.back.frames_out.Tie as tie
+
+abbrev Inv-loop : tie.InvT-loop
+Inv-loop rate blocks total size count frames₀ j₀ frames j =
+    (j ≤ count) × Laid frames₀ 0 (j * size) (λ y. joined rate (piece (blockBytes rate) blocks) (framePlace size y)) frames
+
+abbrev μ-loop : tie.MeasureT-loop
+μ-loop rate blocks total size count frames₀ j₀ frames j = count - j
+
+loop-holds : tie.Need-loop-holds Inv-loop μ-loop
+loop-holds c =
+    let a = c .before .before .args in
+    let f : ℕ → ℕ = λ y. joined (a .rate) (piece (blockBytes (a .rate)) (a .blocks .now)) (framePlace (a .size) y) in
+    let z : 0 ≡ 0 * a .size = omega arith in
+    (search needs, subst (λ (n : ℕ). Laid (a .frames .now) 0 n f (a .frames .now)) z (laid-none (a .frames .now) 0 f))
+
+frame-out-requires : tie.Need-frame-out-requires Inv-loop μ-loop
+frame-out-requires c κs =
+    let s = c .before .before .before .before .before in
+    let long = c .before .before .loop .inv .1 .long in
+    (s .pre .0, omega arith, omega (arith, s .pre .1))
+
+add-j : tie.Need-add-j Inv-loop μ-loop
+add-j c =
+    let h = c .before .before .before .before .before .before .before .before .pre .0 .count2 in
+    omega arith
+
+loop-less : tie.Need-loop-less Inv-loop μ-loop
+loop-less c =
+    omega arith
+
+loop-again : tie.Need-loop-again Inv-loop μ-loop
+loop-again c =
+    let a = c .before .before .before .before .before .before .before .before .args in
+    let l = c .before .before .before .before .before .loop in
+    let st : ℕ → ℕ = joined (a .rate) (piece (blockBytes (a .rate)) (a .blocks .now)) in
+    (omega arith, frames-more (a .size) (l .j) st (a .frames .now) (l .frames) _ (l .inv .1) (c .before .before .frame-out .ensures))
+
+same-length : tie.Need-same-length Inv-loop μ-loop
+same-length c =
+    c .before .loop .inv .1 .long
+
+returns : tie.Need-returns Inv-loop μ-loop
+unfolding framesIn
+returns c =
+    let s = c .before .before .before .before in
+    let a = s .args in
+    let l = c .before .loop in
+    let e : l .j ≡ a .count = omega arith in
+    let laid = rw e at (l .inv .1) in
+    bytes-by-byte (a .count * a .size) (λ y. joined (a .rate) (piece (blockBytes (a .rate)) (a .blocks .now)) (framePlace (a .size) y)) (l .frames) (laid .long ∙ s .pre .1) (λ i h.
+    let z : i ≡ 0 + i = omega arith in
+    ap (λ (k : ℕ). getD (l .frames) k 0) z ∙ laid .here i h)
+
+pub frames-out-spec : {M : Type 1} → statement M
+frames-out-spec =
+    tie.close
+    (tie.spec
+    Inv-loop
+    μ-loop
+    loop-holds
+    frame-out-requires
+    add-j
+    loop-less
+    loop-again
+    same-length
+    returns)

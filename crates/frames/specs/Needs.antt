@@ -1,0 +1,47 @@
+-- What the functions ask of their arguments, and what the private ones say of what they found.
+use mathlib.Core.Path.{_≡_}
+use mathlib.Core.List.{List}
+use Prim.Native.Nat.{ℕ, _+_, _*_, _≤_, _<_}
+use lib.ListN.{length}
+use Rattle.bits.specs.declared.places.Place.{Place}
+use Rattle.sizes.specs.Sizes.{span}
+use Rattle.sizes.specs.Rate.{infoBits, blockBytes}
+
+-- `total` blocks that hold the frames, perhaps with more behind them
+pub record Judged (rate total size count : ℕ) (blocks : List ℕ) : Type 0 where
+  pub rate3 : rate < 3
+  pub total2 : total ≤ 211
+  pub room : total * blockBytes rate ≤ length blocks
+  pub size1 : 1 ≤ size
+  pub size2 : size ≤ 2048
+  pub count1 : 1 ≤ count
+  pub count2 : count ≤ 64
+  pub fit : count * span size ≤ total * infoBits rate
+
+-- `total` blocks lie in `blocks`
+pub record Blocks (rate total : ℕ) (blocks : List ℕ) : Type 0 where
+  pub rate3 : rate < 3
+  pub total2 : total ≤ 211
+  pub room : total * blockBytes rate ≤ length blocks
+
+-- so do those of the n bits from bit x on
+pub record Held (rate : ℕ) (blocks : List ℕ) (x n : ℕ) : Type 0 where
+  pub total : ℕ
+  pub lie : Blocks rate total blocks
+  pub fit : x + n ≤ total * infoBits rate
+
+-- the bit of the blocks joined that stands at a place
+abbrev pub bitOf : ℕ → Place → ℕ
+bitOf rate at = at .piece * infoBits rate + at .bit
+
+-- and those of the n bits from a place on
+pub record HeldAt (rate : ℕ) (blocks : List ℕ) (at : Place) (n : ℕ) : Type 0 where
+  pub inside : at .bit < infoBits rate
+  pub held : Held rate blocks (bitOf rate at) n
+
+-- n zeros, eight at most, follow in one block from a place of a stream on; none only where a one stands there
+pub record Zeros (rate : ℕ) (stream : ℕ → ℕ) (at : Place) (n : ℕ) : Type 0 where
+  pub few : n ≤ 8
+  pub inside : at .bit + n ≤ infoBits rate
+  pub pass : (t : ℕ) → t < n → stream (bitOf rate at + t) ≡ 0
+  pub stop : n ≡ 0 → stream (bitOf rate at) ≡ 0 → ⊥

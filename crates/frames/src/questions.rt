@@ -1,0 +1,97 @@
+// Questions 16 and 18, put to the stream that blocks hold.
+use crate::joined;
+use answers::Answer;
+use bits::places;
+use bits::places::Place;
+ghost use mathlib.Core.Path.{_≡_};
+ghost use Prim.Native.Nat.{_+_, _*_, _≤_};
+ghost use Rattle.bits.specs.First.{upTo};
+ghost use Rattle.bits.specs.Pack.{val};
+ghost use Rattle.bits.specs.Pieces.{piece};
+ghost use Rattle.sizes.specs.Sizes.{markerBits};
+ghost use Rattle.sizes.specs.Rate.{infoBits, blockBytes};
+ghost use Rattle.frames.specs.Frames.{joined as Frames·joined, firstUnmarked, zeroAt, framesSay};
+ghost use Rattle.frames.specs.Needs.{Blocks, Held, HeldAt, Judged, Zeros};
+
+// The number that stands where a marker should, from bit x on.
+fn marker_at(rate: u64, blocks: &[u8], x: usize) -> u64
+    requires { ⌜ Held rate (now blocks) x markerBits ⌝ }
+    ensures { λ v. ⌜ v ≡ val (λ t. Frames·joined rate (piece (blockBytes rate) (now (blocks .entry))) (x + t)) markerBits ⌝ }
+{
+    let k = sizes::info_bits(rate);
+    let mut at = places::place_of(x, k);
+    let mut v = 0u64;
+    let mut i = 0usize;
+    while i < sizes::MARKER_BITS / 8 {
+        v = (v << 8) | (joined::joined_byte(rate, blocks, at) as u64);
+        at = places::place_after(at, 8, k);
+        i += 1;
+    }
+    v
+}
+
+// Question 16: the first frame before which the marker does not stand, `count` where there is none.
+fn first_unmarked(rate: u64, blocks: &[u8], total: usize, size: usize, count: usize) -> usize
+    requires { ⌜ Judged rate total size count (now blocks) ⌝ }
+    ensures { λ j. ⌜ j ≡ firstUnmarked size count (Frames·joined rate (piece (blockBytes rate) (now (blocks .entry)))) ⌝ }
+{
+    let span = sizes::span(size);
+    let mut j = 0;
+    while j < count {
+        if marker_at(rate, blocks, j * span) != sizes::FRAME_MARKER {
+            return j;
+        }
+        j += 1;
+    }
+    j
+}
+
+// How many zeros follow from a place on, as far as one look goes: eight, one or none.
+fn zeros_at(rate: u64, blocks: &[u8], at: Place) -> usize
+    requires { ⌜ HeldAt rate (now blocks) at 1 ⌝ }
+    ensures { λ n. ⌜ Zeros rate (Frames·joined rate (piece (blockBytes rate) (now (blocks .entry)))) at n ⌝ }
+{
+    if joined::eight_zeros(rate, blocks, at) {
+        return 8;
+    }
+    if joined::joined_bit(rate, blocks, at) == 0 {
+        return 1;
+    }
+    0
+}
+
+// Question 18: the first bit from `from` on that is not zero, the end of the `total` blocks where there is none.
+fn first_fill(rate: u64, blocks: &[u8], total: usize, from: usize) -> usize
+    requires { ⌜ Blocks rate total (now blocks) × (from ≤ total * infoBits rate) ⌝ }
+    ensures { λ x. ⌜ x ≡ upTo (zeroAt (Frames·joined rate (piece (blockBytes rate) (now (blocks .entry))))) from (total * infoBits rate) ⌝ }
+{
+    let k = sizes::info_bits(rate);
+    let end = total * k;
+    let mut at = places::place_of(from, k);
+    let mut x = from;
+    while x < end {
+        let n = zeros_at(rate, blocks, at);
+        if n == 0 {
+            return x;
+        }
+        at = places::place_after(at, n, k);
+        x += n;
+    }
+    x
+}
+
+// Questions 16 and 18, put to the first `total` blocks.
+pub fn judge(rate: u64, blocks: &[u8], total: usize, size: usize, count: usize) -> Answer
+    requires { ⌜ Judged rate total size count (now blocks) ⌝ }
+    ensures { λ a. ⌜ a ≡ framesSay size count (total * infoBits rate) (Frames·joined rate (piece (blockBytes rate) (now (blocks .entry)))) ⌝ }
+{
+    let j = first_unmarked(rate, blocks, total, size, count);
+    if j != count {
+        return Answer::No(16, j);
+    }
+    let end = total * sizes::info_bits(rate);
+    if first_fill(rate, blocks, total, count * sizes::span(size)) != end {
+        return Answer::No(18, 0);
+    }
+    Answer::Done
+}

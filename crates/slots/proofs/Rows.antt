@@ -1,0 +1,380 @@
+-- A row of places, residue by residue: places of one residue have one delay, so that their symbols follow one another; a place that is not hit holds 0, as it was laid.
+use mathlib.Core.Path.{_≡_, refl, sym, ap, _∙_}
+use mathlib.Core.Bool.{Bool, true, false}
+use mathlib.Core.List.{List}
+use mathlib.Core.Logic.{⊎-elim}
+use Prim.Native.Nat.{ℕ, _+_, _-_, _*_, _/_, _%_, _^_, _≤_, _<_, min, max}
+use native.Mathlib.Omega.{arith}
+use native.Mathlib.Nat.{le-refl, mul-le-mul, mul-assoc, mod-lt, mod-eq-of-lt, div-add-mod', div-lt-iff-lt-mul, le-div-iff-mul-le, zero-mul, add-mul-mod-self-right}
+use lib.Dec.{ltb}
+use lib.ListN.{length}
+use borrow.Author.Tests.{lt-ltb, le-ltb, eq-eqb, ne-eqb}
+use Rattle.bits.specs.Change.{flipBit, Ends}
+use Rattle.bits.specs.Choice.{pick, lt-or-le, eq-or-ne}
+use Rattle.bits.specs.Pack.{bitAt, Bytes, bytes-made, cut, cut-in, cut-past}
+use Rattle.channel.specs.Markers.{line-place}
+use Rattle.channel.specs.Places.{delay, source, hit-is, placed-hit, placed-rest}
+use Rattle.pulses.specs.Pulses as pulses
+use Rattle.plan.specs.declared.Plan.{Plan}
+use Rattle.plan.specs.Plan.{Fine, unit, total, symbolCount, slotBytes}
+use Rattle.slots.specs.Bounds.{Bounds, bounds, delay-most}
+use Rattle.slots.specs.Laws.{placed-below}
+use Rattle.slots.specs.Slots.{dataAt, hitBy, placed, symbolAt, slotBit, slotsOf}
+use Rattle.slots.specs.Writing.{Holds, front, rowEnd, stride, sooner, soFar}
+use Rattle.slots.proofs.Moves.{holds-moved}
+
+-- ---- rows
+
+-- the numbers of row j, of which a residue r is put
+pub record Sizes (p : Plan) (j r : ℕ) : Type 0 where
+  pub of-plan : Bounds p
+  pub places : j * p .symbols + p .symbols < 2 ^ 23
+  pub symbols : j * unit p + unit p ≤ symbolCount p
+  pub late : delay (p .rows) (p .step) (r % p .rows) ≤ 2 ^ 22
+  pub rows-least : 1 ≤ p .rows
+  pub stride-least : 1 ≤ stride (p .rows)
+  pub stride-most : stride (p .rows) ≤ 128
+
+-- the symbols before and in row j are among all
+pub row-inside : (p : Plan) (j : ℕ) → j < p .lines → j * unit p + unit p ≤ symbolCount p
+row-inside p j l = let k : j + 1 ≤ p .lines = omega arith in omega (arith, mul-le-mul k (le-refl (unit p)))
+
+-- their slots lie within
+pub row-end-inside : (p : Plan) (j : ℕ) → j ≤ p .lines → j * unit p * p .group ≤ symbolCount p * p .group
+row-end-inside p j l = mul-le-mul (mul-le-mul l (le-refl (unit p))) (le-refl (p .group))
+
+pub row-end-on : (p : Plan) (j : ℕ) → j * unit p * p .group ≤ (j + 1) * unit p * p .group
+row-end-on p j = let l : j ≤ j + 1 = omega arith in mul-le-mul (mul-le-mul l (le-refl (unit p))) (le-refl (p .group))
+
+-- before the first row nothing is asked
+pub holds-none : (p : Plan) (word : ℕ → List ℕ) (slots : List ℕ) → length slots ≡ slotBytes p → Bytes slots → Holds p (front p word (0 * unit p)) (rowEnd p 0) slots
+holds-none p word slots e b =
+    let z : 0 * unit p * p .group ≡ 0 = ap (λ (n : ℕ). n * p .group) (zero-mul (unit p)) ∙ zero-mul (p .group) in
+    record { room = e; bytes = b; bits = λ x l. absurd (omega arith) }
+
+pub holds-is : (p : Plan) (word : ℕ → List ℕ) (n m end : ℕ) (slots : List ℕ) → n ≡ m → Holds p (front p word n) end slots → Holds p (front p word m) end slots
+holds-is p word n m end slots e h = rw e at h
+
+-- one symbol more, in their order
+pub holds-next : (p : Plan) (word : ℕ → List ℕ) (s end q : ℕ) (slots after : List ℕ) → s < symbolCount p → q < p .group → q ≡ symbolAt p word s
+    → Holds p (front p word s) end slots → after ≡ flipBit (flipBit slots (s * p .group)) (s * p .group + q) → Bytes after → Holds p (front p word (s + 1)) end after
+holds-next p word s end q slots after l small same h e bytes =
+    let f : ℕ → ℕ = symbolAt p word in
+    let le : s ≤ s = omega arith in
+    let lt : s < s + 1 = omega arith in
+    holds-moved p (front p word s) (front p word (s + 1)) end s q slots l small (cut-past s f s le) (cut-in (s + 1) f s lt ∙ sym same)
+    (λ u n. ⊎-elim
+    (λ (a : u < s). let b : u < s + 1 = omega arith in cut-in s f u a ∙ sym (cut-in (s + 1) f u b))
+    (λ (a : s ≤ u). let b : s + 1 ≤ u = omega arith in cut-past s f u a ∙ sym (cut-past (s + 1) f u b))
+    (lt-or-le u s))
+    h after e bytes
+
+-- with all of them, and no pulse behind them, it is the definition
+pub holds-all : (p : Plan) → Fine p → (word : ℕ → List ℕ) (slots after : List ℕ) → Holds p (front p word (p .lines * unit p)) (rowEnd p (p .lines)) slots
+    → Ends slots (p .lines * unit p * p .group) after → Bytes after → after ≡ slotsOf p word
+unfolding slotsOf pulses.slotsOf pulses.slotBit
+holds-all p fine word slots after h e bytes =
+    let n : ℕ = symbolCount p in
+    let g : 0 < p .group = let k = bounds p fine in omega arith in
+    let room : length slots ≡ slotBytes p = h .room in
+    bytes-made (slotBytes p) (slotBit p word) after (e .long ∙ room) bytes (λ x l.
+    e .bits x (omega arith) ∙ ⊎-elim
+    (λ (a : x / p .group < n).
+    let low : x < n * p .group = div-lt-iff-lt-mul g .0 a in
+    cut-in (n * p .group) (bitAt slots) x low ∙ h .bits x l ∙ rw (cut-in n (symbolAt p word) (x / p .group) a, lt-ltb (x / p .group) n a) refl)
+    (λ (a : n ≤ x / p .group).
+    let high : n * p .group ≤ x = le-div-iff-mul-le g .0 a in
+    cut-past (n * p .group) (bitAt slots) x high ∙ sym (rw (le-ltb (x / p .group) n a) refl))
+    (lt-or-le (x / p .group) n))
+
+-- ---- residues
+
+stride-least : (rows : ℕ) → 1 ≤ rows → 1 ≤ stride rows
+unfolding stride
+stride-least rows h = ⊎-elim (λ (e : rows ≡ 1). rw (eq-eqb rows 1 e) (omega arith)) (λ (e : rows ≡ 1 → ⊥). rw (ne-eqb rows 1 e) h) (eq-or-ne rows 1)
+
+stride-most : (rows : ℕ) → rows ≤ 128 → stride rows ≤ 128
+unfolding stride
+stride-most rows h = ⊎-elim (λ (e : rows ≡ 1). rw (eq-eqb rows 1 e) (omega arith)) (λ (e : rows ≡ 1 → ⊥). rw (ne-eqb rows 1 e) h) (eq-or-ne rows 1)
+
+-- the residue modulo the stride tells the one modulo N
+stride-rows : (rows y : ℕ) → 1 ≤ rows → y % stride rows % rows ≡ y % rows
+unfolding stride
+stride-rows rows y h =
+    ⊎-elim
+    (λ (e : rows ≡ 1). rw (eq-eqb rows 1 e, e) (omega arith))
+    (λ (e : rows ≡ 1 → ⊥). rw (ne-eqb rows 1 e) (mod-eq-of-lt (mod-lt y h)))
+    (eq-or-ne rows 1)
+
+-- and a delay does not change it
+stride-delay : (rows step r x : ℕ) → (x + delay rows step (r % rows)) % stride rows ≡ x % stride rows
+unfolding stride
+stride-delay rows step r x =
+    ⊎-elim
+    (λ (e : rows ≡ 1).
+    let none : r % 1 * (step * 1) ≡ 0 = ap (λ (v : ℕ). v * (step * 1)) (let z : r % 1 ≡ 0 = omega arith in z) ∙ zero-mul (step * 1) in
+    let same : x + r % 1 * (step * 1) ≡ x = omega arith in
+    rw (eq-eqb rows 1 e, e) (ap (λ (y : ℕ). y % 8) same))
+    (λ (e : rows ≡ 1 → ⊥).
+    rw (ne-eqb rows 1 e)
+    (ap (λ (d : ℕ). (x + d) % rows) (sym (mul-assoc (r % rows) step rows)) ∙ add-mul-mod-self-right x (r % rows * step) rows))
+    (eq-or-ne rows 1)
+
+-- two places of one residue are a stride apart
+pub apart : (n x y : ℕ) → x % n ≡ y % n → x < y → x + n ≤ y
+apart n x y e l =
+    let a : x / n * n + x % n ≡ x = div-add-mod' x n in
+    let b : y / n * n + y % n ≡ y = div-add-mod' y n in
+    ⊎-elim
+    (λ (h : x / n < y / n). let k : x / n + 1 ≤ y / n = omega arith in omega (arith, mul-le-mul k (le-refl n)))
+    (λ (h : y / n ≤ x / n). absurd (omega (arith, mul-le-mul h (le-refl n))))
+    (lt-or-le (x / n) (y / n))
+
+pub sizes : (p : Plan) → Fine p → (j r : ℕ) → j < p .lines → Sizes p j r
+sizes p fine j r l =
+    let k = bounds p fine in
+    let symbols : j * unit p + unit p ≤ symbolCount p = row-inside p j l in
+    record {
+      of-plan = k;
+      places = omega arith;
+      symbols = symbols;
+      late = delay-most p fine r;
+      rows-least = fine .rows-least;
+      stride-least = stride-least (p .rows) (fine .rows-least);
+      stride-most = stride-most (p .rows) (fine .rows-most);
+    }
+
+-- ---- the order of residues
+
+sooner-other : (n r x y : ℕ) → (y % n ≡ r → ⊥) → sooner n r x y ≡ ltb (y % n) r
+unfolding sooner
+sooner-other n r x y h = rw (ne-eqb (y % n) r h) refl
+
+sooner-same : (n r x y : ℕ) → y % n ≡ r → sooner n r x y ≡ ltb y x
+unfolding sooner
+sooner-same n r x y h = rw (eq-eqb (y % n) r h) refl
+
+-- a stride on, one place more is before
+sooner-on : (n r x y : ℕ) → x % n ≡ r → (y ≡ x → ⊥) → sooner n r x y ≡ sooner n r (x + n) y
+sooner-on n r x y e ne =
+    ⊎-elim
+    (λ (h : y % n ≡ r).
+    sooner-same n r x y h
+    ∙ ⊎-elim
+    (λ (a : y < x). let b : y < x + n = omega arith in lt-ltb y x a ∙ sym (lt-ltb y (x + n) b))
+    (λ (a : x ≤ y). let b : x + n ≤ y = apart n x y (e ∙ sym h) (omega arith) in le-ltb y x a ∙ sym (le-ltb y (x + n) b))
+    (lt-or-le y x)
+    ∙ sym (sooner-same n r (x + n) y h))
+    (λ (h : y % n ≡ r → ⊥). sooner-other n r x y h ∙ sym (sooner-other n r (x + n) y h))
+    (eq-or-ne (y % n) r)
+
+-- ---- what stands at a place, by the delay of its residue
+
+module _ (p : Plan) (fine : Fine p) (word : ℕ → List ℕ) (r y : ℕ) (res : y % stride (p .rows) ≡ r) where
+  same-delay : delay (p .rows) (p .step) (y % p .rows) ≡ delay (p .rows) (p .step) (r % p .rows)
+  same-delay = ap (delay (p .rows) (p .step)) (sym (stride-rows (p .rows) y (fine .rows-least)) ∙ ap (λ (v : ℕ). v % p .rows) res)
+
+  source-is : hitBy p y ≡ pick (ltb y (delay (p .rows) (p .step) (r % p .rows))) (total p) (pick (ltb (y - delay (p .rows) (p .step) (r % p .rows)) (total p)) (y - delay (p .rows) (p .step) (r % p .rows)) (total p))
+  unfolding source
+  source-is = hit-is (p .rows) (p .step) (total p) y ∙ ap (λ (d : ℕ). pick (ltb y d) (total p) (pick (ltb (y - d) (total p)) (y - d) (total p))) same-delay
+
+  -- before the first symbol comes there, and behind the last
+  pub placed-early : y < delay (p .rows) (p .step) (r % p .rows) → placed p word y ≡ 0
+  placed-early h =
+      let e : hitBy p y ≡ total p = source-is ∙ rw (lt-ltb y (delay (p .rows) (p .step) (r % p .rows)) h) refl in
+      placed-rest (p .rows) (p .step) (total p) (dataAt p word) y (omega arith)
+
+  pub placed-late : delay (p .rows) (p .step) (r % p .rows) + total p ≤ y → placed p word y ≡ 0
+  placed-late h =
+      let d : ℕ = delay (p .rows) (p .step) (r % p .rows) in
+      let a : d ≤ y = omega arith in
+      let b : total p ≤ y - d = omega arith in
+      let e : hitBy p y ≡ total p = source-is ∙ rw (le-ltb y d a, le-ltb (y - d) (total p) b) refl in
+      placed-rest (p .rows) (p .step) (total p) (dataAt p word) y (omega arith)
+
+  pub placed-at : delay (p .rows) (p .step) (r % p .rows) ≤ y → y < delay (p .rows) (p .step) (r % p .rows) + total p → placed p word y ≡ dataAt p word (y - delay (p .rows) (p .step) (r % p .rows))
+  placed-at a h =
+      let d : ℕ = delay (p .rows) (p .step) (r % p .rows) in
+      let b : y - d < total p = omega arith in
+      let e : hitBy p y ≡ y - d = source-is ∙ rw (le-ltb y d a, lt-ltb (y - d) (total p) b) refl in
+      placed-hit (p .rows) (p .step) (total p) (dataAt p word) y (rw e b) ∙ ap (dataAt p word) e
+
+  -- its first symbol comes no sooner than at delay + r
+  pub not-yet : r < stride (p .rows) → y < delay (p .rows) (p .step) (r % p .rows) + r → y < delay (p .rows) (p .step) (r % p .rows)
+  not-yet small h =
+      let n : ℕ = stride (p .rows) in
+      let d : ℕ = delay (p .rows) (p .step) (r % p .rows) in
+      ⊎-elim
+      (λ (a : y < d). a)
+      (λ (a : d ≤ y).
+      let e : y - d + d ≡ y = omega arith in
+      let low : y - d < n = omega arith in
+      let m : y - d ≡ r = sym (mod-eq-of-lt low) ∙ sym (stride-delay (p .rows) (p .step) r (y - d)) ∙ ap (λ (v : ℕ). v % n) e ∙ res in
+      absurd (omega arith))
+      (lt-or-le y d)
+
+-- ---- the symbols of a row so far
+
+module _ (p : Plan) (word : ℕ → List ℕ) (j : ℕ) where
+  row-place : (k : ℕ) → k < p .symbols → symbolAt p word (j * unit p + p .count + k) ≡ placed p word (j * p .symbols + k)
+  row-place k l =
+      let e : j * unit p + p .count + k ≡ j * unit p + (p .count + k) = omega arith in
+      ap (symbolAt p word) e ∙ line-place (p .symbols) (p .count) (p .marks) (placed p word) j k l
+
+  so-front : (r x s : ℕ) → s < j * unit p + p .count → soFar p word j r x s ≡ symbolAt p word s
+  unfolding soFar cut
+  so-front r x s l =
+      let first : ℕ = j * unit p + p .count in
+      let m : s < first + p .symbols = omega arith in
+      rw (lt-ltb s (first + p .symbols) m, lt-ltb s first l) refl
+
+  so-row : (r x k : ℕ) → k < p .symbols → soFar p word j r x (j * unit p + p .count + k) ≡ pick (sooner (stride (p .rows)) r x (j * p .symbols + k)) (placed p word (j * p .symbols + k)) 0
+  unfolding soFar cut
+  so-row r x k l =
+      let first : ℕ = j * unit p + p .count in
+      let m : first + k < first + p .symbols = omega arith in
+      let le : first ≤ first + k = omega arith in
+      let back : first + k - first ≡ k = omega arith in
+      rw (lt-ltb (first + k) (first + p .symbols) m, le-ltb (first + k) first le, back, row-place k l) refl
+
+  so-past : (r x s : ℕ) → j * unit p + p .count + p .symbols ≤ s → soFar p word j r x s ≡ 0
+  unfolding soFar cut
+  so-past r x s l = rw (le-ltb s (j * unit p + p .count + p .symbols) l) refl
+
+  -- each of them: before the row's places, among them, or behind them
+  by-row : (r x s v : ℕ) → (s < j * unit p + p .count → symbolAt p word s ≡ v)
+      → ((k : ℕ) → k < p .symbols → s ≡ j * unit p + p .count + k → pick (sooner (stride (p .rows)) r x (j * p .symbols + k)) (placed p word (j * p .symbols + k)) 0 ≡ v)
+      → (j * unit p + p .count + p .symbols ≤ s → 0 ≡ v) → soFar p word j r x s ≡ v
+  by-row r x s v hf hr hp =
+      let first : ℕ = j * unit p + p .count in
+      ⊎-elim
+      (λ (a : s < first). so-front r x s a ∙ hf a)
+      (λ (a : first ≤ s). ⊎-elim
+      (λ (b : s < first + p .symbols).
+      let k : ℕ = s - first in
+      let e : s ≡ first + k = omega arith in
+      let l : k < p .symbols = omega arith in
+      ap (soFar p word j r x) e ∙ so-row r x k l ∙ hr k l e)
+      (λ (b : first + p .symbols ≤ s). so-past r x s b ∙ hp b)
+      (lt-or-le s (first + p .symbols)))
+      (lt-or-le s first)
+
+  same-row : (r x u v s : ℕ) → ((y : ℕ) → j * p .symbols ≤ y → y < j * p .symbols + p .symbols → s ≡ j * unit p + p .count + (y - j * p .symbols)
+      → pick (sooner (stride (p .rows)) r x y) (placed p word y) 0 ≡ pick (sooner (stride (p .rows)) u v y) (placed p word y) 0) → soFar p word j r x s ≡ soFar p word j u v s
+  same-row r x u v s h =
+      by-row r x s (soFar p word j u v s)
+      (λ l. sym (so-front u v s l))
+      (λ k l e. h (j * p .symbols + k) (omega arith) (omega arith) (omega arith) ∙ sym (ap (soFar p word j u v) e ∙ so-row u v k l))
+      (λ l. sym (so-past u v s l))
+
+  -- before the first residue, and behind the last
+  pub row-begun : (s : ℕ) → front p word (j * unit p + p .count) s ≡ soFar p word j 0 0 s
+  row-begun s =
+      let n : ℕ = stride (p .rows) in
+      let first : ℕ = j * unit p + p .count in
+      sym (by-row 0 0 s (front p word first s) (λ l. sym (cut-in first (symbolAt p word) s l))
+      (λ k l e.
+      let y : ℕ = j * p .symbols + k in
+      let le : first ≤ s = omega arith in
+      let none : sooner n 0 0 y ≡ false =
+      ⊎-elim
+      (λ (h : y % n ≡ 0). let z : 0 ≤ y = omega arith in sooner-same n 0 0 y h ∙ le-ltb y 0 z)
+      (λ (h : y % n ≡ 0 → ⊥). let z : 0 ≤ y % n = omega arith in sooner-other n 0 0 y h ∙ le-ltb (y % n) 0 z)
+      (eq-or-ne (y % n) 0) in
+      ap (λ (t : Bool). pick t (placed p word y) 0) none ∙ sym (cut-past first (symbolAt p word) s le))
+      (λ l. let le : first ≤ s = omega arith in sym (cut-past first (symbolAt p word) s le)))
+
+  pub row-ended : 1 ≤ p .rows → (s : ℕ) → soFar p word j (stride (p .rows)) 0 s ≡ front p word ((j + 1) * unit p) s
+  row-ended least s =
+      let n : ℕ = stride (p .rows) in
+      let end : ℕ = (j + 1) * unit p in
+      by-row n 0 s (front p word end s) (λ l. let m : s < end = omega arith in sym (cut-in end (symbolAt p word) s m))
+      (λ k l e.
+      let y : ℕ = j * p .symbols + k in
+      let m : s < end = omega arith in
+      let low : y % n < n = mod-lt y (stride-least (p .rows) least) in
+      let all : sooner n n 0 y ≡ true = sooner-other n n 0 y (λ z. omega arith) ∙ lt-ltb (y % n) n low in
+      ap (λ (t : Bool). pick t (placed p word y) 0) all ∙ sym (cut-in end (symbolAt p word) s m ∙ ap (symbolAt p word) e ∙ row-place k l))
+      (λ l. let m : end ≤ s = omega arith in sym (cut-past end (symbolAt p word) s m))
+
+  module _ (fine : Fine p) (r : ℕ) (small : r < stride (p .rows)) where
+    -- the first place of the residue that can be hit
+    pub residue-first : (x first : ℕ) → first % stride (p .rows) ≡ r → j * p .symbols ≤ first → x ≡ max first (delay (p .rows) (p .step) (r % p .rows) + r)
+        → (x % stride (p .rows) ≡ r) × (j * p .symbols ≤ x) × (delay (p .rows) (p .step) (r % p .rows) + r ≤ x)
+    residue-first x first res from e =
+        let n : ℕ = stride (p .rows) in
+        let d : ℕ = delay (p .rows) (p .step) (r % p .rows) in
+        let far : (d + r) % n ≡ r = let c : d + r ≡ r + d = omega arith in ap (λ (v : ℕ). v % n) c ∙ stride-delay (p .rows) (p .step) r r ∙ mod-eq-of-lt small in
+        let m : x % n ≡ r =
+        ⊎-elim
+        (λ (l : first < d + r). let q : x ≡ d + r = omega arith in ap (λ (v : ℕ). v % n) q ∙ far)
+        (λ (l : d + r ≤ first). let q : x ≡ first = omega arith in ap (λ (v : ℕ). v % n) q ∙ res)
+        (lt-or-le first (d + r)) in
+        (m, omega arith, omega arith)
+
+    -- from there on: the places of the residue before it hold 0
+    pub residue-begun : (x first : ℕ) → first % stride (p .rows) ≡ r → first < j * p .symbols + stride (p .rows) → x ≡ max first (delay (p .rows) (p .step) (r % p .rows) + r)
+        → (s : ℕ) → soFar p word j r 0 s ≡ soFar p word j r x s
+    residue-begun x first res near e s =
+        let n : ℕ = stride (p .rows) in
+        same-row r 0 r x s (λ y a b q. ⊎-elim
+        (λ (h : y % n ≡ r).
+        let z : 0 ≤ y = omega arith in
+        ap (λ (t : Bool). pick t (placed p word y) 0) (sooner-same n r 0 y h ∙ le-ltb y 0 z)
+        ∙ ⊎-elim
+        (λ (l : y < x).
+        let from : first ≤ y =
+        ⊎-elim (λ (c : y < first). let f : y + n ≤ first = apart n y first (h ∙ sym res) c in absurd (omega arith)) (λ (c : first ≤ y). c) (lt-or-le y first) in
+        let none : placed p word y ≡ 0 = placed-early p fine word r y h (not-yet p fine word r y h small (omega arith)) in
+        sym (rw (sooner-same n r x y h, lt-ltb y x l) none))
+        (λ (l : x ≤ y). sym (rw (sooner-same n r x y h, le-ltb y x l) refl))
+        (lt-or-le y x))
+        (λ (h : y % n ≡ r → ⊥). ap (λ (t : Bool). pick t (placed p word y) 0) (sooner-other n r 0 y h ∙ sym (sooner-other n r x y h)))
+        (eq-or-ne (y % n) r))
+
+    -- behind its last place that is hit
+    pub residue-ended : (x end : ℕ) → end ≡ min (j * p .symbols + p .symbols) (delay (p .rows) (p .step) (r % p .rows) + total p) → end ≤ x
+        → (s : ℕ) → soFar p word j r x s ≡ soFar p word j (r + 1) 0 s
+    residue-ended x end e far s =
+        let n : ℕ = stride (p .rows) in
+        same-row r x (r + 1) 0 s (λ y a b q. ⊎-elim
+        (λ (h : y % n ≡ r).
+        let next : y % n ≡ r + 1 → ⊥ = λ z. omega arith in
+        let low : y % n < r + 1 = omega arith in
+        let after : sooner n (r + 1) 0 y ≡ true = sooner-other n (r + 1) 0 y next ∙ lt-ltb (y % n) (r + 1) low in
+        ⊎-elim
+        (λ (l : y < x). rw (sooner-same n r x y h, lt-ltb y x l, after) refl)
+        (λ (l : x ≤ y). rw (sooner-same n r x y h, le-ltb y x l, after) (sym (placed-late p fine word r y h (omega arith))))
+        (lt-or-le y x))
+        (λ (h : y % n ≡ r → ⊥). ap (λ (t : Bool). pick t (placed p word y) 0) (sooner-other n r x y h ∙ ⊎-elim
+        (λ (g : y % n ≡ r + 1). let z : 0 ≤ y = omega arith in let f : r ≤ y % n = omega arith in le-ltb (y % n) r f ∙ sym (sooner-same n (r + 1) 0 y g ∙ le-ltb y 0 z))
+        (λ (g : y % n ≡ r + 1 → ⊥). ⊎-elim
+        (λ (l : y % n < r). let m : y % n < r + 1 = omega arith in lt-ltb (y % n) r l ∙ sym (sooner-other n (r + 1) 0 y g ∙ lt-ltb (y % n) (r + 1) m))
+        (λ (l : r ≤ y % n). let m : r + 1 ≤ y % n = omega arith in le-ltb (y % n) r l ∙ sym (sooner-other n (r + 1) 0 y g ∙ le-ltb (y % n) (r + 1) m))
+        (lt-or-le (y % n) r))
+        (eq-or-ne (y % n) (r + 1))))
+        (eq-or-ne (y % n) r))
+
+    -- one place more: the pulse of its symbol is moved
+    pub residue-more : (x at q end : ℕ) (slots after : List ℕ) → j < p .lines → x % stride (p .rows) ≡ r → j * p .symbols ≤ x → x < j * p .symbols + p .symbols
+        → at ≡ j * p .count + p .count + x → q ≡ placed p word x → Holds p (soFar p word j r x) end slots
+        → after ≡ flipBit (flipBit slots (at * p .group)) (at * p .group + q) → Bytes after → Holds p (soFar p word j r (x + stride (p .rows))) end after
+    residue-more x at q end slots after line res a b place same h e bytes =
+        let n : ℕ = stride (p .rows) in
+        let k : ℕ = x - j * p .symbols in
+        let s : ℕ = j * unit p + p .count + k in
+        let l : k < p .symbols = omega arith in
+        let here : j * p .symbols + k ≡ x = omega arith in
+        let is : at ≡ s = omega arith in
+        let inside : s < symbolCount p = omega (arith, row-inside p j line) in
+        let least : 1 ≤ n = stride-least (p .rows) (fine .rows-least) in
+        let le : x ≤ x = omega arith in
+        let lt : x < x + n = omega arith in
+        let low : q < p .group = rw same (let c = placed-below p fine word x in let d = bounds p fine .group-least in omega arith) in
+        holds-moved p (soFar p word j r x) (soFar p word j r (x + n)) end s q slots inside low
+        (so-row r x k l ∙ rw (here, sooner-same n r x x res, le-ltb x x le) refl)
+        (so-row r (x + n) k l ∙ rw (here, sooner-same n r (x + n) x res, lt-ltb x (x + n) lt) (sym same))
+        (λ u ne. same-row r x r (x + n) u (λ y c d z.
+        let other : y ≡ x → ⊥ = λ w. ne (omega arith) in
+        ap (λ (t : Bool). pick t (placed p word y) 0) (sooner-on n r x y res other)))
+        h after (e ∙ ap (λ (v : ℕ). flipBit (flipBit slots (v * p .group)) (v * p .group + q)) is) bytes

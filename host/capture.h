@@ -1,0 +1,43 @@
+/*
+ * What a capture holds at each symbol of a run, sound or damaged.
+ *
+ * This is plain C, to count and to show with. No answer about a run rests on it: that is the
+ * library's alone.
+ */
+#ifndef CAPTURE_H
+#define CAPTURE_H
+
+#include <stdbool.h>
+#include <stdint.h>
+
+#include "stands.h"
+
+struct capture {
+    struct sheet run;
+    struct bytes slots;
+    uint64_t present; /* symbols whose slots are all there: a capture can be cut short */
+};
+
+/* Lays a header over slots of any length. The number of the question that the header fails, or 0.
+ */
+unsigned capture_of(const struct bytes *header, const struct bytes *slots, struct capture *capture);
+
+/* The pulses of a symbol; places count from its first slot. */
+struct group {
+    unsigned pulses, guard_pulses; /* among the M slots, and behind them */
+    uint64_t first, second, guard; /* the first two of the former, the first of the latter */
+};
+
+struct group group_of(const struct capture *capture, uint64_t symbol);
+bool pulse_at(const struct capture *capture, uint64_t slot);
+
+/* What can be wrong with a symbol; each has the first of these that holds. */
+enum fault { MISSING, GUARD_PULSE, NO_PULSE, SEVERAL_PULSES, WRONG_MARKER, NOT_ZERO, SOUND };
+enum { FAULTS = SOUND };
+
+enum fault fault_of(const struct capture *capture, const uint8_t *marker, uint64_t symbol);
+
+/* The slot to look at: the pulse that should not be there, or the symbol's first slot. */
+uint64_t fault_slot(const struct capture *capture, uint64_t symbol, enum fault fault);
+
+#endif

@@ -1,0 +1,39 @@
+#include "commands.h"
+
+enum { WRITES = WITH(NO_CLOBBER) | WITH(FORCE) };
+
+const struct command COMMANDS[] = {
+    {"write", "HEADER MARKER FRAMES", NULL, "SLOTS", WRITES, true, write_command,
+     "makes the slots of the frames"},
+    {"read", "HEADER MARKER SLOTS", NULL, "FRAMES", WRITES, true, read_command,
+     "accepts slots only if some frames make them, and gives those frames back"},
+    {"verify", "HEADER MARKER SLOTS", NULL, NULL, 0, true, verify_command,
+     "does what read does, and writes nothing"},
+    {"sheet", "HEADER", NULL, NULL, WITH(LONG) | WITH(JSON), true, sheet_command,
+     "code rate, M, N, B, F, W, A, blocks, symbols, slots; or `no` and a number"},
+    {"header", NULL, "FIELD=VALUE...", NULL, WRITES | WITH(OUTPUT), false, header_command,
+     "makes a header: rate=1/2 m=6 N=84 B=120 F=223 W=16 A=2"},
+    {"explain", NULL, "NUMBER", NULL, 0, false, explain_command,
+     "says what the number of a refusal means"},
+    {"inspect", "HEADER MARKER SLOTS", NULL, NULL, WITH(SVG), false, inspect_command,
+     "counts and lists what is wrong in a capture; corrects nothing"},
+    {"show", "HEADER SLOTS", "FROM COUNT", NULL, 0, false, show_command,
+     "draws symbols of a capture as slots"},
+    {"batch", "LIST", NULL, NULL, WITH(JOBS) | WITH(RESULTS), false, batch_command,
+     "writes or reads the runs of a list, on all cores; skips what is done"},
+    {NULL, NULL, NULL, NULL, 0, false, NULL, NULL}};
+
+const struct option_line OPTIONS[OPTION_COUNT] = {
+    [LOG] = {"log", '\0', "FILE", "adds the line of the log to this file"},
+    [QUIET] = {"quiet", 'q', NULL, "says nothing but refusals and failures"},
+    [NO_CLOBBER] = {"no-clobber", 'n', NULL, "leaves a file alone that has the output's name"},
+    [FORCE] = {"force", 'f', NULL, "writes bytes to a terminal too"},
+    [OUTPUT] = {"output", 'o', "FILE", "writes the header's bytes to this file"},
+    [LONG] = {"long", 'l', NULL, "prints fields and sizes by name, one to a line"},
+    [JSON] = {"json", 'j', NULL, "prints them as JSON"},
+    [JOBS] = {"jobs", '\0', "NUMBER", "as many runs at once; all cores otherwise"},
+    [RESULTS] = {"results", '\0', "FILE", "adds the results to this file; LIST.results otherwise"},
+    [SVG] = {"svg", '\0', "FILE", "draws the capture into this file"},
+    [HELP] = {"help", 'h', NULL, "prints this"},
+    [VERSION] = {"version", '\0', NULL, "prints the version"},
+};

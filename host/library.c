@@ -1,0 +1,118 @@
+#include "library.h"
+
+#include <pthread.h>
+#include <signal.h>
+#include <stdlib.h>
+
+#include "mahyrei.h"
+#include "report.h"
+
+enum { CALL_STACK = 4 << 20 };
+
+/* One call, and its answer. */
+struct call {
+    const struct lent *lent;
+    bool writing;
+    uint64_t answer;
+};
+
+static void *make_call(void *given) {
+    struct call *const call = given;
+    const struct lent *const lent = call->lent;
+    const struct bytes *const header = &lent->header, *const marker = &lent->marker,
+                              *const frames = &lent->frames, *const slots = &lent->slots;
+    call->answer = call->writing ? run_write(header->at, header->len, marker->at, marker->len,
+                                             frames->at, frames->len, slots->at, slots->len)
+                                 : run_read(header->at, header->len, marker->at, marker->len,
+                                            slots->at, slots->len, frames->at, frames->len);
+    return NULL;
+}
+
+/* A word to be read. */
+struct word_call {
+    uint64_t rate;
+    const uint8_t *word;
+    uint8_t *block;
+    uint64_t answer;
+};
+
+static void *make_word_call(void *given) {
+    struct word_call *const call = given;
+    call->answer = word_read(call->rate, call->word, MAHYREI_WORD_BYTES, call->block,
+                             word_block_bytes(call->rate));
+    return NULL;
+}
+
+/* Starts a thread that no signal comes to, so that handlers run where the program waits. */
+static int start(pthread_t *thread, void *(*make)(void *), void *call) {
+    sigset_t all, before;
+    pthread_attr_t attributes;
+    int error = pthread_attr_init(&attributes);
+    if (error != 0) {
+        return error;
+    }
+    sigfillset(&all);
+    pthread_sigmask(SIG_BLOCK, &all, &before);
+    error = pthread_attr_setstacksize(&attributes, CALL_STACK);
+    error = error != 0 ? error : pthread_create(thread, &attributes, make, call);
+    pthread_sigmask(SIG_SETMASK, &before, NULL);
+    pthread_attr_destroy(&attributes);
+    return error;
+}
+
+static bool on_its_stack(void *(*make)(void *), void *call) {
+    pthread_t thread;
+    int error = start(&thread, make, call);
+    error = error != 0 ? error : pthread_join(thread, NULL);
+    if (error != 0) {
+        complain("a stack of 4 MiB for the library", error);
+        return false;
+    }
+    return true;
+}
+
+static bool ask(struct call *call, uint64_t *answer) {
+    if (!on_its_stack(make_call, call)) {
+        return false;
+    }
+    *answer = call->answer;
+    return true;
+}
+
+bool library_write(const struct lent *lent, uint64_t *answer) {
+    struct call call = {lent, true, 0};
+    return ask(&call, answer);
+}
+
+bool library_read(const struct lent *lent, uint64_t *answer) {
+    struct call call = {lent, false, 0};
+    return ask(&call, answer);
+}
+
+bool library_word_read(uint64_t rate, const uint8_t *word, uint8_t *block, uint64_t *answer) {
+    struct word_call call = {rate, word, block, 0};
+    if (!on_its_stack(make_word_call, &call)) {
+        return false;
+    }
+    *answer = call.answer;
+    return true;
+}
+
+/* With nothing else lent, a good header comes as far as 8: its marker has at least one symbol, and
+ * none is there. */
+bool library_header(const struct bytes *header, uint64_t *answer) {
+    const struct lent lent = {.header = *header};
+    if (!library_write(&lent, answer)) {
+        return false;
+    }
+    *answer = answer_number(*answer) == MAHYREI_BAD_LENGTH ? MAHYREI_ACCEPTED : *answer;
+    return true;
+}
+
+void free_lent(struct lent *lent) {
+    free(lent->header.at);
+    free(lent->marker.at);
+    free(lent->frames.at);
+    free(lent->slots.at);
+    *lent = (struct lent){0};
+}

@@ -1,0 +1,30 @@
+/*
+ * The calls of the library. A run call works in less than 1 MiB of stack, and the caller of this
+ * program may have allowed less: so the calls get a stack of their own. Where there is none to be
+ * had, that is said, and the answer is false.
+ */
+#ifndef LIBRARY_H
+#define LIBRARY_H
+
+#include <stdbool.h>
+#include <stdint.h>
+
+#include "files.h"
+
+/* What a run call is lent. */
+struct lent {
+    struct bytes header, marker, frames, slots;
+};
+
+bool library_write(const struct lent *lent, uint64_t *answer);
+bool library_read(const struct lent *lent, uint64_t *answer);
+
+/* A word of MAHYREI_WORD_BYTES, and room for a block of this rate. */
+bool library_word_read(uint64_t rate, const uint8_t *word, uint8_t *block, uint64_t *answer);
+
+/* The answer to a header alone: 0, or a number from 1 to 7, and of 7 only W's range. */
+bool library_header(const struct bytes *header, uint64_t *answer);
+
+void free_lent(struct lent *lent);
+
+#endif

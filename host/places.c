@@ -1,0 +1,167 @@
+#include "places.h"
+
+#include <inttypes.h>
+#include <stdio.h>
+#include <string.h>
+
+#include "report.h"
+#include "stands.h"
+
+static const char *shown(const char *operand) {
+    return is_dash(operand) ? "standard input" : operand;
+}
+
+static const char *plural(size_t count) {
+    return count == 1 ? "" : "s";
+}
+
+/* ---- headers: numbers 1 to 7 */
+
+static void say_header_bytes(const struct bytes *header, const char *about) {
+    if (header->len != MAHYREI_HEADER_BYTES) {
+        remark(about, "the header has %zu byte%s%s, and needs %d", header->len, plural(header->len),
+               header->len == HEADER_LIMIT ? " or more" : "", MAHYREI_HEADER_BYTES);
+    } else {
+        remark(about, "the last 16 bits of the header are %02X%02X", header->at[6], header->at[7]);
+    }
+}
+
+void say_field(struct mahyrei_fields *fields, const char *about) {
+    const char *wrong = NULL;
+    const unsigned number = mahyrei_fields_check(fields, &wrong);
+    if (number == MAHYREI_BAD_FIT) {
+        remark(about, "N is %" PRIu64 ", B is %" PRIu64 ", and S is %" PRIu64, fields->N, fields->B,
+               MAHYREI_WORD_BITS / fields->m);
+    } else if (wrong != NULL) {
+        remark(about, "%s is %" PRIu64, wrong, *mahyrei_field(fields, wrong));
+    }
+}
+
+void say_header(unsigned number, const struct bytes *header, const char *operand) {
+    struct mahyrei_fields fields;
+    if (number == MAHYREI_BAD_HEADER) {
+        say_header_bytes(header, shown(operand));
+    } else {
+        mahyrei_header_fields(header->at, header->len, &fields);
+        say_field(&fields, shown(operand));
+    }
+}
+
+/* Number 7 of a run, where W is in range. */
+static void say_marker(const struct sheet *sheet, const struct bytes *marker, const char *about) {
+    for (size_t i = 0; i < marker->len && i < sheet->sizes.marker_bytes; i++) {
+        if (marker->at[i] >= sheet->sizes.M) {
+            remark(about, "symbol %zu of the marker is %u, and M is %" PRIu64, i, marker->at[i],
+                   sheet->sizes.M);
+            return;
+        }
+    }
+}
+
+/* ---- sizes: number 8 */
+
+static void say_size(const struct bytes *bytes, const char *operand, const char *what,
+                     size_t implied, size_t limit) {
+    if (bytes->len != implied) {
+        remark(shown(operand), "the %s have %zu byte%s%s, and the header implies %zu", what,
+               bytes->len, plural(bytes->len), bytes->len == limit ? " or more" : "", implied);
+    }
+}
+
+static void say_sizes(const struct sheet *sheet, const struct lent *run,
+                      const struct operands *operands) {
+    const struct mahyrei_sizes *const sizes = &sheet->sizes;
+    say_size(&run->marker, operands->marker, "marker's symbols", sizes->marker_bytes, MARKER_LIMIT);
+    if (operands->frames != NULL) {
+        say_size(&run->frames, operands->frames, "frames", sizes->frame_bytes, FRAMES_LIMIT);
+    }
+    if (operands->slots != NULL) {
+        say_size(&run->slots, operands->slots, "slots", sizes->slot_bytes, SLOTS_LIMIT);
+    }
+}
+
+/* ---- places: numbers 9 to 18 */
+
+static void say_spare(const struct sheet *sheet, const struct lent *run, const char *about) {
+    const size_t last = sheet->sizes.slot_bytes - 1;
+    if (last >= run->slots.len) {
+        return;
+    }
+    remark(about, "the slots end with slot %" PRIu64 "; the last byte, %zu, is %02X",
+           sheet->sizes.slots - 1, last, run->slots.at[last]);
+}
+
+static void say_symbol(const struct sheet *sheet, uint64_t symbol, const char *about) {
+    const uint64_t first = symbol * sheet->sizes.group, last = first + sheet->sizes.group - 1;
+    remark(about,
+           "symbol %" PRIu64 " is slots %" PRIu64 " to %" PRIu64 ", in bytes %" PRIu64
+           " to %" PRIu64,
+           symbol, first, last, first / 8, last / 8);
+}
+
+/* A word's symbols lie apart, so the first and the last of them are said. */
+static void say_word(const struct sheet *sheet, uint64_t word, const char *about) {
+    const uint64_t S = sheet->sizes.S, group = sheet->sizes.group;
+    uint64_t first = UINT64_MAX, last = 0;
+    for (uint64_t at = 0; at < S; at++) {
+        const uint64_t symbol = symbol_of(sheet, word, at);
+        first = symbol < first ? symbol : first;
+        last = symbol > last ? symbol : last;
+    }
+    remark(about,
+           "word %" PRIu64 " has its symbols from %" PRIu64 " to %" PRIu64 ": slots %" PRIu64
+           " to %" PRIu64 ", bytes %" PRIu64 " to %" PRIu64,
+           word, first, last, first * group, last * group + group - 1, first * group / 8,
+           (last * group + group - 1) / 8);
+}
+
+/* A frame marker or the fill, by the word that its first bit is in. */
+static void say_stream(const struct sheet *sheet, uint64_t frame, const char *what,
+                       const char *about) {
+    const uint64_t bit = frame * marked_bits(sheet);
+    const uint64_t word = bit / sheet->sizes.k;
+    remark(about, "%s begins at bit %" PRIu64 " of the block of word %" PRIu64, what,
+           bit % sheet->sizes.k, word);
+    say_word(sheet, word, about);
+}
+
+static void say_place(unsigned number, uint64_t place, const struct sheet *sheet,
+                      const char *about) {
+    switch (number) {
+    case MAHYREI_BAD_PULSE:
+    case MAHYREI_WRONG_MARKER:
+    case MAHYREI_BAD_IDLE:
+        say_symbol(sheet, place, about);
+        break;
+    case MAHYREI_BAD_CODE:
+    case MAHYREI_BAD_TERMINATION:
+    case MAHYREI_BAD_CHECK:
+        say_word(sheet, place, about);
+        break;
+    case MAHYREI_BAD_FRAME_MARKER:
+        say_stream(sheet, place, "the frame's marker", about);
+        break;
+    case MAHYREI_BAD_FILL:
+        say_stream(sheet, sheet->fields.A, "the fill", about);
+        break;
+    default:
+        break;
+    }
+}
+
+void say_where(uint64_t answer, const struct lent *run, const struct operands *operands) {
+    const unsigned number = answer_number(answer);
+    struct sheet sheet;
+    const unsigned refused = sheet_of(&run->header, &sheet);
+    if (refused != MAHYREI_ACCEPTED) {
+        say_header(refused, &run->header, operands->header);
+    } else if (number == MAHYREI_BAD_MARKER) {
+        say_marker(&sheet, &run->marker, shown(operands->marker));
+    } else if (number == MAHYREI_BAD_LENGTH) {
+        say_sizes(&sheet, run, operands);
+    } else if (number == MAHYREI_BAD_SPARE) {
+        say_spare(&sheet, run, shown(operands->slots));
+    } else {
+        say_place(number, answer_place(answer), &sheet, shown(operands->slots));
+    }
+}

@@ -1,0 +1,24 @@
+/* After a refusal: which field, file, slot or byte it is about. */
+#ifndef PLACES_H
+#define PLACES_H
+
+#include <stdint.h>
+
+#include "library.h"
+#include "mahyrei_plain.h"
+
+/* The operands that were lent, as they were given. */
+struct operands {
+    const char *header, *marker, *frames, *slots;
+};
+
+/* Says on standard error what more there is to say about this answer. */
+void say_where(uint64_t answer, const struct lent *run, const struct operands *operands);
+
+/* The same for a header alone, whose number this is. */
+void say_header(unsigned number, const struct bytes *header, const char *operand);
+
+/* The same for fields that do not make one. */
+void say_field(struct mahyrei_fields *fields, const char *about);
+
+#endif

@@ -1,0 +1,42 @@
+#include "mahyrei_plain.h"
+
+/* One line a number: the same as in README's table but without its marks, and as in the man page.
+ */
+static const char *const SENTENCES[] = {
+    [MAHYREI_ACCEPTED] = "All is well: the result has been written, every byte of it.",
+    [MAHYREI_BAD_HEADER] = "The header is not eight bytes long, or one of its last 16 bits is set.",
+    [MAHYREI_BAD_RATE] = "There is no such code rate; it is 0, 1 or 2.",
+    [MAHYREI_BAD_ORDER] = "There is no such pulse order; m is 2 to 8.",
+    [MAHYREI_BAD_ROWS] = "The channel interleaver is out of range; N is 1 to 128 and B is 1 to "
+                         "256.",
+    [MAHYREI_BAD_FIT] = "N and B do not fit the pulse order: N * (N - 1) * B is not a multiple of "
+                        "S, the symbols of a word.",
+    [MAHYREI_BAD_FRAMES] = "The frames are out of range; F is 1 to 2048 bytes and A is 1 to 64 "
+                           "frames.",
+    [MAHYREI_BAD_MARKER] = "The marker is out of range: W is not 1 to 32, or a lent marker symbol "
+                           "is not below the pulse order.",
+    [MAHYREI_BAD_LENGTH] = "A lent slice is longer or shorter than the rate or the header says.",
+    [MAHYREI_BAD_SPARE] = "A spare bit is set, behind the block's bits or behind the last slot.",
+    [MAHYREI_BAD_PULSE] = "A symbol's slots do not hold exactly one pulse, or it stands in a guard "
+                          "slot; the place is that symbol, markers counted.",
+    [MAHYREI_WRONG_MARKER] = "A marker symbol is not the one that was lent; the place is that "
+                             "symbol, markers counted.",
+    [MAHYREI_BAD_IDLE] = "A symbol that must be 0, since the channel interleaver puts nothing "
+                         "there, is not; the place is that symbol, markers counted.",
+    [MAHYREI_BAD_CODE] = "A word was damaged: no input of the code makes it; the place is the "
+                         "word, or in word_read the first wrong coded bit.",
+    [MAHYREI_BAD_TERMINATION] = "The two bits that end a word's input are not zero; the place is "
+                                "the word, or 0 in word_read.",
+    [MAHYREI_BAD_CHECK] = "A word's check is not that of its block; the place is the word, or 0 in "
+                          "word_read.",
+    [MAHYREI_BAD_FRAME_MARKER] = "The frame marker does not stand where a frame should begin; the "
+                                 "place is that frame.",
+    [MAHYREI_BAD_FILL_LENGTH] = "A whole block or more would be fill; no call ever answers this, "
+                                "since the header fixes the number of blocks.",
+    [MAHYREI_BAD_FILL] = "A fill bit behind the last frame is set; the run may hold more than the "
+                         "header says.",
+};
+
+const char *mahyrei_sentence(unsigned number) {
+    return number < sizeof SENTENCES / sizeof SENTENCES[0] ? SENTENCES[number] : NULL;
+}

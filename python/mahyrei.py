@@ -1,0 +1,224 @@
+"""Words and runs of CCSDS high photon efficiency optical telemetry, over libmahyrei.
+
+    import mahyrei
+
+    header = mahyrei.header(rate=1, m=4, N=5, B=189, F=500, W=5, A=3)
+    slots = mahyrei.run_write(header, marker, frames)
+    try:
+        frames = mahyrei.run_read(header, marker, slots)
+    except mahyrei.Refused as refusal:
+        print(refusal.number, refusal.place, refusal.sentence)
+
+Everything is `bytes`, in and out; other objects with a buffer, such as bytearray and memoryview,
+are taken too and copied first. A call gives its whole result or raises Refused. What a refusal says
+comes from the library: run_write, run_read, word_write and word_read are proved there; header,
+fields, sizes and sentence are plain C, and tested. This module adds nothing to their answers; it
+only lends them room.
+
+A call works in less than 1 MiB of stack, so a thread that makes one needs a stack above that (see
+threading.stack_size; 0, the default, is enough on Linux). Calls let other threads run meanwhile.
+
+The library is the file that MAHYREI_LIBRARY names, or else the one that was installed with this
+module, or else the one that the system finds.
+"""
+
+import collections
+import ctypes
+import operator
+import os
+
+__all__ = [
+    "Fields",
+    "Refused",
+    "Sizes",
+    "fields",
+    "header",
+    "run_read",
+    "run_write",
+    "sentence",
+    "sizes",
+    "word_read",
+    "word_write",
+]
+
+# `make install` puts the whole path here.
+_LIBRARY = "libmahyrei.so.0"
+
+_HEADER_BYTES = 8
+_WORD_BYTES = 1890
+_BLOCK_BYTES = (626, 941, 1256)  # by rate
+_U64_MOST = 2**64 - 1
+
+
+class Refused(Exception):
+    """The library refused a call, and nothing was written.
+
+    number    that of the first question answered no, as in README and mahyrei(3)
+    place     what fails it first, counted from 0; 0 where the number has no place
+    sentence  what the number tells the operator
+    """
+
+    def __init__(self, number, place):
+        self.number = number
+        self.place = place
+        self.sentence = sentence(number)
+        super().__init__(number, place)
+
+    def __str__(self):
+        return f"refused, number {self.number}, place {self.place}: {self.sentence}"
+
+
+Fields = collections.namedtuple("Fields", "rate m N B F W A")
+Fields.__doc__ = "The fields of a header, by document 01's letters; rate is 0, 1 or 2."
+
+Sizes = collections.namedtuple(
+    "Sizes", "k M group S C R symbols slots marker_bytes frame_bytes slot_bytes"
+)
+Sizes.__doc__ = """What follows from a header.
+
+k             information bits of a block
+M             pulse order
+group         slots of a symbol, guard slots counted
+S             symbols of a word
+C             blocks, and words
+R             rows of S symbols, each with a marker before it
+symbols       of the run, markers counted
+slots         of the run
+marker_bytes, frame_bytes, slot_bytes
+              of what the run calls take and give
+"""
+
+
+class _CFields(ctypes.Structure):
+    _fields_ = [(name, ctypes.c_uint64) for name in Fields._fields]
+
+
+class _CSizes(ctypes.Structure):
+    _fields_ = [
+        (name, ctypes.c_size_t if name.endswith("_bytes") else ctypes.c_uint64)
+        for name in Sizes._fields
+    ]
+
+
+def _load():
+    """The library, with the types of its calls."""
+    library = ctypes.CDLL(os.environ.get("MAHYREI_LIBRARY") or _LIBRARY)
+    u64, size, text = ctypes.c_uint64, ctypes.c_size_t, ctypes.c_char_p
+    number, pointer = ctypes.c_uint, ctypes.POINTER
+    given = [text, size]  # a slice that is read
+    room = [ctypes.c_void_p, size]  # one that is written
+    for name, result, arguments in (
+        ("word_write", u64, [u64] + given + room),
+        ("word_read", u64, [u64] + given + room),
+        ("run_write", u64, given * 3 + room),
+        ("run_read", u64, given * 3 + room),
+        ("mahyrei_header_fields", number, given + [pointer(_CFields)]),
+        ("mahyrei_header_make", number, [pointer(_CFields), ctypes.c_void_p, pointer(text)]),
+        ("mahyrei_sizes", number, given + [pointer(_CSizes)]),
+        ("mahyrei_sentence", text, [number]),
+    ):
+        call = getattr(library, name)
+        call.restype, call.argtypes = result, arguments
+    return library
+
+
+_library = _load()
+
+
+def _bytes(value):
+    """Bytes that nobody changes during a call. A number or a text is a TypeError here, not some
+    bytes of its own making."""
+    return value if type(value) is bytes else memoryview(value).tobytes()
+
+
+def _number(value):
+    """A number for the library. What it could not hold becomes its largest, which is out of every
+    range, so that nothing is cut down to a number that would be let through."""
+    value = operator.index(value)
+    return value if 0 <= value <= _U64_MOST else _U64_MOST
+
+
+def _written(call, slices, length):
+    """What a call writes into so many bytes, or Refused."""
+    room = ctypes.create_string_buffer(max(length, 1))
+    arguments = [part for value in slices for part in (value, len(value))]
+    answer = call(*arguments, room, length)
+    if answer != 0:
+        raise Refused(answer & 255, answer >> 8)
+    return ctypes.string_at(room, length)
+
+
+def word_write(rate, block):
+    """The word, 1,890 bytes, of a packed block of this rate: 626, 941 or 1,256 bytes for rate 0
+    (1/3), 1 (1/2) and 2 (2/3), the last two bits zero. Refused with 2, 8 or 9."""
+    block, rate = _bytes(block), _number(rate)
+    return _written(
+        lambda *rest: _library.word_write(rate, *rest), [block], _WORD_BYTES
+    )
+
+
+def word_read(rate, word):
+    """The packed block that makes this word at this rate. Refused with 2, 8, 13, 14 or 15; for 13
+    the place is the first wrong coded bit."""
+    word, rate = _bytes(word), _number(rate)
+    length = _BLOCK_BYTES[rate] if rate < len(_BLOCK_BYTES) else 0
+    return _written(lambda *rest: _library.word_read(rate, *rest), [word], length)
+
+
+def run_write(header, marker, frames):
+    """The slots of a run: header of eight bytes, marker of W, frames of A times F. Refused with a
+    number from 1 to 8."""
+    slices = [_bytes(header), _bytes(marker), _bytes(frames)]
+    return _written(_library.run_write, slices, _lengths(slices[0]).slot_bytes)
+
+
+def run_read(header, marker, slots):
+    """The frames that make these slots under this header and marker, and no others do. Refused
+    with a number from 1 to 16, or 18. Nothing is corrected."""
+    slices = [_bytes(header), _bytes(marker), _bytes(slots)]
+    return _written(_library.run_read, slices, _lengths(slices[0]).frame_bytes)
+
+
+def _lengths(header):
+    """The sizes, all 0 for a header that is refused: the call itself says why."""
+    found = _CSizes()
+    _library.mahyrei_sizes(header, len(header), found)
+    return found
+
+
+def sizes(header):
+    """What follows from a header, as Sizes. Refused with a number from 1 to 7; of 7 only W's range
+    is asked."""
+    header, found = _bytes(header), _CSizes()
+    number = _library.mahyrei_sizes(header, len(header), found)
+    if number != 0:
+        raise Refused(number, 0)
+    return Sizes(*(getattr(found, name) for name in Sizes._fields))
+
+
+def fields(header):
+    """The fields of a header, as Fields. Refused as sizes does."""
+    header, found = _bytes(header), _CFields()
+    number = _library.mahyrei_header_fields(header, len(header), found)
+    if number != 0:
+        raise Refused(number, 0)
+    return Fields(*(getattr(found, name) for name in Fields._fields))
+
+
+def header(rate, m, N, B, F, W, A):
+    """The header of these fields, eight bytes. Refused with a number from 2 to 7."""
+    given = _CFields(*map(_number, (rate, m, N, B, F, W, A)))
+    room, wrong = ctypes.create_string_buffer(_HEADER_BYTES), ctypes.c_char_p()
+    number = _library.mahyrei_header_make(given, room, wrong)
+    if number != 0:
+        raise Refused(number, 0)
+    return room.raw
+
+
+def sentence(number):
+    """What a number of an answer tells the operator; None where no call gives it."""
+    number = operator.index(number)
+    if not 0 <= number <= 255:
+        return None
+    text = _library.mahyrei_sentence(number)
+    return None if text is None else text.decode()

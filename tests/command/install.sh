@@ -1,0 +1,114 @@
+# What is installed, the man page, and the demo.
+# shellcheck shell=bash disable=SC2034,SC2154
+
+# The man page has README's sentences, all subcommands and all options.
+once_manual() {
+    local text
+    for ((number = 0; number <= 18; number++)); do
+        text=$(awk -v from=".IP $number 4" '$0 == from { on = 1; next } /^\./ { on = 0 }
+            on { printf "%s%s", gap, $0; gap = " " }' "$root/host/mahyrei.1")
+        same "the man page on number $number" "$(sentence "$number")" "$text"
+    done
+    local version word
+    version=$("$mahyrei" --version)
+    has 'version and date of the man page' "\"$version\"" "$(grep '^\.TH' "$root/host/mahyrei.1")"
+    for word in $("$mahyrei" --help | sed -En 's/^  ([a-z]+) +.*/\1/p'); do
+        has "the man page on $word" ".B $word" "$(<"$root/host/mahyrei.1")"
+    done
+    for word in $("$mahyrei" --help | grep -Eo -- '^ +(-., )?--[a-z-]+' | grep -Eo -- '--[a-z-]+'); do
+        has "the man page on $word" "${word//-/\\-}" "$(<"$root/host/mahyrei.1")"
+    done
+    if command -v man >"$said/out"; then
+        same 'what man says of the man page' '' \
+            "$(MANWIDTH=90 man --warnings -l "$root/host/mahyrei.1" 2>&1 >/dev/null)"
+    fi
+}
+
+made() {
+    make -s -C "$root" --no-print-directory "$@" >"$said/out" 2>&1
+    same "status of make $*: $(out)" 0 $?
+}
+
+# What `make install` puts down serves README's example program.
+once_install() {
+    begin
+    local prefix_folder="$work/a prefix" files libraries flags
+    made install PREFIX="$prefix_folder"
+    libraries='lib/libmahyrei.a lib/libmahyrei.so lib/libmahyrei.so.0 lib/libmahyrei.so.0.1.0'
+    files="bin/mahyrei include/mahyrei.h include/mahyrei_plain.h $libraries lib/pkgconfig/mahyrei.pc"
+    files+=' share/bash-completion/completions/mahyrei share/mahyrei/python/mahyrei.py'
+    same 'files of make install' "$files share/man/man1/mahyrei.1 share/man/man3/mahyrei.3" \
+        "$(cd "$prefix_folder" && find . ! -type d -printf '%P\n' | sort | xargs)"
+    nm -g --defined-only "$prefix_folder/lib/libmahyrei.a" >"$said/out"
+    same 'calls of the library' 'run_read run_write word_read word_write' \
+        "$(grep -Eo ' T (run|word)_(read|write)$' "$said/out" | cut -c 4- | sort | xargs)"
+    awk '/^```c$/ { on = 1; next } /^```$/ { on = 0 } on' "$root/README.md" >program.c
+    flags="'-I$prefix_folder/include' '-L$prefix_folder/lib' -lmahyrei"
+    if command -v pkg-config >"$said/out"; then
+        flags=$(PKG_CONFIG_PATH=$prefix_folder/lib/pkgconfig pkg-config --cflags --libs mahyrei)
+    else
+        echo 'command: no pkg-config here; its file is not tried'
+    fi
+    eval "gcc -std=c11 program.c $flags -o program"
+    same 'status of the compiler' 0 $?
+    same 'what the program of README says' $'written: 0\nread: 10, place 100' \
+        "$(LD_LIBRARY_PATH=$prefix_folder/lib ./program)"
+    same 'the installed command' "$("$mahyrei" --version)" "$("$prefix_folder/bin/mahyrei" --version)"
+    made uninstall PREFIX="$prefix_folder"
+    same 'what make uninstall leaves' '' "$(ls -d "$prefix_folder" 2>/dev/null)"
+    made install DESTDIR="$work/stage" PREFIX=/opt/mahyrei
+    same 'a staged command' yes "$([ -x stage/opt/mahyrei/bin/mahyrei ] && echo yes)"
+    has 'prefix of a staged library' 'prefix=/opt/mahyrei' \
+        "$(cat stage/opt/mahyrei/lib/pkgconfig/mahyrei.pc)"
+    : >stage/opt/kept
+    made uninstall DESTDIR="$work/stage" PREFIX=/opt/mahyrei
+    same 'what is left of what was staged' $'stage\nstage/opt\nstage/opt/kept' "$(find stage | sort)"
+}
+
+# A prefix that is named from where one is.
+once_install_here() {
+    begin
+    local here
+    here=$(realpath --relative-to="$root" "$work/here")
+    made install PREFIX="$here"
+    has 'prefix of a library that was put here' "prefix=$root/$here" "$(<here/lib/pkgconfig/mahyrei.pc)"
+    made uninstall PREFIX="$here"
+    same 'what is left here' '' "$(ls -d here 2>/dev/null)"
+}
+
+# What a packager gives adds to what the build needs; clang has warnings of its own.
+once_packager() {
+    begin
+    local compiler=clang
+    command -v clang >"$said/out" || compiler=cc
+    printf '%s\n' '#!/bin/sh' "echo \"\$@\" >>'$work/compiled'" "exec $compiler \"\$@\"" >compiler
+    chmod +x compiler
+    made CC="$work/compiler" CFLAGS='-O0 -g' CPPFLAGS=-DPACKAGED LDFLAGS=-Wl,-z,now \
+        HOST="$work/built" program
+    for word in -O0 -g -DPACKAGED -Wl,-z,now -std=c11 -Iinclude -Werror; do
+        has 'words to the compiler' " $word " " $(cat compiled) "
+    done
+    same 'the command of a packager' "$("$mahyrei" --version)" "$(built/mahyrei --version)"
+}
+
+# Subcommands, options and fields.
+once_completion() {
+    begin
+    completed() {
+        PATH=$folder/bin:$PATH bash -c '. "$1/host/completion.bash"; shift; COMP_WORDS=("$@")
+            COMP_CWORD=$(($# - 1)); _mahyrei 2>/dev/null; echo "${COMPREPLY[*]}"' bash "$root" "$@"
+    }
+    same 'a subcommand' verify "$(completed mahyrei ver)"
+    same 'subcommands' "$("$mahyrei" --help | sed -n 's/^ *\(usage:\)* mahyrei \([a-z]*\) .*/\2/p' |
+        sort | xargs)" "$(completed mahyrei '' | xargs -n 1 | sort | xargs)"
+    same 'an option' --no-clobber "$(completed mahyrei write --no)"
+    same 'a field' 'rate=1/3 rate=1/2 rate=2/3' "$(completed mahyrei header rate)"
+    same 'a file' frames "$(completed mahyrei write "$header" "$marker" fra)"
+    same 'the file of the log' frames "$(completed mahyrei --log fra)"
+    same 'a subcommand behind the log' verify "$(completed mahyrei --log log ver)"
+}
+
+once_demo() {
+    "$root/demo/run" "$mahyrei" "$tool" >"$said/out" 2>&1
+    same 'status of the demo' 0 $?
+}

@@ -1,0 +1,261 @@
+# Where an output goes, and what it keeps.
+# shellcheck shell=bash disable=SC2034,SC2154
+
+test_output_streams() {
+    begin
+    run 2 write "$header" "$marker" frames /dev/full
+    has 'a full device' '/dev/full: No space left on device' "$err"
+    "$mahyrei" read "$header" "$marker" slots - 2>"$said/err" >/dev/full
+    same 'status with a full standard output' 2 $?
+    has 'a full standard output' 'standard output: No space left on device' "$(<"$said/err")"
+    "$mahyrei" sheet "$header" 2>/dev/null >/dev/full
+    same 'status of a sheet that cannot be printed' 2 $?
+    "$mahyrei" --help >/dev/full 2>/dev/null
+    same 'status of help that cannot be printed' 2 $?
+    "$mahyrei" write "$example" "$example_marker" example - 2>"$said/err" | head -c 1 >/dev/null
+    same 'status where nobody reads on' 2 "${PIPESTATUS[0]}"
+    has 'where nobody reads on' 'Broken pipe' "$(<"$said/err")"
+    "$mahyrei" read "$header" "$marker" slots - 2>"$said/err" >&-
+    same 'status with standard output closed' 2 $?
+    run 0 write "$header" "$marker" frames /dev/null
+    same '/dev/null stays a device' yes "$([ -c /dev/null ] && echo yes)"
+    mkfifo pipe
+    timeout 20 cat pipe >got &
+    run 0 write "$header" "$marker" frames pipe
+    wait $!
+    alike 'slots through a pipe' slots got
+    same 'a pipe stays a pipe' yes "$([ -p pipe ] && echo yes)"
+    run 0 write "$header" "$marker" frames /dev/stdout
+    alike 'slots by the name of standard output' slots "$said/out"
+    "$mahyrei" write "$header" "$marker" frames /dev/stdout 2>/dev/null | cmp -s - slots
+    same 'the same through a pipe' '0 0' "${PIPESTATUS[*]}"
+    # All standard files closed: none of what is said may end up in the output.
+    "$mahyrei" write "$header" "$marker" frames out <&- >&- 2>&-
+    same 'status with no standard files' 0 $?
+    alike 'slots with no standard files' slots out
+}
+
+test_links() {
+    begin
+    mkdir elsewhere
+    echo old >elsewhere/real
+    ln -s elsewhere/real link
+    run 0 write "$header" "$marker" frames link
+    same 'a link stays a link' elsewhere/real "$(readlink link)"
+    alike 'the file that a link leads to' slots elsewhere/real
+    same 'files beside it' real "$(ls -A elsewhere)"
+    ln -s nowhere astray
+    list
+    local before=$names
+    run 2 write "$header" "$marker" frames astray
+    has 'a link that leads nowhere' 'astray: No such file or directory' "$err"
+    list
+    same 'files after that' "$before" "$names"
+    ln -s round round
+    run 2 write "$header" "$marker" frames round
+    ln elsewhere/real other
+    run 0 read "$header" "$marker" slots elsewhere/real
+    alike 'another hard link keeps the old bytes' slots other
+}
+
+test_modes() {
+    begin
+    prefix=(bash -c 'umask 027; exec "$@"' bash)
+    run 0 write "$header" "$marker" frames new
+    same 'mode of a new file' 640 "$(stat -c %a new)"
+    echo old >out
+    chmod 604 out
+    run 0 write "$header" "$marker" frames out
+    same 'mode of a file that is replaced' 604 "$(stat -c %a out)"
+    prefix=()
+    if [ "$(id -u)" -eq 0 ]; then # nothing is forbidden to root
+        prefix=(chroot --userspec=65534:65534 --groups= --skip-chdir /)
+        chown -R 65534:65534 "$work"
+    fi
+    cp frames secret
+    chmod 000 secret
+    unharmed 2 'secret: Permission denied' write "$header" "$marker" secret out
+    unharmed 2 'secret: Permission denied' write secret "$marker" frames out
+    rm -f out
+    run 0 write "$header" "$marker" frames out
+    chmod 444 out
+    [ "$(id -u)" -ne 0 ] || chown 65534:65534 out
+    cp out kept
+    run 2 read "$header" "$marker" slots out
+    has 'a file that may not be written' 'out: Permission denied' "$err"
+    alike 'a file that may not be written' kept out
+    mkdir shut
+    chmod 555 shut
+    [ "$(id -u)" -ne 0 ] || chown 65534:65534 shut
+    run 2 write "$header" "$marker" frames shut/out
+    has 'a folder that may not be written' \
+        'shut/out: no temporary file can be made in shut: Permission denied' "$err"
+    chmod 755 shut
+    prefix=()
+}
+
+# /dev/stdout and the like are the open file: what is in it stays, and what follows comes behind.
+test_open_files() {
+    begin
+    local name
+    echo before >before
+    cat before frames >wanted
+    ln -s /dev/stdout link
+    ln -s /proc/self/fd folder
+    for name in /dev/stdout /dev/fd/1 /proc/self/fd/1 /proc/thread-self/fd/1 /dev/../dev//stdout \
+        link folder/1; do
+        cp before archive
+        "$mahyrei" read "$header" "$marker" slots "$name" >>archive 2>"$said/err"
+        same "status with the output $name" 0 $?
+        alike "what is behind $name" wanted archive
+        {
+            echo before
+            "$mahyrei" read "$header" "$marker" slots "$name" 2>/dev/null
+            echo after
+        } >group
+        alike "what a group of commands says with $name" <(cat wanted && echo after) group
+    done
+    cp before archive
+    "$mahyrei" read "$header" "$marker" slots /dev/fd/7 7>>archive 2>/dev/null
+    alike 'a file that was handed over' wanted archive
+    same 'files beside it' '' "$(find . -name '.mahyrei*')"
+    run 2 read "$header" "$marker" slots /dev/fd/9
+    has 'an open file that there is not' '/dev/fd/9: ' "$err"
+    # The log has the first free number; nobody handed that over.
+    for ((i = 3; i < 10; i++)); do
+        run 2 --log log read "$header" "$marker" slots "/dev/fd/$i"
+    done
+    same 'what else is in a log that was not handed over' '' "$(grep -Ev "$log_line" log)"
+    cp before archive
+    exec 7>>archive
+    run 2 read "$header" "$marker" slots "/proc/$BASHPID/fd/7"
+    exec 7>&-
+    has 'the open file of another program' 'the open file of another program' "$err"
+    alike 'that file' before archive
+    cat before slots >input
+    {
+        read -r _
+        "$mahyrei" read "$header" "$marker" /dev/stdin out 2>/dev/null
+    } <input
+    same 'status with the rest of an open file' 0 $?
+    alike 'frames of the rest of an open file' frames out
+}
+
+# Status 0 says that the other copy may be erased: what is on a disk has to be there.
+once_open_files_synced() {
+    begin
+    prefix=(env "LD_PRELOAD=$faults" FAULT=fsync:1:5)
+    for name in - /dev/stdout /dev/fd/7; do
+        run 2 read "$header" "$marker" slots "$name" 7>file
+        has "an open file, as $name, that does not get to the disk" 'Input/output error' "$err"
+    done
+    "${prefix[@]}" "$mahyrei" read "$header" "$marker" slots - 2>"$said/err" | cmp -s - frames
+    same 'a pipe has no disk' '0 0' "${PIPESTATUS[*]}"
+    prefix=()
+}
+
+# owned FILE: its owner, group and mode
+owned() {
+    stat -c '%u %g %a' "$1"
+}
+
+test_owners() {
+    begin
+    if [ "$(id -u)" -ne 0 ]; then
+        echo 'command: only root can give a file away; owners are not looked at'
+        return
+    fi
+    echo old >out
+    chown 1234:2345 out
+    chmod 640 out
+    run 0 write "$header" "$marker" frames out
+    same 'owner, group and mode of a file that is replaced' '1234 2345 640' "$(owned out)"
+    # As somebody who may write the file and not give it away: nobody gets more than before.
+    chown 65534:65534 .
+    prefix=(chroot --userspec=65534:65534 --groups= --skip-chdir /)
+    local old
+    for old in '666 666' '626 622' '606 600' '066 000' '646 644' '662 622'; do
+        echo old >out
+        chown 1234:2345 out
+        chmod "${old% *}" out
+        run 0 write "$header" "$marker" frames out
+        alike "slots in a file of mode ${old% *}" slots out
+        same "who may use what was ${old% *}" "65534 65534 ${old#* }" \
+            "$(stat -c '%u %g' out) $(printf %03o $((8#$(stat -c %a out) & 8#777)))"
+    done
+    echo old >out
+    chown 1234:2345 out
+    chmod 464 out
+    prefix=(chroot --userspec=65534:65534 --groups=2345 --skip-chdir /)
+    run 0 write "$header" "$marker" frames out
+    same 'a group that may be kept' '65534 2345 444' "$(owned out)"
+    prefix=()
+    chown 0:0 .
+}
+
+test_access_lists() {
+    begin
+    gcc -std=c11 "$root/tests/c/access_list.c" -o list_tool
+    echo old >out
+    if [ "$(id -u)" -ne 0 ] || ! ./list_tool set out; then
+        echo 'command: no access lists here, or not root; they are not looked at'
+        return
+    fi
+    local list
+    list=$(./list_tool show out)
+    run 0 write "$header" "$marker" frames out
+    same 'an access list and its mode' "$list 660" "$(./list_tool show out) $(stat -c %a out)"
+    # By somebody else: the list would mean something else, and its mask is not the group's.
+    chown 65534:65534 .
+    prefix=(chroot --userspec=65534:65534 --groups= --skip-chdir /)
+    run 0 read "$header" "$marker" slots out
+    same 'mode where a list cannot be kept' '65534 65534 600' "$(owned out)"
+    prefix=()
+    chown 0:0 .
+    # A list that the folder has for new files is not the old file's.
+    ./list_tool default directory
+    echo old >plain
+    chmod 640 plain
+    mv plain directory/plain
+    run 0 write "$header" "$marker" frames directory/plain
+    same 'a file that had no list' 'none 640' \
+        "$(./list_tool show directory/plain) $(stat -c %a directory/plain)"
+    # A new file has what any program's new file has.
+    : >directory/by_shell
+    run 0 write "$header" "$marker" frames directory/new
+    same 'the list and mode of a new file' \
+        "$(./list_tool show directory/by_shell) $(stat -c %a directory/by_shell)" \
+        "$(./list_tool show directory/new) $(stat -c %a directory/new)"
+}
+
+test_no_clobber() {
+    begin
+    echo old >out
+    ln -s out link
+    for name in out link ./out; do
+        run 2 --no-clobber write "$header" "$marker" frames "$name"
+        has 'a file that is not to be replaced' "$name: File exists" "$err"
+        same 'that file' old "$(<out)"
+    done
+    rm out link
+    run 0 -n write "$header" "$marker" frames out
+    alike 'slots in a new file' slots out
+    same 'what is left beside it' '' "$(find . -name '.mahyrei*')"
+    run 0 write "$header" "$marker" frames -n /dev/null
+    run 0 read "$header" "$marker" slots - -n
+    alike 'standard output is no file to be replaced' frames "$said/out"
+}
+
+# A file that comes into being while the run is on its way.
+once_no_clobber_late() {
+    begin
+    local late
+    mkfifo pipe
+    "$mahyrei" --no-clobber write "$header" "$marker" pipe out 2>"$said/err" &
+    late=$!
+    timeout 20 bash -c 'exec 7>pipe; echo late >out; cat frames >&7' # waits for the reader
+    wait "$late"
+    same 'status where the file came late' 2 $?
+    same 'the file that came late' late "$(<out)"
+    same 'what is left beside it' '' "$(find . -name '.mahyrei*')"
+}

@@ -1,0 +1,103 @@
+//! Calls with arguments that are wrong in one way or several.
+
+use super::calls::{compare, Arguments};
+use super::sample::Sample;
+use crate::compare::{Rng, Tally, Way};
+use crate::run::{HEADER_BYTES, MARKER_MOST};
+
+/// A value that is wrong for its field: the one below the range, or one of those above it.
+fn wrong_field(rng: &mut Rng, below: u64, above: std::ops::RangeInclusive<u64>) -> u64 {
+    let (first, last) = (*above.start(), *above.end());
+    let any = first + rng.next() % (last - first + 1);
+    rng.pick(&[below, first, last, any])
+}
+
+/// Another length than the right one.
+fn wrong_len(rng: &mut Rng, right: usize) -> usize {
+    let any = rng.below(right + 64);
+    let len = rng.pick(&[0, 1, right - 1, right + 1, right / 2, any]);
+    if len == right {
+        right + 8
+    } else {
+        len
+    }
+}
+
+/// A call that fails one question from 1 to 8 and, by chance, some of those after it.
+pub(super) fn refused_call(
+    tally: &mut Tally,
+    rng: &mut Rng,
+    way: Way,
+    sample: &Sample,
+    slots: &[u8],
+    first: u8,
+    what: &str,
+) {
+    let mut header = sample.header;
+    let mut marker = sample.marker.clone();
+    let mut frames_len = sample.frames.len();
+    let mut slots_len = slots.len();
+    let mut header_len = HEADER_BYTES;
+
+    // From the last question on, so that what an earlier one breaks stays broken.
+    let also: Vec<u8> = (first + 1..=8).filter(|_| rng.below(3) == 0).collect();
+    for number in also.into_iter().rev().chain([first]) {
+        match number {
+            8 => {
+                let wrong = 1 + rng.below(7);
+                if wrong & 1 != 0 {
+                    // beyond the W-th, symbols are not looked at
+                    marker.resize(wrong_len(rng, marker.len()), 0xFF);
+                }
+                if wrong & 2 != 0 {
+                    frames_len = wrong_len(rng, frames_len);
+                }
+                if wrong & 4 != 0 {
+                    slots_len = wrong_len(rng, slots_len);
+                }
+            }
+            7 => {
+                let looked_at = marker.len().min(header.marker as usize);
+                if rng.below(2) == 0 || sample.run.order() == 256 || looked_at == 0 {
+                    header.marker = wrong_field(rng, 0, MARKER_MOST as u64 + 1..=63);
+                } else {
+                    let any = sample.run.order() + rng.below(256 - sample.run.order());
+                    let wrong = rng.pick(&[sample.run.order(), any, 255]);
+                    marker[rng.below(looked_at)] = wrong as u8;
+                }
+            }
+            6 if rng.below(2) == 0 => header.frame_bytes = wrong_field(rng, 0, 2049..=4095),
+            6 => header.frames = wrong_field(rng, 0, 65..=127),
+            5 => {
+                let symbols = sample.run.word_symbols() as u64;
+                header.rows = 2 + rng.next() % 127;
+                header.step = 1 + rng.next() % 256;
+                if header.rows * (header.rows - 1) * header.step % symbols == 0 {
+                    header.rows = 2; // never passes
+                }
+            }
+            4 if rng.below(2) == 0 => header.rows = wrong_field(rng, 0, 129..=255),
+            4 => header.step = wrong_field(rng, 0, 257..=511),
+            3 => header.bits = wrong_field(rng, 1, 9..=15),
+            2 => header.rate = 3,
+            _ if rng.below(2) == 0 => header.spare = 1 << rng.below(16),
+            _ => header_len = rng.pick(&[0, 1, 7, 9, 16]),
+        }
+    }
+
+    let mut packed = header.pack().to_vec();
+    packed.resize(header_len, 0);
+    let (input, len, output_len) = match way {
+        Way::Write => (&sample.frames[..], frames_len, slots_len),
+        Way::Read => (slots, slots_len, frames_len),
+    };
+    let mut input = input.to_vec();
+    input.resize(len, 0);
+    let arguments = Arguments {
+        header: &packed,
+        marker: &marker,
+        input: &input,
+        output_len,
+    };
+    compare(tally, rng, way, arguments, &[first], what);
+}
