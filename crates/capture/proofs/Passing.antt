@@ -8,6 +8,7 @@ use native.Mathlib.Omega.{arith}
 use native.Mathlib.Nat.{le-refl, mul-le-mul}
 use Rattle.bits.specs.Choice.{lt-or-le}
 use Rattle.bits.specs.First.{upTo, first-skip, first-end, part-fails, part-passes}
+use Rattle.sizes.specs.Sizes.{wordBits}
 use Rattle.pulses.specs.Zeros.{whole-groups}
 use Rattle.slots.specs.Bounds.{bounds, shape}
 use Rattle.plan.specs.declared.Plan.{Plan}
@@ -77,6 +78,6 @@ few-groups p fine =
     let w : 320 / p .group * p .group ≡ 320 = whole-groups (p .order) (p .group) (shape p fine) in
     let one : 1 ≤ p .group = omega arith in
     let few : 320 / p .group * 1 ≤ 320 / p .group * p .group = mul-le-mul (le-refl (320 / p .group)) one in
-    let size : p .symbols * p .bits ≡ 15120 = fine .symbols-are in
+    let size : p .symbols * p .bits ≡ wordBits = fine .symbols-are in
     let wide : p .symbols * p .bits ≤ p .symbols * 8 = mul-le-mul (le-refl (p .symbols)) (fine .bits-most) in
     omega arith

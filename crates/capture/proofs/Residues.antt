@@ -11,6 +11,7 @@ use lib.Seq.{getD-set-same, getD-set-other}
 use Rattle.bits.specs.Choice.{lt-or-le, eq-or-ne}
 use Rattle.bits.specs.Loops.{Spread}
 use Rattle.bits.specs.Pack.{bytesOf, bytes-same}
+use Rattle.sizes.specs.Sizes.{wordBits, wordBytes}
 use Rattle.channel.specs.Channel as channel
 use Rattle.channel.specs.Places.{same-apart}
 use Rattle.channel.specs.Return.{stands-lt}
@@ -23,9 +24,9 @@ use Rattle.capture.specs.Capture.{dataIn, wordOut}
 use Rattle.capture.specs.Taking.{Residue}
 
 -- a word has more symbols than there are residues
-pub symbols-many : (p : Plan) → Fine p → 1890 ≤ p .symbols
+pub symbols-many : (p : Plan) → Fine p → wordBytes ≤ p .symbols
 symbols-many p fine =
-    let size : p .symbols * p .bits ≡ 15120 = fine .symbols-are in
+    let size : p .symbols * p .bits ≡ wordBits = fine .symbols-are in
     let wide : p .symbols * p .bits ≤ p .symbols * 8 = mul-le-mul (le-refl (p .symbols)) (fine .bits-most) in
     omega arith
 
@@ -81,20 +82,20 @@ bits-more m i q symbols before after s e h y l =
     (lt-or-le y (i * m))
 
 -- the bits of a word in their room, and the word
-pub room-bits : (symbols room : List ℕ) (m : ℕ) → length room ≡ 15120 → ((y : ℕ) → y < 15120 → getD room y 0 ≡ getD symbols (y / m) 0 / 2 ^ (m - 1 - y % m) % 2) → (i : ℕ) → getD room i 0 < 2
+pub room-bits : (symbols room : List ℕ) (m : ℕ) → length room ≡ wordBits → ((y : ℕ) → y < wordBits → getD room y 0 ≡ getD symbols (y / m) 0 / 2 ^ (m - 1 - y % m) % 2) → (i : ℕ) → getD room i 0 < 2
 room-bits symbols room m e h i =
     ⊎-elim
-    (λ (l : i < 15120). rw (h i l) (omega arith))
-    (λ (l : 15120 ≤ i). let k : length room ≤ i = omega arith in rw (List·getD-eq-default room 0 k) (omega arith))
-    (lt-or-le i 15120)
+    (λ (l : i < wordBits). rw (h i l) (omega arith))
+    (λ (l : wordBits ≤ i). let k : length room ≤ i = omega arith in rw (List·getD-eq-default room 0 k) (omega arith))
+    (lt-or-le i wordBits)
 
-pub word-made : (p : Plan) → Fine p → (b : List ℕ) (j n : ℕ) (symbols room : List ℕ) → n ≡ 1890
+pub word-made : (p : Plan) → Fine p → (b : List ℕ) (j n : ℕ) (symbols room : List ℕ) → n ≡ wordBytes
     → ((i : ℕ) → i < p .symbols → getD symbols i 0 ≡ dataIn p b (j * p .symbols + i))
-    → ((y : ℕ) → y < 15120 → getD room y 0 ≡ getD symbols (y / p .bits) 0 / 2 ^ (p .bits - 1 - y % p .bits) % 2) → bytesOf n (λ i. getD room i 0) ≡ wordOut p b j
+    → ((y : ℕ) → y < wordBits → getD room y 0 ≡ getD symbols (y / p .bits) 0 / 2 ^ (p .bits - 1 - y % p .bits) % 2) → bytesOf n (λ i. getD room i 0) ≡ wordOut p b j
 unfolding wordOut channel.wordOf channel.wordBit
 word-made p fine b j n symbols room e right bits =
     ap (λ (k : ℕ). bytesOf k (λ i. getD room i 0)) e
-    ∙ bytes-same 1890 (λ i. getD room i 0) (channel.wordBit (p .bits) (p .symbols) (dataIn p b) j) (λ y l.
+    ∙ bytes-same wordBytes (λ i. getD room i 0) (channel.wordBit (p .bits) (p .symbols) (dataIn p b) j) (λ y l.
     let some : 1 ≤ p .bits = let a = fine .bits-least in omega arith in
     bits y (omega arith)
     ∙ ap (λ (v : ℕ). v / 2 ^ (p .bits - 1 - y % p .bits) % 2) (right (y / p .bits) (symbol-lt (p .bits) (p .symbols) (fine .symbols-are) some y (omega arith))))

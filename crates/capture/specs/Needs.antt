@@ -3,6 +3,7 @@ use mathlib.Core.Path.{_≡_}
 use mathlib.Core.List.{List}
 use Prim.Native.Nat.{ℕ, _+_, _≤_, _<_}
 use lib.ListN.{length}
+use Rattle.sizes.specs.Sizes.{wordBytes}
 use Rattle.pulses.specs.Groups.{Passed}
 use Rattle.plan.specs.declared.Plan.{Plan}
 use Rattle.plan.specs.Plan.{Fine, unit, symbolCount, slotBytes}
@@ -34,4 +35,4 @@ pub record Taken (p : Plan) (b : List ℕ) (j : ℕ) (word : List ℕ) : Type 0 
   pub captured : Captured p b
   pub good : slotsSay p b ≡ Done
   pub one : j < p .words
-  pub room : length word ≡ 1890
+  pub room : length word ≡ wordBytes

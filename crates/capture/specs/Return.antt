@@ -9,6 +9,7 @@ use lib.ListN.{length}
 use borrow.Author.Tests.{eq-eqb, eqb-true}
 use Rattle.bits.specs.First.{all-pass, none-fails, up-to-le}
 use Rattle.bits.specs.Pack.{Bytes}
+use Rattle.sizes.specs.Sizes.{wordBytes}
 use Rattle.channel.specs.Return as channel
 use Rattle.channel.specs.Symbols as words
 use Rattle.pulses.specs.Groups.{passed}
@@ -109,7 +110,7 @@ module _ (p : Plan) (fine : Fine p) where
         (none-fails (restZero p b) (symbolCount p) (clean .rest) s l)
 
 -- what was written is good, and its words come back
-pub captured-good : (p : Plan) (word : ℕ → List ℕ) → Fine p → ((j : ℕ) → j < p .words → length (word j) ≡ 1890) → ((j : ℕ) → j < p .words → Bytes (word j))
+pub captured-good : (p : Plan) (word : ℕ → List ℕ) → Fine p → ((j : ℕ) → j < p .words → length (word j) ≡ wordBytes) → ((j : ℕ) → j < p .words → Bytes (word j))
     → (slotsSay p (slotsOf p word) ≡ Done) × ((j : ℕ) → j < p .words → wordOut p (slotsOf p word) j ≡ word j)
 unfolding wordOut
 captured-good p word fine long bytes = (

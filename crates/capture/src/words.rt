@@ -2,6 +2,7 @@
 ghost use mathlib.Core.Path.{_≡_};
 ghost use Prim.Native.Nat.{ℕ, _+_, _-_, _*_, _/_, _%_, _^_, _<_};
 ghost use lib.ListN.{length, getD};
+ghost use Rattle.sizes.specs.Sizes.{wordBits};
 ghost use Rattle.plan.specs.Plan.{Fine};
 ghost use Rattle.capture.specs.Needs.{Grouped};
 ghost use Rattle.capture.specs.Capture.{dataIn};
@@ -46,8 +47,8 @@ pub fn symbols_out(p: plan::Plan, b: &[u8], j: usize, out: &mut [u8])
 
 // The bits of symbols, one to a place.
 pub fn bits_out(p: plan::Plan, symbols: &[u8], room: &mut [u8])
-    requires { ⌜ Fine p × (length (now symbols) ≡ 7560) × (length (now room) ≡ 15120) ⌝ }
-    ensures { λ _. ⌜ ((y : ℕ) → y < 15120 → getD (now (room .exit)) y 0 ≡ getD (now (symbols .entry)) (y / p .bits) 0 / 2 ^ (p .bits - 1 - y % p .bits) % 2) ⌝ }
+    requires { ⌜ Fine p × (length (now symbols) ≡ 7560) × (length (now room) ≡ wordBits) ⌝ }
+    ensures { λ _. ⌜ ((y : ℕ) → y < wordBits → getD (now (room .exit)) y 0 ≡ getD (now (symbols .entry)) (y / p .bits) 0 / 2 ^ (p .bits - 1 - y % p .bits) % 2) ⌝ }
 {
     let m = p.bits;
     let n = p.symbols;

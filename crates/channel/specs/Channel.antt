@@ -10,6 +10,7 @@ use Rattle.bits.specs.Choice.{pick}
 use Rattle.bits.specs.First.{upTo}
 use Rattle.bits.specs.Pack.{val, bitAt, bytesOf}
 use Rattle.bits.specs.Pieces.{piece}
+use Rattle.sizes.specs.Sizes.{wordBytes}
 
 -- Step 8: symbol t of all words, m bits each, the first bit highest
 unfoldable pub dataAt : ℕ → ℕ → (ℕ → List ℕ) → ℕ → ℕ
@@ -52,7 +53,7 @@ unfoldable pub wordBit : ℕ → ℕ → (ℕ → ℕ) → ℕ → ℕ → ℕ
 wordBit bits symbols symbol j y = symbol (j * symbols + y / bits) / 2 ^ (bits - 1 - y % bits) % 2
 
 unfoldable pub wordOf : ℕ → ℕ → (ℕ → ℕ) → ℕ → List ℕ
-wordOf bits symbols symbol j = bytesOf 1890 (wordBit bits symbols symbol j)
+wordOf bits symbols symbol j = bytesOf wordBytes (wordBit bits symbols symbol j)
 
 -- ---- worked values
 

@@ -11,7 +11,7 @@ use lib.Seq.{getD-take, getD-drop}
 use Rattle.bits.specs.Choice.{lt-or-le, eq-or-ne}
 use Rattle.bits.specs.Pack.{val, bitAt, Bits, Bytes, val-lt, val-same, val-bits, bit-lt, bit-val, length-bytes, bytes-are, bit-bytes, bytes-made}
 use Rattle.bits.specs.Pieces.{piece}
-use Rattle.sizes.specs.Sizes.{wordBytes}
+use Rattle.sizes.specs.Sizes.{wordBits, wordBytes}
 use Rattle.channel.specs.Channel.{dataAt, wordBit, wordOf}
 
 pub data-below : (bits symbols : ℕ) (word : ℕ → List ℕ) (t : ℕ) → dataAt bits symbols word t < 2 ^ bits
@@ -32,16 +32,16 @@ data-same bits symbols words word other h t l =
     ap (λ (xs : List ℕ). val (λ i. bitAt xs (bits * (t % symbols) + i)) bits) (h (t / symbols) (div-lt-iff-lt-mul s .1 l)))
     (eq-or-ne symbols 0)
 
-word-bit : (words : List ℕ) (j y : ℕ) → y < 15120 → bitAt (piece wordBytes words j) y ≡ bitAt words (j * 15120 + y)
+word-bit : (words : List ℕ) (j y : ℕ) → y < wordBits → bitAt (piece wordBytes words j) y ≡ bitAt words (j * wordBits + y)
 unfolding bitAt
 word-bit words j y h =
-    let d : j * 1890 + y / 8 ≡ (j * 15120 + y) / 8 = omega arith in
-    let r : y % 8 ≡ (j * 15120 + y) % 8 = omega arith in
+    let d : j * wordBytes + y / 8 ≡ (j * wordBits + y) / 8 = omega arith in
+    let r : y % 8 ≡ (j * wordBits + y) % 8 = omega arith in
     ap (λ (v : ℕ). v / 2 ^ (7 - y % 8) % 2)
-    (getD-take 1890 (drop (j * 1890) words) (y / 8) 0 (omega arith) ∙ getD-drop (j * 1890) words (y / 8) 0)
+    (getD-take wordBytes (drop (j * wordBytes) words) (y / 8) 0 (omega arith) ∙ getD-drop (j * wordBytes) words (y / 8) 0)
     ∙ ap₂ (λ (u v : ℕ). getD words u 0 / 2 ^ (7 - v) % 2) d r
 
-pub symbols-least : (bits symbols : ℕ) → symbols * bits ≡ 15120 → 1 ≤ symbols
+pub symbols-least : (bits symbols : ℕ) → symbols * bits ≡ wordBits → 1 ≤ symbols
 symbols-least bits symbols size =
     ⊎-elim
     (λ (l : symbols < 1).
@@ -55,24 +55,24 @@ pub word-bit-lt : (bits symbols : ℕ) (symbol : ℕ → ℕ) (j : ℕ) → Bits
 unfolding wordBit
 word-bit-lt bits symbols symbol j y = omega arith
 
-pub word-length : (bits symbols : ℕ) (symbol : ℕ → ℕ) (j : ℕ) → length (wordOf bits symbols symbol j) ≡ 1890
+pub word-length : (bits symbols : ℕ) (symbol : ℕ → ℕ) (j : ℕ) → length (wordOf bits symbols symbol j) ≡ wordBytes
 unfolding wordOf
-word-length bits symbols symbol j = length-bytes 1890 (wordBit bits symbols symbol j)
+word-length bits symbols symbol j = length-bytes wordBytes (wordBit bits symbols symbol j)
 
 pub word-bytes : (bits symbols : ℕ) (symbol : ℕ → ℕ) (j : ℕ) → Bytes (wordOf bits symbols symbol j)
 unfolding wordOf
-word-bytes bits symbols symbol j = bytes-are 1890 (wordBit bits symbols symbol j) (word-bit-lt bits symbols symbol j)
+word-bytes bits symbols symbol j = bytes-are wordBytes (wordBit bits symbols symbol j) (word-bit-lt bits symbols symbol j)
 
-module _ (bits symbols : ℕ) (size : symbols * bits ≡ 15120) where
+module _ (bits symbols : ℕ) (size : symbols * bits ≡ wordBits) where
   -- bit i of symbol t in its word, and in all words
-  pub data-place : (t i : ℕ) → i < bits → (bits * (t % symbols) + i < 15120) × (t / symbols * 15120 + (bits * (t % symbols) + i) ≡ bits * t + i)
+  pub data-place : (t i : ℕ) → i < bits → (bits * (t % symbols) + i < wordBits) × (t / symbols * wordBits + (bits * (t % symbols) + i) ≡ bits * t + i)
   data-place t i h =
       let s : ℕ = symbols in
       let m : ℕ = bits in
       let r : t % s < s = mod-lt t (symbols-least bits symbols size) in
       let inside : t % s * m + i < s * m = digits-lt r h in
       let comm : m * (t % s) ≡ t % s * m = mul-comm m (t % s) in
-      let whole : t / s * 15120 ≡ m * (t / s * s) = ap (λ (k : ℕ). t / s * k) (sym size) ∙ sym (mul-assoc (t / s) s m) ∙ mul-comm (t / s * s) m in
+      let whole : t / s * wordBits ≡ m * (t / s * s) = ap (λ (k : ℕ). t / s * k) (sym size) ∙ sym (mul-assoc (t / s) s m) ∙ mul-comm (t / s * s) m in
       let parts : m * (t / s * s) + m * (t % s) ≡ m * t = sym (mul-add m (t / s * s) (t % s)) ∙ ap (λ (k : ℕ). m * k) (div-add-mod' t s) in
       (omega arith, omega arith)
 
@@ -84,23 +84,23 @@ module _ (bits symbols : ℕ) (size : symbols * bits ≡ 15120) where
       word-bit words (t / symbols) (bits * (t % symbols) + i) (data-place t i l .0) ∙ ap (bitAt words) (data-place t i l .1))
 
   -- it lies within them
-  pub data-inside : (words t : ℕ) → t < words * symbols → bits * t + bits ≤ words * 15120
+  pub data-inside : (words t : ℕ) → t < words * symbols → bits * t + bits ≤ words * wordBits
   data-inside words t l =
       let k : t + 1 ≤ words * symbols = omega arith in
       let a : (t + 1) * bits ≤ words * symbols * bits = mul-le-mul k (le-refl bits) in
-      let b : words * symbols * bits ≡ words * 15120 = mul-assoc words symbols bits ∙ ap (λ (z : ℕ). words * z) size in
+      let b : words * symbols * bits ≡ words * wordBits = mul-assoc words symbols bits ∙ ap (λ (z : ℕ). words * z) size in
       omega (arith, mul-comm t bits)
 
   -- bit y of a word is in its symbol y / m
-  pub symbol-lt : 1 ≤ bits → (y : ℕ) → y < 15120 → y / bits < symbols
+  pub symbol-lt : 1 ≤ bits → (y : ℕ) → y < wordBits → y / bits < symbols
   symbol-lt pos y l = let k : y < symbols * bits = omega arith in div-lt-iff-lt-mul pos .1 k
 
   -- the words of a word's symbols are the words
   pub word-again : 1 ≤ bits → (word : ℕ → List ℕ) (symbol : ℕ → ℕ) (words : ℕ) → ((t : ℕ) → t < words * symbols → symbol t ≡ dataAt bits symbols word t)
-      → (j : ℕ) → j < words → length (word j) ≡ 1890 → Bytes (word j) → wordOf bits symbols symbol j ≡ word j
+      → (j : ℕ) → j < words → length (word j) ≡ wordBytes → Bytes (word j) → wordOf bits symbols symbol j ≡ word j
   unfolding wordOf wordBit dataAt
   word-again pos word symbol words same j h long bytes =
-      sym (bytes-made 1890 (wordBit bits symbols symbol j) (word j) long bytes (λ y l.
+      sym (bytes-made wordBytes (wordBit bits symbols symbol j) (word j) long bytes (λ y l.
       let m : ℕ = bits in
       let t : ℕ = j * symbols + y / m in
       let k : y / m < symbols = symbol-lt pos y (omega arith) in
@@ -126,7 +126,7 @@ module _ (bits symbols : ℕ) (size : symbols * bits ≡ 15120) where
       val-same (λ i. bitAt (wordOf bits symbols symbol (t / n)) (m * (t % n) + i)) (λ i. q / 2 ^ (m - 1 - i) % 2) m (λ i k.
       let c : m * (t % n) ≡ t % n * m = mul-comm m (t % n) in
       let y : t % n * m + i < n * m = digits-lt r k in
-      bit-bytes 1890 (wordBit bits symbols symbol (t / n)) (word-bit-lt bits symbols symbol (t / n)) (m * (t % n) + i) (omega arith)
+      bit-bytes wordBytes (wordBit bits symbols symbol (t / n)) (word-bit-lt bits symbols symbol (t / n)) (m * (t % n) + i) (omega arith)
       ∙ ap (wordBit bits symbols symbol (t / n)) (ap (λ (a : ℕ). a + i) c)
       ∙ ap₂ (λ (x d : ℕ). symbol (t / n * n + x) / 2 ^ (m - 1 - d) % 2) (digits-div (t % n) k) (digits-mod (t % n) k)
       ∙ ap (λ (x : ℕ). symbol x / 2 ^ (m - 1 - i) % 2) (div-add-mod' t n))

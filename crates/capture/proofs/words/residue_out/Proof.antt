@@ -13,6 +13,7 @@ use Rattle.capture.specs.Capture.{symbolIn}
 use Rattle.capture.proofs.Residues.{symbols-many, stands-in, residue-none, residue-more, residue-all}
 use Prim.Native.Nat.{ℕ, _+_, _-_, _*_, _/_, _%_, _≤_, _<_}
 use mathlib.Core.Path.{_≡_}
+use Rattle.sizes.specs.Sizes.{wordBytes}
 use Rattle.slots.specs.Slots.{place, symbolOf}
 use Rattle.capture.specs.Taking.{Residue}
 use Rattle.capture.proofs.words.residue_out.Statement.{statement}
@@ -26,7 +27,7 @@ abbrev μ-loop : tie.MeasureT-loop
 μ-loop p b j c r out₀ rows symbols count back start t x at₀ i₀ s₀ out at i s = p .symbols + p .rows - at
 
 -- the sizes that the needs rest on
-known : (s : tie.Start Inv-loop μ-loop) → Bounds (s .args .p) × (1890 ≤ s .args .p .symbols) × (s .args .p .rows ≤ 128) × (1 ≤ s .args .p .rows)
+known : (s : tie.Start Inv-loop μ-loop) → Bounds (s .args .p) × (wordBytes ≤ s .args .p .symbols) × (s .args .p .rows ≤ 128) × (1 ≤ s .args .p .rows)
     × (s .args .j * s .args .p .symbols + s .args .p .symbols ≤ s .args .p .words * s .args .p .symbols) × (s .args .r * (s .args .p .step * s .args .p .rows) ≤ 128 * 32768)
 known s =
     let p = s .args .p in
