@@ -196,7 +196,7 @@ fuzz: $(HOST)/fuzz_drive
 
 # The crates of the product that have code.
 CRATES ?= bits answers sizes crc convolution interleaver accumulator randomizer word header plan frames \
-    slots capture run_writer run_reader calls sheet runsheet
+    pulses channel slots capture run_writer run_reader calls sheet runsheet
 COUNT ?= 60
 .PHONY: mutants
 mutants:

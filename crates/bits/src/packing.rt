@@ -32,18 +32,19 @@ pub fn field(packed: &[u8], at: usize, n: usize) -> usize
     (((first << 8) | last) >> (16 - n - at % 8)) & ((1usize << n) - 1)
 }
 
-// Eight bytes from byte `at` on as one number, the first highest.
+// Eight bytes from byte `at` on as one number, the first highest. Written as one sum it is a single load.
 pub fn eight(packed: &[u8], at: usize) -> u64
     requires { ⌜ at + 8 ≤ length (now packed) ⌝ }
     ensures { λ r. ⌜ r ≡ val (λ t. bitAt (now (packed .entry)) (8 * at + t)) 64 ⌝ }
 {
-    let mut v = 0u64;
-    let mut i = 0usize;
-    while i < 8 {
-        v = (v << 8) | (packed[at + i] as u64);
-        i += 1;
-    }
-    v
+    ((packed[at] as u64) << 56)
+        | ((packed[at + 1] as u64) << 48)
+        | ((packed[at + 2] as u64) << 40)
+        | ((packed[at + 3] as u64) << 32)
+        | ((packed[at + 4] as u64) << 24)
+        | ((packed[at + 5] as u64) << 16)
+        | ((packed[at + 6] as u64) << 8)
+        | (packed[at + 7] as u64)
 }
 
 // The lowest `width` bits of v, the highest first, one to a place from `at` on.

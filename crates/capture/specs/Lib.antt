@@ -3,5 +3,4 @@ pub mod Answer
 pub mod Return
 pub mod Needs
 pub mod Pass
-pub mod Firsts
 pub mod Taking

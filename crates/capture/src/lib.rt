@@ -41,9 +41,9 @@ pub fn word_out(p: plan::Plan, b: &[u8], j: usize, word: &mut [u8])
     requires { ⌜ Taken p (now b) j (now word) ⌝ }
     ensures { λ _. ⌜ now (word .exit) ≡ wordOut p (now (b .entry)) j ⌝ }
 {
-    let mut firsts = [0u64; 7560];
+    let mut symbols = [0u8; 7560];
     let mut room = [0u8; 15120];
-    words::windows(p, b, j, &mut firsts);
-    words::take_out(p, b, j, &firsts, &mut room);
+    words::symbols_out(p, b, j, &mut symbols);
+    words::bits_out(p, &symbols, &mut room);
     bits::packing::pack(&room, word);
 }

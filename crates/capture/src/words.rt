@@ -1,69 +1,59 @@
-// Words out of slots: where each symbol of a word stands, and its bits.
+// Words out of slots: the symbols of a word, those first that are 0 modulo N, and their bits. Places N apart have one delay, so that each stands N places behind the one before it.
 ghost use mathlib.Core.Path.{_≡_};
-ghost use Prim.Native.Nat.{ℕ, _+_, _*_, _<_};
+ghost use Prim.Native.Nat.{ℕ, _+_, _-_, _*_, _/_, _%_, _^_, _<_};
 ghost use lib.ListN.{length, getD};
-ghost use Rattle.plan.specs.Plan.{Fine, total};
-ghost use Rattle.slots.specs.Slots.{place, symbolOf};
+ghost use Rattle.plan.specs.Plan.{Fine};
 ghost use Rattle.capture.specs.Needs.{Grouped};
-ghost use Rattle.capture.specs.Capture.{dataIn, wordBit};
-ghost use Rattle.capture.specs.Firsts.{windowOf, Seen};
+ghost use Rattle.capture.specs.Capture.{dataIn};
+ghost use Rattle.capture.specs.Taking.{Residue};
 
-// The symbol, markers counted, at which symbol t of all words stands.
-fn stands_at(p: plan::Plan, t: usize) -> usize
-    requires { ⌜ Fine p × (t < total p) ⌝ }
-    ensures { λ r. ⌜ r ≡ symbolOf p (place p t) ⌝ }
+// The symbols of word j that are r modulo N among all symbols, where its first is c.
+fn residue_out(p: plan::Plan, b: &[u8], j: usize, c: usize, r: usize, out: &mut [u8])
+    requires { ⌜ Grouped p (now b) × (j < p .words) × (c ≡ j * p .symbols % p .rows) × (r < p .rows) × (length (now out) ≡ 7560) ⌝ }
+    ensures { λ _. ⌜ Residue p (now (b .entry)) j r (now (out .entry)) (p .symbols) (now (out .exit)) ⌝ }
 {
-    let step = p.step;
-    let back = step * p.rows;
-    let x = t + (t % p.rows) * back;
-    x / p.symbols * (p.symbols + p.count) + (p.count + x % p.symbols)
-}
-
-// The first slots of symbol i of word j, as the first bits of a number.
-fn window_of(p: plan::Plan, b: &[u8], j: usize, i: usize) -> u64
-    requires { ⌜ Grouped p (now b) × (j < p .words) × (i < p .symbols) ⌝ }
-    ensures { λ r. ⌜ r ≡ windowOf p (now (b .entry)) j i ⌝ }
-{
-    let s = stands_at(p, j * p.symbols + i);
-    bits::scan::ahead(b, s * p.group)
-}
-
-// Those of all symbols of word j. The symbols stand far apart; fetched by themselves, none waits for another.
-pub fn windows(p: plan::Plan, b: &[u8], j: usize, firsts: &mut [u64])
-    requires { ⌜ Grouped p (now b) × (j < p .words) × (length (now firsts) ≡ 7560) ⌝ }
-    ensures { λ _. ⌜ ((i : ℕ) → i < p .symbols → getD (now (firsts .exit)) i 0 ≡ windowOf p (now (b .entry)) j i) ⌝ }
-{
-    let n = p.symbols;
-    let mut i = 0;
-    while i < n {
-        firsts[i] = window_of(p, b, j, i);
-        i += 1;
+    let rows = p.rows;
+    let symbols = p.symbols;
+    let count = p.count;
+    let back = p.step * rows;
+    let start = j * symbols;
+    let t = channel::first_place(start, c, r, rows);
+    let x = t + r * back;
+    let mut at = t - start;
+    let mut i = x % symbols;
+    let mut s = x / symbols * (symbols + count) + (count + i);
+    while at < symbols {
+        out[at] = pulses::numbers::seen(p.order, p.group, b, s) as u8;
+        s += channel::symbols_on(i, rows, symbols, count);
+        i = channel::place_on(i, rows, symbols);
+        at += rows;
     }
 }
 
-// Symbol i of word j, whose first slots are v: they tell, if its pulse is among them.
-fn symbol_of_word(p: plan::Plan, b: &[u8], j: usize, i: usize, v: u64) -> usize
-    requires { ⌜ Grouped p (now b) × (j < p .words) × (i < p .symbols) × (v ≡ windowOf p (now b) j i) ⌝ }
-    ensures { λ r. ⌜ r ≡ dataIn p (now (b .entry)) (j * p .symbols + i) ⌝ }
+// The symbols of word j.
+pub fn symbols_out(p: plan::Plan, b: &[u8], j: usize, out: &mut [u8])
+    requires { ⌜ Grouped p (now b) × (j < p .words) × (length (now out) ≡ 7560) ⌝ }
+    ensures { λ _. ⌜ ((i : ℕ) → i < p .symbols → getD (now (out .exit)) i 0 ≡ dataIn p (now (b .entry)) (j * p .symbols + i)) ⌝ }
 {
-    if v != 0 {
-        return bits::scan::leading(v);
+    let rows = p.rows;
+    let c = j * p.symbols % rows;
+    let mut r = 0usize;
+    while r < rows {
+        residue_out(p, b, j, c, r, out);
+        r += 1;
     }
-    let s = stands_at(p, j * p.symbols + i);
-    pulses::symbol_there(p.order, p.group, b, s)
 }
 
-// The bits of word j, one to a place.
-pub fn take_out(p: plan::Plan, b: &[u8], j: usize, firsts: &[u64], room: &mut [u8])
-    requires { ⌜ Seen p (now b) j (now firsts) × (length (now room) ≡ 15120) ⌝ }
-    ensures { λ _. ⌜ ((y : ℕ) → y < 15120 → getD (now (room .exit)) y 0 ≡ wordBit p (now (b .entry)) j y) ⌝ }
+// The bits of symbols, one to a place.
+pub fn bits_out(p: plan::Plan, symbols: &[u8], room: &mut [u8])
+    requires { ⌜ Fine p × (length (now symbols) ≡ 7560) × (length (now room) ≡ 15120) ⌝ }
+    ensures { λ _. ⌜ ((y : ℕ) → y < 15120 → getD (now (room .exit)) y 0 ≡ getD (now (symbols .entry)) (y / p .bits) 0 / 2 ^ (p .bits - 1 - y % p .bits) % 2) ⌝ }
 {
     let m = p.bits;
     let n = p.symbols;
-    let mut i = 0;
+    let mut i = 0usize;
     while i < n {
-        let q = symbol_of_word(p, b, j, i, firsts[i]);
-        bits::packing::put_number(room, i * m, m, q as u64);
+        bits::packing::put_number(room, i * m, m, symbols[i] as u64);
         i += 1;
     }
 }

@@ -53,6 +53,27 @@ module _ (symbols count : ℕ) (least : 1 ≤ symbols) where
       let q : x / symbols < lines = div-lt-iff-lt-mul least .1 h in
       digits-lt q (low x)
 
+  -- n places further on, in the same line or in the next
+  pub on-same : (x n : ℕ) → x % symbols + n < symbols → ((x + n) % symbols ≡ x % symbols + n) × (symbolOf symbols count (x + n) ≡ symbolOf symbols count x + n)
+  unfolding symbolOf
+  on-same x n h =
+      let d = div-add-mod' x symbols in
+      let e : x + n ≡ x / symbols * symbols + (x % symbols + n) = omega arith in
+      let q : (x + n) / symbols ≡ x / symbols = ap (λ (y : ℕ). y / symbols) e ∙ digits-div (x / symbols) h in
+      let r : (x + n) % symbols ≡ x % symbols + n = ap (λ (y : ℕ). y % symbols) e ∙ digits-mod (x / symbols) h in
+      (r, ap₂ (λ (a b : ℕ). a * (symbols + count) + (count + b)) q r ∙ omega arith)
+
+  pub on-next : (x n : ℕ) → symbols ≤ x % symbols + n → n ≤ symbols → ((x + n) % symbols ≡ x % symbols + n - symbols) × (symbolOf symbols count (x + n) ≡ symbolOf symbols count x + (n + count))
+  unfolding symbolOf
+  on-next x n h l =
+      let m : x % symbols < symbols = mod-lt x least in
+      let d = div-add-mod' x symbols in
+      let small : x % symbols + n - symbols < symbols = omega arith in
+      let e : x + n ≡ (x / symbols + 1) * symbols + (x % symbols + n - symbols) = omega arith in
+      let q : (x + n) / symbols ≡ x / symbols + 1 = ap (λ (y : ℕ). y / symbols) e ∙ digits-div (x / symbols + 1) small in
+      let r : (x + n) % symbols ≡ x % symbols + n - symbols = ap (λ (y : ℕ). y % symbols) e ∙ digits-mod (x / symbols + 1) small in
+      (r, ap₂ (λ (a b : ℕ). a * (symbols + count) + (count + b)) q r ∙ omega arith)
+
 -- ---- what stands there
 
 module _ (symbols count : ℕ) (marks : List ℕ) where

@@ -2,9 +2,9 @@
 use mathlib.Core.Path.{_≡_, refl, sym, ap, _∙_}
 use mathlib.Core.Bool.{not}
 use mathlib.Core.Logic.{⊎-elim}
-use Prim.Native.Nat.{ℕ, _+_, _-_, _*_, _%_, _≤_, _<_}
+use Prim.Native.Nat.{ℕ, _+_, _-_, _*_, _/_, _%_, _≤_, _<_}
 use native.Mathlib.Omega.{arith}
-use native.Mathlib.Nat.{le-refl, mul-le-mul, mul-assoc, mod-lt, add-mul-mod-self-right, mod-add-mod}
+use native.Mathlib.Nat.{le-refl, mul-le-mul, mul-assoc, mod-lt, add-mul-mod-self-right, mod-add-mod, one-mul, div-add-mod'}
 use lib.Dec.{ltb, eqb}
 use borrow.Author.Tests.{lt-ltb, le-ltb, ne-eqb, eqb-true, eqb-false, not-true, not-false}
 use Rattle.bits.specs.Choice.{pick, lt-or-le}
@@ -44,6 +44,16 @@ place-one rows step t u e =
     let b : place rows step u ≡ u + delay rows step (place rows step u % rows) = place-on rows step u in
     let d : delay rows step (place rows step t % rows) ≡ delay rows step (place rows step u % rows) = ap (λ (y : ℕ). delay rows step (y % rows)) e in
     omega arith
+
+-- N further on the remainder is the same
+pub rows-mod : (rows t : ℕ) → (t + rows) % rows ≡ t % rows
+rows-mod rows t = ap (λ (d : ℕ). (t + d) % rows) (sym (one-mul rows)) ∙ add-mul-mod-self-right t 1 rows
+
+-- and so is the delay
+pub place-rows : (rows step t : ℕ) → place rows step (t + rows) ≡ place rows step t + rows
+unfolding place
+place-rows rows step t =
+    ap (λ (r : ℕ). t + rows + delay rows step r) (rows-mod rows t) ∙ omega arith
 
 -- ---- what goes to a place
 
@@ -133,6 +143,16 @@ module _ (rows step total : ℕ) where
       (λ (l : hitBy rows step total x < total). placed-hit f x l ∙ h (hitBy rows step total x) l ∙ sym (placed-hit g x l))
       (λ (l : total ≤ hitBy rows step total x). placed-rest f x l ∙ sym (placed-rest g x l))
       (lt-or-le (hitBy rows step total x) total)
+
+-- places that are the same modulo N are at least N apart
+pub same-apart : (n x y : ℕ) → x % n ≡ y % n → x < y → x + n ≤ y
+same-apart n x y e l =
+    let dx = div-add-mod' x n in
+    let dy = div-add-mod' y n in
+    ⊎-elim
+    (λ (h : x / n < y / n). let up : x / n + 1 ≤ y / n = omega arith in omega (arith, mul-le-mul up (le-refl n)))
+    (λ (h : y / n ≤ x / n). let down : y / n * n ≤ x / n * n = mul-le-mul h (le-refl n) in absurd (omega arith))
+    (lt-or-le (x / n) (y / n))
 
 -- the remainder modulo N one place further on
 pub remainder-on : (x n r s : ℕ) → r ≡ x % n → s ≡ (r + 1) % n → s ≡ (x + 1) % n

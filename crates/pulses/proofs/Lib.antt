@@ -1,2 +1,3 @@
 pub mod Lone
 pub mod Swept
+pub mod Seen

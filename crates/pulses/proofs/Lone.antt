@@ -6,6 +6,7 @@ use lib.Dec.{ltb, eqb, eqb→eq}
 use lib.Pow.{pow-add, pow-mono, shl-shr, shl-exact, high}
 use mathlib.Core.Bool.{true}
 use mathlib.Core.List.{List}
+use lib.ListN.{length}
 use mathlib.Core.Logic.{⊎-elim}
 use borrow.Author.Tests.{le-ltb}
 use Rattle.bits.specs.Choice.{pick, bool, lt-or-le}
@@ -15,7 +16,7 @@ use Rattle.bits.specs.Parts.{val-split, val-cut, val-shift}
 use Rattle.bits.specs.Table.{allBelow, below-all}
 use Rattle.bits.specs.Window.{bitsFrom}
 use Rattle.pulses.specs.Groups.{group-made}
-use Rattle.pulses.specs.Needs.{Order}
+use Rattle.pulses.specs.Needs.{Order, Slots, Near, Far, sizes, held}
 use Rattle.pulses.specs.Pulses.{symbolIn}
 
 -- what shifts up to 2 ^ 63 with nothing lost is a power of 2
@@ -95,3 +96,30 @@ module _ (order group : ℕ) (o : Order order group) where
       whole m a b =
           eqb→eq (2 ^ m) (64 * (2 ^ m / 64))
           (rw (le-ltb m 6 a) at (below-all 9 (λ m. pick (ltb m 6) true (eqb (2 ^ m) (64 * (2 ^ m / 64)))) tt m (omega arith)))
+
+module _ (order group : ℕ) (b : List ℕ) (s : ℕ) (h : Slots order group (s + 1) b) where
+  pub is-near : order < 64 → s * group + 64 ≤ 8 * length b → Near order group b s
+  is-near l m =
+      let z = sizes order group (h .shape) in
+      let n = near-shape order group (h .shape) l in
+      let i = held order group (s + 1) b h s (omega arith) in
+      record { order-least = omega arith; group-least = omega arith; group-most = n; inside = omega arith; small = omega arith }
+
+  pub is-far : 64 ≤ order → Far order group b s
+  is-far l =
+      let z = sizes order group (h .shape) in
+      let g = h .shape .group-is in
+      let f = far-shape order group (h .shape) l in
+      let i = held order group (s + 1) b h s (omega arith) in
+      let quarter : order / 4 ≡ 16 * (order / 64) = omega arith in
+      let eighths : group ≡ 8 * (10 * (order / 64)) = omega arith in
+      record {
+        numbers = f;
+        numbers-least = omega arith;
+        numbers-most = omega arith;
+        bytes = omega arith;
+        guard-least = omega arith;
+        guard-most = omega arith;
+        inside = omega arith;
+        small = omega arith;
+      }

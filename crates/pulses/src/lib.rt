@@ -1,6 +1,6 @@
 // The pulses of symbols: captured slots back to symbols, with question 10. A symbol below M is M slots with one pulse, and M/4 guard slots behind them.
 pub mod groups;
-mod numbers;
+pub mod numbers;
 
 ghost use mathlib.Core.Path.{_≡_};
 ghost use Prim.Native.Nat.{_<_};

@@ -106,3 +106,44 @@ fn symbol(order: usize, group: usize, b: &[u8], s: usize) -> usize
     }
     far(order, group, b, s)
 }
+
+// The symbol of group s, of which is known that it has one, where M is at most 32.
+fn seen_near(order: usize, group: usize, b: &[u8], s: usize) -> usize
+    requires { ⌜ Near order group (now b) s × (symbolIn order group (now b) s < order) ⌝ }
+    ensures { λ r. ⌜ r ≡ symbolIn order group (now (b .entry)) s ⌝ }
+{
+    let x = s * group;
+    bits::scan::leading(bits::packing::eight(b, x / 8) << (x % 8))
+}
+
+// The same where M is at least 64: the numbers before the first that is not 0, and the zeros in front of it.
+fn seen_far(order: usize, group: usize, b: &[u8], s: usize) -> usize
+    requires { ⌜ Far order group (now b) s × (symbolIn order group (now b) s < order) ⌝ }
+    ensures { λ r. ⌜ r ≡ symbolIn order group (now (b .entry)) s ⌝ }
+{
+    let at = s * group / 8;
+    let n = order / 64;
+    let mut any = 0u64;
+    let mut zeros = 0usize;
+    let mut k = 0usize;
+    while k < n {
+        any = any | bits::packing::eight(b, at + 8 * k);
+        zeros += none(any);
+        k += 1;
+    }
+    64 * zeros + bits::scan::leading(any)
+}
+
+// The symbol of group s, of which is known that it has one. No branch depends on where it stands, so that none waits for a fetch.
+pub fn seen(order: usize, group: usize, b: &[u8], s: usize) -> usize
+    requires { ⌜ Slots order group (s + 1) (now b) × (symbolIn order group (now b) s < order) ⌝ }
+    ensures { λ r. ⌜ r ≡ symbolIn order group (now (b .entry)) s ⌝ }
+{
+    if s * group / 8 + 9 > b.len() {
+        return crate::symbol_there(order, group, b, s);
+    }
+    if order < 64 {
+        return seen_near(order, group, b, s);
+    }
+    seen_far(order, group, b, s)
+}
