@@ -5,7 +5,7 @@ use mathlib.Core.List.{List}
 use mathlib.Core.Logic.{⊎-elim}
 use Prim.Native.Nat.{ℕ, _+_, _-_, _*_, _/_, _%_, _^_, _≤_, _<_, min, max}
 use native.Mathlib.Omega.{arith}
-use native.Mathlib.Nat.{le-refl, mul-le-mul, mul-assoc, mod-lt, mod-eq-of-lt, div-add-mod', div-lt-iff-lt-mul, le-div-iff-mul-le, zero-mul, add-mul-mod-self-right}
+use native.Mathlib.Nat.{le-refl, mul-le-mul, mul-assoc, mod-lt, mod-eq-of-lt, div-lt-iff-lt-mul, le-div-iff-mul-le, zero-mul, add-mul-mod-self-right}
 use lib.Dec.{ltb}
 use lib.ListN.{length}
 use borrow.Author.Tests.{lt-ltb, le-ltb, eq-eqb, ne-eqb}
@@ -13,7 +13,7 @@ use Rattle.bits.specs.Change.{flipBit, Ends}
 use Rattle.bits.specs.Choice.{pick, lt-or-le, eq-or-ne}
 use Rattle.bits.specs.Pack.{bitAt, Bytes, bytes-made, cut, cut-in, cut-past}
 use Rattle.channel.specs.Markers.{line-place}
-use Rattle.channel.specs.Places.{delay, source, hit-is, placed-hit, placed-rest}
+use Rattle.channel.specs.Places.{delay, source, hit-is, placed-hit, placed-rest, same-apart}
 use Rattle.pulses.specs.Pulses as pulses
 use Rattle.plan.specs.declared.Plan.{Plan}
 use Rattle.plan.specs.Plan.{Fine, unit, total, symbolCount, slotBytes}
@@ -120,16 +120,6 @@ stride-delay rows step r x =
     (ap (λ (d : ℕ). (x + d) % rows) (sym (mul-assoc (r % rows) step rows)) ∙ add-mul-mod-self-right x (r % rows * step) rows))
     (eq-or-ne rows 1)
 
--- two places of one residue are a stride apart
-pub apart : (n x y : ℕ) → x % n ≡ y % n → x < y → x + n ≤ y
-apart n x y e l =
-    let a : x / n * n + x % n ≡ x = div-add-mod' x n in
-    let b : y / n * n + y % n ≡ y = div-add-mod' y n in
-    ⊎-elim
-    (λ (h : x / n < y / n). let k : x / n + 1 ≤ y / n = omega arith in omega (arith, mul-le-mul k (le-refl n)))
-    (λ (h : y / n ≤ x / n). absurd (omega (arith, mul-le-mul h (le-refl n))))
-    (lt-or-le (x / n) (y / n))
-
 pub sizes : (p : Plan) → Fine p → (j r : ℕ) → j < p .lines → Sizes p j r
 sizes p fine j r l =
     let k = bounds p fine in
@@ -162,7 +152,7 @@ sooner-on n r x y e ne =
     sooner-same n r x y h
     ∙ ⊎-elim
     (λ (a : y < x). let b : y < x + n = omega arith in lt-ltb y x a ∙ sym (lt-ltb y (x + n) b))
-    (λ (a : x ≤ y). let b : x + n ≤ y = apart n x y (e ∙ sym h) (omega arith) in le-ltb y x a ∙ sym (le-ltb y (x + n) b))
+    (λ (a : x ≤ y). let b : x + n ≤ y = same-apart n x y (e ∙ sym h) (omega arith) in le-ltb y x a ∙ sym (le-ltb y (x + n) b))
     (lt-or-le y x)
     ∙ sym (sooner-same n r (x + n) y h))
     (λ (h : y % n ≡ r → ⊥). sooner-other n r x y h ∙ sym (sooner-other n r (x + n) y h))
@@ -324,7 +314,7 @@ module _ (p : Plan) (word : ℕ → List ℕ) (j : ℕ) where
         ∙ ⊎-elim
         (λ (l : y < x).
         let from : first ≤ y =
-        ⊎-elim (λ (c : y < first). let f : y + n ≤ first = apart n y first (h ∙ sym res) c in absurd (omega arith)) (λ (c : first ≤ y). c) (lt-or-le y first) in
+        ⊎-elim (λ (c : y < first). let f : y + n ≤ first = same-apart n y first (h ∙ sym res) c in absurd (omega arith)) (λ (c : first ≤ y). c) (lt-or-le y first) in
         let none : placed p word y ≡ 0 = placed-early p fine word r y h (not-yet p fine word r y h small (omega arith)) in
         sym (rw (sooner-same n r x y h, lt-ltb y x l) none))
         (λ (l : x ≤ y). sym (rw (sooner-same n r x y h, le-ltb y x l) refl))

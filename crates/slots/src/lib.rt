@@ -1,7 +1,7 @@
 // Steps 8 to 10: the words' symbols, spread by the channel interleaver, with markers before every row, as slots with one pulse to a symbol.
 use plan::Plan;
 ghost use mathlib.Core.Path.{_≡_};
-ghost use Prim.Native.Nat.{ℕ, _+_, _*_, _%_, _^_, _≤_, _<_};
+ghost use Prim.Native.Nat.{ℕ, _+_, _*_, _^_, _≤_, _<_};
 ghost use mathlib.Core.List.{List};
 ghost use lib.ListN.{length};
 ghost use Rattle.plan.specs.Plan.{Fine, unit, total, slotBytes};
@@ -77,17 +77,6 @@ fn stride_of(rows: usize) -> usize
     if rows == 1 { 8 } else { rows }
 }
 
-// The first place from `start` on that is r modulo n, where `start` is c.
-fn first_place(start: usize, c: usize, r: usize, n: usize) -> usize
-    requires { ⌜ (c ≡ start % n) × (r < n) × (n ≤ 128) × (start < 2 ^ 32) ⌝ }
-    ensures { λ x. ⌜ (x % n ≡ r) × (start ≤ x) × (x < start + n) ⌝ }
-{
-    if r < c {
-        return start + (r + n - c);
-    }
-    start + (r - c)
-}
-
 // Step 9, the places of a row that are r modulo the stride: from the first that is hit, symbol after symbol.
 fn put_residue(p: Plan, words: &[u8], row: usize, c: usize, r: usize, slots: &mut [u8])
     requires { ⌜ Lent p (now words) (now slots) × Residue p row c r ⌝ }
@@ -104,7 +93,7 @@ fn put_residue(p: Plan, words: &[u8], row: usize, c: usize, r: usize, slots: &mu
     let delay = r % rows * (step * rows);
     let end = bits::scan::least(start + symbols, delay + all);
     let n = stride_of(rows);
-    let mut x = bits::scan::most(first_place(start, c, r, n), delay + r);
+    let mut x = bits::scan::most(channel::first_place(start, c, r, n), delay + r);
     while x < end {
         let q = data_at(p, words, x - delay);
         move_pulse(slots, (skip + x) * group, q);
