@@ -3,5 +3,5 @@
 pub mod change;
 pub mod packing;
 pub mod places;
-pub mod stretch;
 pub mod scan;
+pub mod stretch;

@@ -1,13 +1,15 @@
 -- Steps 8 and 9, the markers of step 10, and the way back with questions 11 and 12, over plain numbers: m bits to a symbol (`bits`), S symbols to a word (`symbols`), N and B of the channel interleaver (`rows`, `step`), C·S symbols in all (`total`), W marker symbols before every S places (`count`).
 -- The words are a function: word j is a list of 1,890 bytes.
+use mathlib.Core.Path.{_≡_, refl}
 use mathlib.Core.Bool.{Bool, true, not}
-use mathlib.Core.List.{List}
+use mathlib.Core.List.{List, [], _∷_, map}
 use Prim.Native.Nat.{ℕ, _+_, _-_, _*_, _/_, _%_, _^_}
 use lib.Dec.{ltb, eqb}
 use lib.ListN.{getD}
 use Rattle.bits.specs.Choice.{pick}
 use Rattle.bits.specs.First.{upTo}
 use Rattle.bits.specs.Pack.{val, bitAt, bytesOf}
+use Rattle.bits.specs.Pieces.{piece}
 
 -- Step 8: symbol t of all words, m bits each, the first bit highest
 unfoldable pub dataAt : ℕ → ℕ → (ℕ → List ℕ) → ℕ → ℕ
@@ -51,3 +53,15 @@ wordBit bits symbols symbol j y = symbol (j * symbols + y / bits) / 2 ^ (bits - 
 
 unfoldable pub wordOf : ℕ → ℕ → (ℕ → ℕ) → ℕ → List ℕ
 wordOf bits symbols symbol j = bytesOf 1890 (wordBit bits symbols symbol j)
+
+-- ---- worked values
+
+-- step 8: two words of two bytes, D7 3A and 5C 01, at m = 4; the second word's symbols follow the first's
+pub data-example : map (dataAt 4 4 (piece 2 (0xD7 ∷ 0x3A ∷ 0x5C ∷ 0x01 ∷ []))) (0 ∷ 1 ∷ 2 ∷ 3 ∷ 4 ∷ 5 ∷ 6 ∷ 7 ∷ []) ≡ 0xD ∷ 0x7 ∷ 0x3 ∷ 0xA ∷ 0x5 ∷ 0xC ∷ 0x0 ∷ 0x1 ∷ []
+unfolding dataAt val bitAt
+data-example = refl
+
+-- step 9: the draft's example, N = 4 and B = 1, whose output is q0 . . . q4 q1 . . q8 q5 q2, with registers' contents where the points are
+pub place-example : map (place 4 1) (0 ∷ 4 ∷ 1 ∷ 8 ∷ 5 ∷ 2 ∷ []) ≡ 0 ∷ 4 ∷ 5 ∷ 8 ∷ 9 ∷ 10 ∷ []
+unfolding place
+place-example = refl

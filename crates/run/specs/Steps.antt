@@ -1,9 +1,12 @@
--- The run's steps and questions under one roof, in document 01's order. Each is the definition of the crate that has it, for a header and its marker symbols; the two laws say that a run and the reader's answer are made of these and nothing else.
+-- The run's steps and questions under one roof, in document 01's order. Each is the definition of the crate that has it, for a header and its marker symbols; the laws say how each is made of the one before, and that a run and the reader's answer are made of these and nothing else.
 use mathlib.Core.Path.{_≡_, refl, ap, _∙_}
 use mathlib.Core.List.{List}
-use Prim.Native.Nat.{ℕ, _*_}
+use Prim.Native.Nat.{ℕ, _+_, _*_, _/_, _%_, _≤_, _<_}
+use native.Mathlib.Nat.{le-refl}
 use lib.Dec.{eqb}
-use Rattle.bits.specs.Pack.{bytesOf}
+use lib.ListN.{getD, length}
+use Rattle.bits.specs.Choice.{bool}
+use Rattle.bits.specs.Pack.{val, bitAt, bytesOf}
 use Rattle.answers.specs.Answer.{ask, then, then-then}
 use Rattle.answers.specs.declared.Answer.{Answer}
 use Rattle.sizes.specs.Rate.{infoBits}
@@ -11,11 +14,19 @@ use Rattle.word.specs.Word.{wordOf}
 use Rattle.header.specs.Header.{fieldsOf}
 use Rattle.header.specs.Quantities as quantities
 use Rattle.header.specs.declared.Fields.{Fields}
+use Rattle.header.specs.Questions.{question1, question2, question3, question4, question5, question6, question7, fieldsSay, headerSays}
+use Rattle.header.specs.Marks.{marksGood, runSays}
 use Rattle.plan.specs.declared.Plan.{Plan}
-use Rattle.plan.specs.Plan.{planIn, symbolCount, slotBytes}
+use Rattle.plan.specs.Lengths.{lengthsRight, callSays}
+use Rattle.plan.specs.Plan.{planIn, unit, total, symbolCount, slotBytes}
 use Rattle.stream.specs.Stream.{streamBit, blockAt}
+use Rattle.stream.specs.Laws.{stream-bits, block-bit}
 use Rattle.frames.specs.Frames.{firstUnmarked, fillZero, framesSay}
+use Rattle.channel.specs.Channel as channel
+use Rattle.channel.specs.Places.{hit-place, hit-none, placed-hit, placed-rest}
+use Rattle.channel.specs.Markers.{line-mark, line-place}
 use Rattle.pulses.specs.Pulses as pulses
+use Rattle.pulses.specs.Laws.{slot-in, slot-past}
 use Rattle.slots.specs.Slots.{dataAt, place, hitBy, placed, symbolAt, slotBit, slotsOf}
 use Rattle.capture.specs.Capture.{spareEmpty, firstBadGroup, firstBadMark, firstBadRest, wordOut}
 use Rattle.capture.specs.Answer.{slotsSay}
@@ -59,6 +70,45 @@ module _ (header marker frames : List ℕ) where
   unfolding runOf slotsOf pulses.slotsOf wordAt streamOf
   run-is = refl
 
+  -- ---- how each step's result is made of the one before
+
+  -- the k bits of block j are the stream's, from bit j·k on
+  pub block-is : fieldsOf header .rate < 3 → (j i : ℕ) → i < infoBits (fieldsOf header .rate) → bitAt (block j) i ≡ step1 (j * infoBits (fieldsOf header .rate) + i)
+  block-is h j i l = block-bit (fieldsOf header .rate) step1 h (stream-bits (fieldsOf header .size) (fieldsOf header .frames) frames) j i l
+
+  -- symbol t is m bits of word t / S, the first bit highest
+  pub symbol-is : (t : ℕ)
+      → step8 t ≡ val (λ i. bitAt (steps2to7 (t / planIn header marker .symbols)) (planIn header marker .bits * (t % planIn header marker .symbols) + i)) (planIn header marker .bits)
+  unfolding channel.dataAt
+  symbol-is t = refl
+
+  -- symbol t stands at its place, and 0 where no symbol's place is
+  pub standing-is : (t : ℕ) → t < total (planIn header marker) → standing (step9 t) ≡ step8 t
+  standing-is t l =
+      let p : Plan = planIn header marker in
+      let e : hit (step9 t) ≡ t = hit-place (p .rows) (p .step) (total p) t l in
+      placed-hit (p .rows) (p .step) (total p) step8 (step9 t) (rw e l) ∙ ap step8 e
+
+  pub standing-none : (x : ℕ) → ((t : ℕ) → t < total (planIn header marker) → step9 t ≡ x → ⊥) → standing x ≡ 0
+  standing-none x none =
+      let p : Plan = planIn header marker in
+      let e : hit x ≡ total p = hit-none (p .rows) (p .step) (total p) x none in
+      placed-rest (p .rows) (p .step) (total p) step8 x (rw e (le-refl (total p)))
+
+  -- of every W + S symbols the first W are the marker symbols, and the others stand at S places in a row
+  pub marker-is : (line w : ℕ) → w < planIn header marker .count → step10 (line * unit (planIn header marker) + w) ≡ getD (planIn header marker .marks) w 0
+  marker-is line w l = let p : Plan = planIn header marker in line-mark (p .symbols) (p .count) (p .marks) standing line w l
+
+  pub place-is : (line k : ℕ) → k < planIn header marker .symbols → step10 (line * unit (planIn header marker) + (planIn header marker .count + k)) ≡ standing (line * planIn header marker .symbols + k)
+  place-is line k l = let p : Plan = planIn header marker in line-place (p .symbols) (p .count) (p .marks) standing line k l
+
+  -- slot r of symbol s has a pulse if it is the symbol, and there is none behind the last symbol
+  pub slot-is : (s r : ℕ) → r < planIn header marker .group → s < symbolCount (planIn header marker) → slot (s * planIn header marker .group + r) ≡ bool (eqb r (step10 s))
+  slot-is s r l h = let p : Plan = planIn header marker in slot-in (p .group) (symbolCount p) step10 s r l h
+
+  pub slot-none : (x : ℕ) → symbolCount (planIn header marker) ≤ x / planIn header marker .group → slot x ≡ 0
+  slot-none x h = let p : Plan = planIn header marker in slot-past (p .group) (symbolCount p) step10 x h
+
 -- the reader's questions about slots of the right length, one after another; the first no is the answer
 pub asked-in-order : (f : Fields) (p : Plan) (b : List ℕ)
     → bufferSays f p b
@@ -78,3 +128,31 @@ asked-in-order f p b =
     flat k l m n rest =
         then-then k (then l (then m n)) rest
         ∙ ap (then k) (then-then l (then m n) rest ∙ ap (then l) (then-then m n rest))
+
+-- questions 1 to 8, which both calls put first: 7 is asked of W, and then of the marker symbols
+pub called-in-order : (header marker : List ℕ) (n s : ℕ)
+    → callSays header marker n s
+    ≡ then (ask (question1 header) 1 0)
+    (then (ask (question2 (fieldsOf header)) 2 0)
+    (then (ask (question3 (fieldsOf header)) 3 0)
+    (then (ask (question4 (fieldsOf header)) 4 0)
+    (then (ask (question5 (fieldsOf header)) 5 0)
+    (then (ask (question6 (fieldsOf header)) 6 0)
+    (then (ask (question7 (fieldsOf header)) 7 0)
+    (then (ask (marksGood (fieldsOf header) marker) 7 0)
+    (ask (lengthsRight (fieldsOf header) (length marker) n s) 8 0))))))))
+unfolding callSays runSays headerSays fieldsSay
+called-in-order header marker n s =
+    let f : Fields = fieldsOf header in
+    flat (ask (question1 header) 1 0) (ask (question2 f) 2 0) (ask (question3 f) 3 0) (ask (question4 f) 4 0) (ask (question5 f) 5 0) (ask (question6 f) 6 0) (ask (question7 f) 7 0)
+    (ask (marksGood f marker) 7 0) (ask (lengthsRight f (length marker) n s) 8 0)
+  where
+    flat : (a b c d e f g h rest : Answer)
+        → then (then (then a (then b (then c (then d (then e (then f g)))))) h) rest ≡ then a (then b (then c (then d (then e (then f (then g (then h rest)))))))
+    flat a b c d e f g h rest =
+        let r1 : Answer = then b (then c (then d (then e (then f g)))) in
+        let r2 : Answer = then c (then d (then e (then f g))) in
+        let r3 : Answer = then d (then e (then f g)) in
+        let last : Answer = then h rest in
+        then-then (then a r1) h rest ∙ then-then a r1 last
+        ∙ ap (then a) (then-then b r2 last ∙ ap (then b) (then-then c r3 last ∙ ap (then c) (then-then d (then e (then f g)) last ∙ ap (then d) (then-then e (then f g) last ∙ ap (then e) (then-then f g last)))))

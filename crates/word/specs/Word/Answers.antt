@@ -18,7 +18,7 @@ use Rattle.sizes.specs.Sizes.{wordBits, wordBytes}
 use Rattle.word.specs.Word.{codedIn, inputIn, blockSpareZero, agrees, firstWrong, endsInZeros, checkRight, writeSays, judged, readSays}
 use Rattle.word.specs.Word.{Packed}
 use Rattle.word.specs.Word.Laws.{Sound, sound}
-use Rattle.answers.specs.Answer.{ask, then-done, ask-done, Fits, fits-ask, fits-then}
+use Rattle.answers.specs.Answer.{ask, then, then-done, ask-done, Fits, fits-ask, fits-then}
 use Rattle.answers.specs.declared.Answer.{Answer}
 use Rattle.answers.specs.declared.Answer.the-variants.{Done, No}
 
@@ -216,3 +216,23 @@ read-fits rate word n =
     (λ f. fits-then (ask (eqb at wordBits) 13 at) _ (fits-ask (eqb at wordBits) 13 at (omega arith) (omega arith))
     (λ g. fits-then (ask (endsInZeros rate x) 14 0) (ask (checkRight rate x) 15 0) (fits-ask (endsInZeros rate x) 14 0 (omega arith) (omega arith))
     (λ h. fits-ask (checkRight rate x) 15 0 (omega arith) (omega arith)))))
+
+-- ---- the questions of each call, in their order, with their numbers
+
+pub write-asks : (rate : ℕ) (block : List ℕ) (n : ℕ)
+    → writeSays rate block n
+    ≡ then (ask (ltb rate 3) 2 0)
+    (then (ask (both (eqb (length block) (blockBytes rate)) (eqb n wordBytes)) 8 0)
+    (ask (blockSpareZero rate block) 9 0))
+unfolding writeSays
+write-asks rate block n = refl
+
+pub read-asks : (rate : ℕ) (word : List ℕ) (n : ℕ)
+    → readSays rate word n
+    ≡ then (ask (ltb rate 3) 2 0)
+    (then (ask (both (eqb (length word) wordBytes) (eqb n (blockBytes rate))) 8 0)
+    (then (ask (eqb (firstWrong rate (codedIn word) (inputIn rate word)) wordBits) 13 (firstWrong rate (codedIn word) (inputIn rate word)))
+    (then (ask (endsInZeros rate (inputIn rate word)) 14 0)
+    (ask (checkRight rate (inputIn rate word)) 15 0))))
+unfolding readSays judged
+read-asks rate word n = refl
