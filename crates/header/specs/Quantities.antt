@@ -1,4 +1,4 @@
--- What a header implies, each quantity with its letter in document 01.
+-- What a header implies, each quantity with its letter in the specification (docs/SPECIFICATION.md).
 use Prim.Native.Nat.{ℕ, _+_, _-_, _*_, _/_, _^_}
 use Rattle.sizes.specs.Rate.{infoBits}
 use Rattle.sizes.specs.Sizes.{wordBits, span}
