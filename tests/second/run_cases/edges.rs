@@ -6,8 +6,8 @@ use super::sample::Sample;
 use crate::compare::{Rng, Tally, Way};
 use crate::run::Header;
 
-/// Headers and markers at the edges that the specification names, with the number that they get when
-/// the other slices are empty: 8 where the header and the marker pass.
+/// Headers and markers at the edges that the specification names, with the number that they get
+/// when the other slices are empty: 8 where the header and the marker pass.
 pub fn edges(tally: &mut Tally, rng: &mut Rng) {
     let header = Header {
         rate: 1,
