@@ -1,7 +1,7 @@
 -- Bytes of the stream, by where they lie: in the marker, in a frame, behind the last frame.
 use mathlib.Core.Path.{_≡_, sym, ap, subst, _∙_}
 use mathlib.Core.List.{List}
-use Prim.Native.Nat.{ℕ, _+_, _-_, _*_, _/_, _%_, _≤_, _<_}
+use Prim.Native.Nat.{ℕ, _+_, _-_, _*_, _/_, _≤_, _<_}
 use native.Mathlib.Omega.{arith}
 use native.Mathlib.Nat.{mul-left-comm, mul-le-mul, le-refl}
 use lib.ListN.{length, set}

@@ -1,8 +1,7 @@
 -- Before each turn u bytes of the frame are laid, and `at` is the place of the bit behind them.
 use mathlib.Core.Path.{_≡_, ap}
-use Prim.Native.Nat.{ℕ, _+_, _-_, _*_, _≤_, _<_}
+use Prim.Native.Nat.{ℕ, _+_, _-_, _*_, _≤_}
 use native.Mathlib.Omega.{arith}
-use lib.ListN.{length}
 use Rattle.bits.specs.Pieces.{piece}
 use Rattle.bits.specs.Places.{At, at-same, at-on}
 use Rattle.bits.specs.Stretch.{Laid, laid-none}

@@ -1,8 +1,8 @@
 -- Before each turn the frames so far are laid.
 use mathlib.Core.Path.{_≡_, ap, subst, _∙_}
-use Prim.Native.Nat.{ℕ, _+_, _-_, _*_, _≤_, _<_}
+use Prim.Native.Nat.{ℕ, _+_, _-_, _*_, _≤_}
 use native.Mathlib.Omega.{arith}
-use lib.ListN.{length, getD}
+use lib.ListN.{getD}
 use Rattle.bits.specs.Pack.{bytes-by-byte}
 use Rattle.bits.specs.Pieces.{piece}
 use Rattle.bits.specs.Stretch.{Laid, laid-none}

@@ -1,10 +1,6 @@
 -- What lies together in a block is laid by the block's bytes, and one byte by itself.
-use mathlib.Core.Path.{ap}
-use mathlib.Core.List.{List}
-use Prim.Native.Nat.{ℕ, _+_, _*_, _≤_}
+use Prim.Native.Nat.{_*_}
 use native.Mathlib.Omega.{arith}
-use Rattle.bits.specs.Pack.{bitAt}
-use Rattle.bits.specs.Stretch.{Laid}
 use Rattle.frames.proofs.Rooms.{held-part, piece-le, stretch-in}
 use Rattle.frames.proofs.Bytes.{made-one, made-together}
 use borrow.Author.Needs.{needs}

@@ -1,14 +1,10 @@
 -- The bit lies where its place says.
-use mathlib.Core.Path.{_≡_, sym, ap, _∙_}
-use Prim.Native.Nat.{ℕ, _+_, _*_}
+use mathlib.Core.Path.{sym, ap, _∙_}
 use native.Mathlib.Omega.{arith}
 use Rattle.bits.specs.Pack.{bitAt}
 use Rattle.bits.specs.Pieces.{piece}
-use Rattle.sizes.specs.Rate.{blockBytes}
-use Rattle.frames.specs.Frames.{joined}
 use Rattle.frames.proofs.Bytes.{joined-in}
 use Rattle.frames.proofs.Rooms.{piece-le, bit-in}
-use borrow.Author.Needs.{needs}
 use Rattle.frames.proofs.joined.joined_bit.Statement.{statement}
 use Rattle.frames.proofs.joined.joined_bit.Tie as tie
 

@@ -1,6 +1,6 @@
 -- The bits passed are zero, so the first that is not is found among the rest; `at` is the place of the next.
 use mathlib.Core.Path.{_≡_, refl, sym, ap, _∙_}
-use Prim.Native.Nat.{ℕ, _+_, _-_, _*_, _≤_, _<_}
+use Prim.Native.Nat.{ℕ, _+_, _-_, _*_, _≤_}
 use native.Mathlib.Omega.{arith}
 use Rattle.bits.specs.First.{upTo, first-end}
 use Rattle.bits.specs.Pieces.{piece}
@@ -10,7 +10,6 @@ use Rattle.frames.specs.Frames.{joined, zeroAt}
 use Rattle.frames.specs.Needs.{Held}
 use Rattle.frames.proofs.Rooms.{total-room, held-at, piece-le, block-fit}
 use Rattle.frames.proofs.Fill.{fill-on, fill-here}
-use borrow.Author.Needs.{needs}
 use Rattle.frames.proofs.questions.first_fill.Statement.{statement}
 use Rattle.frames.proofs.questions.first_fill.Tie as tie
 

@@ -1,6 +1,6 @@
 -- The frames passed have their markers, so the first that has none is found among the rest.
 use mathlib.Core.Path.{_≡_, refl, sym, ap, _∙_}
-use Prim.Native.Nat.{ℕ, _+_, _-_, _*_, _≤_, _<_}
+use Prim.Native.Nat.{ℕ, _+_, _-_, _*_, _≤_}
 use native.Mathlib.Omega.{arith}
 use borrow.Author.Tests.{eq-eqb, ne-eqb}
 use Rattle.bits.specs.First.{upTo, first-on, first-here, first-end}
@@ -9,7 +9,6 @@ use Rattle.bits.specs.Pieces.{piece}
 use Rattle.sizes.specs.Sizes.{frameMarker, markerBits, span as Sizes·span}
 use Rattle.sizes.specs.Rate.{infoBits, blockBytes}
 use Rattle.frames.specs.Frames.{joined, marked, firstUnmarked}
-use Rattle.frames.specs.Needs.{Held}
 use Rattle.frames.proofs.Rooms.{total-room, span-fits, marker-held}
 use borrow.Author.Needs.{needs}
 use Rattle.frames.proofs.questions.first_unmarked.Statement.{statement}

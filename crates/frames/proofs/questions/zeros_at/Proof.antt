@@ -1,9 +1,9 @@
 -- Eight zeros, or the bit alone.
 use mathlib.Core.Path.{_≡_, sym, ap, _∙_}
-use Prim.Native.Nat.{ℕ, _+_, _≤_, _<_}
+use Prim.Native.Nat.{ℕ, _+_}
 use native.Mathlib.Omega.{arith}
 use Rattle.bits.specs.Pieces.{piece}
-use Rattle.sizes.specs.Rate.{infoBits, blockBytes}
+use Rattle.sizes.specs.Rate.{blockBytes}
 use Rattle.frames.specs.Frames.{joined}
 use Rattle.frames.specs.Needs.{bitOf}
 use borrow.Author.Needs.{needs}

@@ -1,10 +1,10 @@
 -- Before each turn the bytes below i are laid, and `at` is the place of the bit behind them.
-use mathlib.Core.Path.{_≡_, refl, sym, ap, _∙_}
-use Prim.Native.Nat.{ℕ, _+_, _-_, _*_, _≤_, _<_, _^_}
+use mathlib.Core.Path.{_≡_, ap, _∙_}
+use Prim.Native.Nat.{ℕ, _+_, _-_, _*_, _≤_}
 use native.Mathlib.Omega.{arith}
 use lib.ListN.{length, getD}
-use Rattle.bits.specs.Pack.{val, bytes-by-byte}
-use Rattle.bits.specs.Stretch.{Laid, laid-none, laid-on}
+use Rattle.bits.specs.Pack.{bytes-by-byte}
+use Rattle.bits.specs.Stretch.{Laid, laid-none}
 use Rattle.bits.specs.Places.{At, at-same, piece-le}
 use Rattle.stream.specs.Stream.{streamBit}
 use Rattle.stream.proofs.Bytes.{made-more}

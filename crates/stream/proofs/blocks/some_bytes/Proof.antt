@@ -1,5 +1,4 @@
 -- What lies together is laid by the bytes of the frame, and one byte by itself.
-use Prim.Native.Nat.{_≤_}
 use native.Mathlib.Omega.{arith}
 use Rattle.stream.proofs.Bytes.{together-inside, made-one, made-together}
 use borrow.Author.Needs.{needs}
