@@ -1,6 +1,6 @@
 /*
  * Plain C version of the word calls: one loop per step, a bit to a byte between the steps. Steps
- * are numbered as in document 01.
+ * are numbered as in docs/SPECIFICATION.md.
  */
 #include "plain_word.h"
 #include "mahyrei.h"

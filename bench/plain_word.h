@@ -1,6 +1,6 @@
 /*
- * The two calls of mahyrei.h in plain C: one loop per step, as the paper has it. The measure that
- * the library is compared with. Same arguments, same answers.
+ * The two calls of mahyrei.h in plain C: one loop per step, as the specification has it. The
+ * measure that the library is compared with. Same arguments, same answers.
  */
 #ifndef PLAIN_WORD_H
 #define PLAIN_WORD_H

@@ -8,7 +8,7 @@
  *   slots HEADER turn WORD BIT...    bits of a word turned over
  *   slots HEADER code WORD BIT...    coded bits turned over: the word that they would have made
  *
- * Symbols count markers. The terms and letters are those of document 01.
+ * Symbols count markers. The terms and letters are those of docs/SPECIFICATION.md.
  */
 #include <stdio.h>
 #include <stdlib.h>

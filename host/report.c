@@ -124,8 +124,8 @@ void entry_begin(struct entry *entry, const char *what) {
                             .slots = {.size = NO_SIZE, .digest = "-"}};
 }
 
-/* Headers and markers have capital letters, as in the papers; digests have small ones, as programs
- * for them print. */
+/* Headers and markers have capital letters, as in the specification; digests have small ones, as
+ * programs for them print. */
 static void digits_of(const char digits[16], const uint8_t *bytes, size_t len, char *text,
                       size_t room) {
     size_t at = 0;

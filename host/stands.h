@@ -1,6 +1,6 @@
 /*
- * What stands where in a run, by document 01's steps 9 and 10. Plain C, to count, to show and to
- * say with: no answer about a run rests on it.
+ * What stands where in a run, by the specification's steps 9 and 10. Plain C, to count, to show and
+ * to say with: no answer about a run rests on it.
  */
 #ifndef STANDS_H
 #define STANDS_H

@@ -69,7 +69,7 @@ class Refused(Exception):
 
 
 Fields = collections.namedtuple("Fields", "rate m N B F W A")
-Fields.__doc__ = "The fields of a header, by document 01's letters; rate is 0, 1 or 2."
+Fields.__doc__ = "The fields of a header, by the specification's letters; rate is 0, 1 or 2."
 
 Sizes = collections.namedtuple(
     "Sizes", "k M group S C R symbols slots marker_bytes frame_bytes slot_bytes"

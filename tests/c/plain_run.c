@@ -1,7 +1,7 @@
 /*
  * Plain C version of the run calls, on the plain C words of bench/plain_word.c: a stand-in for the
  * library, with which the tests can be tried. It allocates, and aborts where it cannot. Steps and
- * questions are numbered as in document 01.
+ * questions are numbered as in docs/SPECIFICATION.md.
  */
 #include <stdlib.h>
 #include <string.h>

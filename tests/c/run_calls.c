@@ -280,7 +280,7 @@ static void test_known_runs(void) {
     }
 }
 
-/* Sizes that document 01 states for its example. */
+/* Sizes that the specification states for its example. */
 static void test_example_sizes(void) {
     static const uint8_t EXAMPLE[] = {0x59, 0x50, 0xF0, 0x1B, 0xE8, 0x02, 0x00, 0x00};
     const struct run run = {1, 6, 84, 120, 223, 16, 2};

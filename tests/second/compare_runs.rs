@@ -1,6 +1,6 @@
 //! Compares the two run calls with the second implementation: `compare_runs [RUNS [SEED]]`.
 //! Compared are the answer and every lent byte, with a margin around each slice. The edges that
-//! document 01 names come first, the largest run last.
+//! the specification names come first, the largest run last.
 
 use second::compare::{argument, verdict, Call, Rng, Tally, MANY_DIFFERENCES};
 use second::run_cases::{compare_run, edges, largest, Met, Sizes, LEAST_RUNS};

@@ -1,7 +1,7 @@
 //! The run level a second time, to compare the library with; it stands on the word level of
 //! word.rs.
 //!
-//! Written from document 01: the header, steps 1, 8, 9 and 10, and the questions with their
+//! Written from the specification: the header, steps 1, 8, 9 and 10, and the questions with their
 //! places. One small function a step, in the order of the signal. The reader undoes the steps, and
 //! holds the symbols of a whole run at once.
 
@@ -480,7 +480,7 @@ mod tests {
         Run::of(&header.pack()).map_or_else(|refusal| refusal.number, |_| 0)
     }
 
-    // The rows of document 01's bench table on steps 8 and 10.
+    // The rows of the bench table on steps 8 and 10.
 
     #[test]
     fn symbol_of_1101() {
@@ -539,7 +539,7 @@ mod tests {
         }
     }
 
-    // Document 01's examples and edges.
+    // The specification's examples and edges.
 
     #[test]
     fn example_sheet() {

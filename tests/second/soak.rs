@@ -41,7 +41,7 @@ fn fresh_seed() -> Result<u64, String> {
 }
 
 /// Puts one case. Of 32, 20 are words, 11 are runs, one is a run with any header, of which some are
-/// large; the edges of document 01 come first.
+/// large; the specification's edges come first.
 fn put_case(tally: &mut Tally, soak: &Soak, case: u64) {
     let rng = &mut Rng::of_index(soak.seed, case);
     let (round, seat) = (case / 32, case % 32);

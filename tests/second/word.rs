@@ -1,8 +1,8 @@
 //! The word level a second time, to compare the library with.
 //!
-//! Written from the papers: document 01 for the steps and questions, and the draft book's mother
-//! code with its puncture patterns for step 4. One small function a step, in the order of the
-//! signal; a bit is a `bool`, and a sum of bits is `^`.
+//! Written from the specification's steps and questions, and for step 4 from the draft book's
+//! mother code with its puncture patterns; not from the library. One small function a step, in the
+//! order of the signal; a bit is a `bool`, and a sum of bits is `^`.
 
 /// Bits of a word, which are as many as coded bits.
 pub const WORD_BITS: usize = 15120;
@@ -271,7 +271,7 @@ mod tests {
         block
     }
 
-    // The rows of document 01's bench table on steps 2 to 7.
+    // The rows of the bench table on steps 2 to 7.
 
     #[test]
     fn randomizer_start() {
@@ -308,7 +308,7 @@ mod tests {
         assert_eq!(accumulate(&bits("1101")), bits("1001"));
     }
 
-    // Facts of the papers that the bench table does not have.
+    // Facts of the draft book that the bench table does not have.
 
     #[test]
     fn check_polynomial_is_the_papers() {

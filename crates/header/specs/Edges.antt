@@ -1,4 +1,4 @@
--- Document 01's example and its edges, which antt computes.
+-- The specification's example and its edges, which antt computes.
 use mathlib.Core.Path.{_≡_, refl}
 use mathlib.Core.Bool.{true, false}
 use mathlib.Core.List.{List, [], _∷_}

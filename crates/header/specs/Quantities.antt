@@ -1,4 +1,4 @@
--- What a header implies, each quantity with its letter in document 01.
+-- What a header implies, each quantity with its letter in the specification (docs/SPECIFICATION.md).
 use Prim.Native.Nat.{ℕ, _+_, _-_, _*_, _/_, _^_}
 use Rattle.sizes.specs.Rate.{infoBits}
 use Rattle.sizes.specs.Sizes.{wordBits, span}
@@ -28,7 +28,7 @@ spread f = f .rows * (f .rows - 1) * f .step
 unfoldable pub sequenceLength : Fields → ℕ
 sequenceLength f = blockCount f * symbolsPerWord f + spread f
 
--- R, the rows of S symbols that they are cut into
+-- R, the lines of S places that they are cut into
 unfoldable pub sequenceRows : Fields → ℕ
 sequenceRows f = sequenceLength f / symbolsPerWord f
 

@@ -28,7 +28,7 @@ planOf q = record {
 abbrev pub planIn : List ℕ → List ℕ → Plan
 planIn header marker = planOf (parametersOf (fieldsOf header) marker)
 
--- the symbols of a row with its markers
+-- the symbols of a line with its markers
 abbrev pub unit : Plan → ℕ
 unit p = p .symbols + p .count
 

@@ -28,7 +28,7 @@ pub struct Plan {
     pub rows: usize,
     // B
     pub step: usize,
-    // R, the rows of S symbols that the places of step 9 make
+    // R, the lines of S places that those of step 9 make
     pub lines: usize,
     // W, the marker symbols before each
     pub count: usize,

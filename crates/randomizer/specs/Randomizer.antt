@@ -28,7 +28,7 @@ sequence j = getD (window j) 7 0
 unfoldable pub randomize : (ℕ → ℕ) → ℕ → ℕ
 randomize f j = bitXor (f j) (sequence j)
 
--- ---- what the sequence is, as the paper says it
+-- ---- what the sequence is, as the specification says it
 
 -- the window's bits are the sequence's
 pub window-bit : (i j : ℕ) → i < 8 → getD (window j) (7 - i) 0 ≡ sequence (j + i)

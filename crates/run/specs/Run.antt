@@ -1,4 +1,4 @@
--- Runs: the slots of frames under a header and its marker symbols, the way back, and the questions in document 01's order.
+-- Runs: the slots of frames under a header and its marker symbols, the way back, and the questions in the specification's order (docs/SPECIFICATION.md).
 -- Words are known by the names of crate `word` alone: its definitions are not opened here.
 use mathlib.Core.List.{List}
 use Prim.Native.Nat.{ℕ, _*_}

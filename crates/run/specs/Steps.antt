@@ -1,4 +1,4 @@
--- The run's steps and questions under one roof, in document 01's order. Each is the definition of the crate that has it, for a header and its marker symbols; the laws say how each is made of the one before, and that a run and the reader's answer are made of these and nothing else.
+-- The run's steps and questions under one roof, in the specification's order (docs/SPECIFICATION.md). Each is the definition of the crate that has it, for a header and its marker symbols; the laws say how each is made of the one before, and that a run and the reader's answer are made of these and nothing else.
 use mathlib.Core.Path.{_≡_, refl, ap, _∙_}
 use mathlib.Core.List.{List}
 use Prim.Native.Nat.{ℕ, _+_, _*_, _/_, _%_, _≤_, _<_}

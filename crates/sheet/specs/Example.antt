@@ -1,4 +1,4 @@
--- Document 01's example: antt computes its line, and the line of no input.
+-- The specification's example: antt computes its line, and the line of no input.
 use mathlib.Core.Path.{_≡_, refl}
 use mathlib.Core.List.{[], _∷_}
 use Rattle.bits.specs.Pack.{val, bitAt}

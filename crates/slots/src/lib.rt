@@ -115,7 +115,7 @@ fn put_residues(p: Plan, words: &[u8], row: usize, slots: &mut [u8])
     }
 }
 
-// A row with its markers. Its zeros are laid here, so that they are still near when the pulses are moved.
+// A row with its markers. Its zeros are laid here, so that they are still in the cache when the pulses are moved.
 fn put_row(p: Plan, words: &[u8], zeros: &[u8], row: usize, slots: &mut [u8])
     requires { ⌜ Given p (now words) × Zeros (p .group) (now zeros) × (row < p .lines) × Holds p (front p (piece wordBytes (now words)) (row * unit p)) (rowEnd p row) (now slots) ⌝ }
     ensures { λ _. ⌜ Holds p (front p (piece wordBytes (now (words .entry))) ((row + 1) * unit p)) (rowEnd p (row + 1)) (now (slots .exit)) ⌝ }

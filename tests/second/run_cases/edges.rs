@@ -1,4 +1,4 @@
-//! The edges that document 01 names, and the largest run.
+//! The edges that the specification names, and the largest run.
 
 use super::calls::{compare, compare_read, compare_write, Arguments};
 use super::damages::flip;
@@ -6,8 +6,8 @@ use super::sample::Sample;
 use crate::compare::{Rng, Tally, Way};
 use crate::run::Header;
 
-/// Headers and markers at the edges that document 01 names, with the number that they get when
-/// the other slices are empty: 8 where the header and the marker pass.
+/// Headers and markers at the edges that the specification names, with the number that they get
+/// when the other slices are empty: 8 where the header and the marker pass.
 pub fn edges(tally: &mut Tally, rng: &mut Rng) {
     let header = Header {
         rate: 1,
