@@ -65,7 +65,7 @@ help:
 	@echo 'make host-test  the tests outside the proofs alone; SEED=n, WORDS=n and RUNS=n choose what'
 	@echo '                is compared'
 	@echo 'make demo       write a run, see its first symbols, read it back, damage it, look into it'
-	@echo 'make bench      times of the library beside plain C and plain Rust'
+	@echo 'make bench      times of the library beside plain C and beside memory'
 	@echo 'make lib        the static library and the shared one: $(LIBS)'
 	@echo '                $(SHARED)'
 	@echo 'make program    the command: $(PROGRAM)'
@@ -232,8 +232,9 @@ $(HOST)/plain_word.o: bench/plain_word.c bench/plain_word.h $(HEADER)
 $(HOST)/bench_words: bench/bench_words.c $(HOST)/plain_word.o bench/plain_word.h $(HEADER) $(LINKED)
 	@$(COMPILE) $< $(HOST)/plain_word.o $(LIBS) -o $@
 
-$(HOST)/bench_runs: bench/bench_runs.rs $(HOST)/libsecond.rlib $(LINKED)
-	@$(RUSTC) $(RUSTFLAGS) $< $(LINK_RUST) -o $@
+$(HOST)/bench_runs: bench/bench_runs.c $(HOST)/plain_word.o $(HOST)/plain_run.o bench/plain_run.h \
+    tests/c/runs.h $(HEADER) $(LINKED)
+	@$(COMPILE) -Itests/c $< $(HOST)/plain_word.o $(HOST)/plain_run.o $(LIBS) -o $@
 
 # Evidence beyond the tests (docs/EVIDENCE.md): for as long as one likes, on all cores.
 SECONDS ?= 60
@@ -271,5 +272,5 @@ $(HOST)/plain_run.o: tests/c/plain_run.c bench/plain_word.h $(HEADER)
 	    -c $< -o $@
 
 FUZZ_TARGET = tests/fuzz/drive.c tests/fuzz/calls.c $(HOST)/plain_word.o $(HOST)/plain_run.o
-$(HOST)/fuzz_drive: $(FUZZ_TARGET) tests/fuzz/calls.h tests/c/runs.h $(HEADER) $(LINKED)
+$(HOST)/fuzz_drive: $(FUZZ_TARGET) bench/plain_run.h tests/fuzz/calls.h tests/c/runs.h $(HEADER) $(LINKED)
 	@$(COMPILE) $(SANITIZED) -Ibench $(FUZZ_TARGET) $(LIBS) -o $@

@@ -25,15 +25,8 @@
 #include "../c/runs.h"
 #include "calls.h"
 #include "mahyrei.h"
+#include "plain_run.h"
 #include "plain_word.h"
-
-/* tests/c/plain_run.c, built with these names. */
-uint64_t plain_run_write(const uint8_t *header, size_t header_len, const uint8_t *marker,
-                         size_t marker_len, const uint8_t *frames, size_t frames_len,
-                         uint8_t *slots, size_t slots_len);
-uint64_t plain_run_read(const uint8_t *header, size_t header_len, const uint8_t *marker,
-                        size_t marker_len, const uint8_t *slots, size_t slots_len, uint8_t *frames,
-                        size_t frames_len);
 
 enum {
     PAGE = 4096,

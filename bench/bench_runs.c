@@ -1,0 +1,161 @@
+/*
+ * The run calls beside the plain C version, and beside memset and memcpy of the same slot bytes.
+ *
+ * Those that are compared take turns, and the best turn of each counts, so a busy machine harms all
+ * alike and little. Output slices are not cleared between calls.
+ */
+#define _POSIX_C_SOURCE 199309L /* clock_gettime */
+#include <stdio.h>
+#include <stdlib.h>
+#include <string.h>
+#include <time.h>
+
+#include "mahyrei.h"
+#include "plain_run.h"
+#include "runs.h"
+
+/* Turns last about this long in all, in microseconds, but there are at least so many. */
+static const double LONG_ENOUGH = 2e6;
+enum { TURNS_LEAST = 5, TURNS_MOST = 2000 };
+
+struct named_run {
+    const char *name;
+    struct run run;
+};
+
+static const struct named_run RUNS[] = {
+    {"m 4, C 3", {.rate = 1, .m = 4, .N = 1, .B = 1, .F = 900, .W = 16, .A = 3}},
+    {"the example", {.rate = 1, .m = 6, .N = 84, .B = 120, .F = 223, .W = 16, .A = 2}},
+    {"m 2, C 77", {.rate = 2, .m = 2, .N = 21, .B = 180, .F = 1500, .W = 16, .A = 64}},
+    {"m 8, C 105", {.rate = 2, .m = 8, .N = 64, .B = 255, .F = 2048, .W = 16, .A = 64}},
+    {"the largest", {.rate = 0, .m = 8, .N = 127, .B = 255, .F = 2048, .W = 32, .A = 64}},
+};
+enum { RUN_COUNT = sizeof RUNS / sizeof RUNS[0], MARKER_MOST = 32 };
+
+/* What one run is made of. */
+struct slices {
+    uint8_t header[MAHYREI_HEADER_BYTES], marker[MARKER_MOST];
+    uint8_t *frames, *slots, *other;
+    size_t marker_len, frames_len, slots_len;
+};
+
+static void require(int right, const char *what) {
+    if (!right) {
+        fprintf(stderr, "bench: %s\n", what);
+        exit(1);
+    }
+}
+
+static double now(void) {
+    struct timespec t;
+    clock_gettime(CLOCK_MONOTONIC, &t);
+    return (double)t.tv_sec * 1e6 + (double)t.tv_nsec / 1e3;
+}
+
+static void make(const struct run *run, struct slices *s) {
+    uint64_t state = 1;
+    pack_header(run, s->header);
+    s->marker_len = run->W;
+    s->frames_len = run->A * run->F;
+    s->slots_len = slot_bytes(run);
+    s->frames = malloc(s->frames_len);
+    s->slots = malloc(s->slots_len);
+    s->other = malloc(s->slots_len);
+    require(s->frames != NULL && s->slots != NULL && s->other != NULL, "no memory");
+    for (size_t i = 0; i < s->marker_len; i++) {
+        s->marker[i] = (uint8_t)(i % pulse_order(run));
+    }
+    for (size_t i = 0; i < s->frames_len; i++) {
+        state = state * UINT64_C(6364136223846793005) + UINT64_C(1442695040888963407);
+        s->frames[i] = (uint8_t)(state >> 56);
+    }
+}
+
+/* ---- what is timed */
+
+static uint64_t write_library(struct slices *s) {
+    return run_write(s->header, sizeof s->header, s->marker, s->marker_len, s->frames,
+                     s->frames_len, s->slots, s->slots_len);
+}
+
+static uint64_t write_plain(struct slices *s) {
+    return plain_run_write(s->header, sizeof s->header, s->marker, s->marker_len, s->frames,
+                           s->frames_len, s->slots, s->slots_len);
+}
+
+static uint64_t read_library(struct slices *s) {
+    return run_read(s->header, sizeof s->header, s->marker, s->marker_len, s->slots, s->slots_len,
+                    s->frames, s->frames_len);
+}
+
+static uint64_t read_plain(struct slices *s) {
+    return plain_run_read(s->header, sizeof s->header, s->marker, s->marker_len, s->slots,
+                          s->slots_len, s->frames, s->frames_len);
+}
+
+static uint64_t clear(struct slices *s) {
+    memset(s->other, 0, s->slots_len);
+    __asm__ volatile("" : : "r"(s->other) : "memory"); /* the bytes are wanted */
+    return 0;
+}
+
+static uint64_t copy(struct slices *s) {
+    memcpy(s->other, s->slots, s->slots_len);
+    __asm__ volatile("" : : "r"(s->other) : "memory");
+    return 0;
+}
+
+typedef uint64_t timed(struct slices *s);
+
+static double once(timed *call, struct slices *s) {
+    const double start = now();
+    require(call(s) == 0, "a call refused while it was timed");
+    return now() - start;
+}
+
+/* The library, plain C and memory, in turns; the best turn of each. */
+static void take_turns(timed *const calls[3], struct slices *s, double best[3]) {
+    double spent = 0;
+    for (int turn = 0; turn < TURNS_LEAST || (spent < LONG_ENOUGH && turn < TURNS_MOST); turn++) {
+        for (int i = 0; i < 3; i++) {
+            const double took = once(calls[i], s);
+            best[i] = turn == 0 || took < best[i] ? took : best[i];
+            spent += took;
+        }
+    }
+}
+
+static void row(const char *name, const char *call, timed *const calls[3], struct slices *s) {
+    double best[3];
+    take_turns(calls, s, best);
+    printf("%-12s %10zu  %-9s %9.0f %9.0f %9.0f %12.2f %14.2f\n", name, s->slots_len, call, best[0],
+           best[1], best[2], best[1] / best[0], best[0] / best[2]);
+}
+
+/* Nothing is timed that is not right: both write the same slots. */
+static void compare(struct slices *s) {
+    require(write_library(s) == 0, "the library refuses to write");
+    memcpy(s->other, s->slots, s->slots_len);
+    require(write_plain(s) == 0 && memcmp(s->other, s->slots, s->slots_len) == 0,
+            "library and plain C write different slots");
+}
+
+int main(void) {
+    static timed *const WRITE[3] = {write_library, write_plain, clear};
+    static timed *const READ[3] = {read_library, read_plain, copy};
+    printf("microseconds a run, the best turn of each; memory is memset for writing, memcpy for "
+           "reading\n");
+    printf("%-12s %10s  %-9s %9s %9s %9s %12s %14s\n", "run", "bytes", "call", "library", "plain C",
+           "memory", "plain/library", "library/memory");
+    for (size_t i = 0; i < RUN_COUNT; i++) {
+        struct slices s = {0};
+        make(&RUNS[i].run, &s);
+        compare(&s);
+        row(RUNS[i].name, "run_write", WRITE, &s);
+        row(RUNS[i].name, "run_read", READ, &s);
+        free(s.frames);
+        free(s.slots);
+        free(s.other);
+    }
+    return 0;
+}

@@ -1,0 +1,15 @@
+/* The run calls in plain C (tests/c/plain_run.c), under names of their own. */
+#ifndef PLAIN_RUN_H
+#define PLAIN_RUN_H
+
+#include <stddef.h>
+#include <stdint.h>
+
+uint64_t plain_run_write(const uint8_t *header, size_t header_len, const uint8_t *marker,
+                         size_t marker_len, const uint8_t *frames, size_t frames_len,
+                         uint8_t *slots, size_t slots_len);
+uint64_t plain_run_read(const uint8_t *header, size_t header_len, const uint8_t *marker,
+                        size_t marker_len, const uint8_t *slots, size_t slots_len, uint8_t *frames,
+                        size_t frames_len);
+
+#endif
