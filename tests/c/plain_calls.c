@@ -117,7 +117,7 @@ static void try_names(void) {
     const char *wrong = NULL;
     struct mahyrei_sizes sizes;
     check(mahyrei_header_make(&fields, header, NULL) == 0 && memcmp(header, example, 8) == 0,
-          "the example of document 01", header);
+          "the example of the specification", header);
     check(mahyrei_sizes(example, 8, &sizes) == 0 && sizes.R == 333 && sizes.S == 2520 &&
               sizes.symbols == 844488 && sizes.slots == 67559040 && sizes.slot_bytes == 8444880 &&
               sizes.frame_bytes == 446 && sizes.marker_bytes == 16 && sizes.group == 80,

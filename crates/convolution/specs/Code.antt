@@ -1,6 +1,7 @@
 -- Step 4, the convolutional code from the zero state: outputs 1 + D², 1 + D + D², and 1 + D + D² again.
 use mathlib.Core.Path.{_≡_, refl, sym, ap, ap₂, _∙_}
 use mathlib.Core.Bool.{Bool, true, false}
+use mathlib.Core.List.{[], _∷_, map}
 use mathlib.Core.Logic.{_⊎_, ⊎-elim}
 use Prim.Native.Nat.{ℕ, zero, suc, _+_, _-_, _*_, _/_, _%_, _≤_, _<_}
 use native.Mathlib.Omega.{arith}
@@ -49,6 +50,11 @@ recover s (suc (suc i)) = bitXor (bitXor (s (suc (suc i))) (recover s (suc i))) 
 
 unfoldable pub decode : ℕ → (ℕ → ℕ) → ℕ → ℕ
 decode rate c = recover (λ i. c (secondPlace rate i))
+
+-- the places of the second outputs at each rate
+pub second-example : (map (secondPlace 0) (0 ∷ 1 ∷ 2 ∷ []) ≡ 1 ∷ 4 ∷ 7 ∷ []) × (map (secondPlace 1) (0 ∷ 1 ∷ 2 ∷ []) ≡ 1 ∷ 3 ∷ 5 ∷ []) × (map (secondPlace 2) (0 ∷ 1 ∷ 2 ∷ 3 ∷ []) ≡ 1 ∷ 2 ∷ 4 ∷ 5 ∷ [])
+unfolding secondPlace inputsPer codedPer
+second-example = (refl, refl, refl)
 
 -- ---- the equations of `encode` at each rate
 

@@ -1,7 +1,7 @@
 -- The specification's example and its edges, which antt computes.
 use mathlib.Core.Path.{_≡_, refl}
 use mathlib.Core.Bool.{true, false}
-use mathlib.Core.List.{List, [], _∷_}
+use mathlib.Core.List.{List, [], _∷_, map}
 use Prim.Native.Nat.{ℕ}
 use Rattle.bits.specs.First.{firstFrom}
 use Rattle.bits.specs.Pack.{val, bitAt, bytesOf}
@@ -53,6 +53,24 @@ size-0 = refl
 pub markers-33 : fieldsSay (edge 21 223 33) ≡ No 7 0
 unfolding fieldsSay question2 question3 question4 question5 question6 question7 spread symbolsPerWord
 markers-33 = refl
+
+-- the ends of the ranges: a run of one frame of one byte, with one field changed
+abbrev ranged : ℕ → ℕ → ℕ → ℕ → ℕ → ℕ → ℕ → Fields
+ranged rate bits rows step size markers frames = record { rate = rate; bits = bits; rows = rows; step = step; size = size; markers = markers; frames = frames }
+
+pub ranges-passed : (fieldsSay (ranged 0 2 1 1 1 1 1) ≡ Done) × (fieldsSay (ranged 2 8 1 256 2048 32 64) ≡ Done)
+unfolding fieldsSay question2 question3 question4 question5 question6 question7 spread symbolsPerWord
+ranges-passed = (refl, refl)
+
+pub below-ranges : map fieldsSay (ranged 0 1 1 1 1 1 1 ∷ ranged 0 2 0 1 1 1 1 ∷ ranged 0 2 1 0 1 1 1 ∷ ranged 0 2 1 1 0 1 1 ∷ ranged 0 2 1 1 1 0 1 ∷ ranged 0 2 1 1 1 1 0 ∷ [])
+    ≡ No 3 0 ∷ No 4 0 ∷ No 4 0 ∷ No 6 0 ∷ No 7 0 ∷ No 6 0 ∷ []
+unfolding fieldsSay question2 question3 question4 question5 question6 question7 spread symbolsPerWord
+below-ranges = refl
+
+pub above-ranges : map fieldsSay (ranged 3 2 1 1 1 1 1 ∷ ranged 0 9 1 1 1 1 1 ∷ ranged 0 2 129 1 1 1 1 ∷ ranged 0 2 1 257 1 1 1 ∷ ranged 0 2 1 1 2049 1 1 ∷ ranged 0 2 1 1 1 33 1 ∷ ranged 0 2 1 1 1 1 65 ∷ [])
+    ≡ No 2 0 ∷ No 3 0 ∷ No 4 0 ∷ No 4 0 ∷ No 6 0 ∷ No 7 0 ∷ No 6 0 ∷ []
+unfolding fieldsSay question2 question3 question4 question5 question6 question7 spread symbolsPerWord
+above-ranges = refl
 
 -- the marker symbols of two: 3 is below M = 4, and 4 is not; a short slice is looked at, and what stands past the W-th is not
 abbrev two : Fields

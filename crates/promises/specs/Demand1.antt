@@ -4,22 +4,24 @@
 --
 -- Each call asks its questions in order (`then`), and the first no gives its number and its place (`ask`); where all are answered yes it is done. So
 -- what is not refused by one of these numbers is accepted. That every call ends is part of every proof.
-use mathlib.Core.Path.{_≡_, refl, ap₂}
+use mathlib.Core.Path.{_≡_, refl, ap, ap₂}
 use mathlib.Core.List.{List}
-use Prim.Native.Nat.{ℕ, _+_, _*_}
+use Prim.Native.Nat.{ℕ, _+_, _-_, _*_, _<_}
 use lib.Dec.{ltb, eqb}
 use lib.ListN.{length}
 use Rattle.bits.specs.Table.{both}
 use Rattle.answers.specs.Answer.{codeOf, ask, then, after}
 use Rattle.answers.specs.InOrder.{inOrder}
 use Rattle.answers.specs.declared.Answer.{Answer}
-use Rattle.answers.specs.declared.Answer.the-variants.{No}
+use Rattle.answers.specs.declared.Answer.the-variants.{Done, No}
 use Rattle.sizes.specs.Rate.{infoBits, blockBytes}
 use Rattle.word.specs.Word as words
 use Rattle.word.specs.Word.Answers as word-laws
 use Rattle.header.specs.Header.{fieldsOf}
 use Rattle.header.specs.Questions.{question1, question2, question3, question4, question5, question6, question7}
-use Rattle.header.specs.Quantities.{blockCount}
+use Rattle.header.specs.Quantities.{blockCount, markedBits}
+use Rattle.header.specs.Valid.{Valid}
+use Rattle.header.specs.Bounds.{fill-few}
 use Rattle.header.specs.Marks.{marksGood}
 use Rattle.header.specs.declared.Fields.{Fields}
 use Rattle.plan.specs.declared.Plan.{Plan}
@@ -29,6 +31,7 @@ use Rattle.frames.specs.Frames.{firstUnmarked, fillZero}
 use Rattle.capture.specs.Capture.{spareEmpty, firstBadGroup, firstBadMark, firstBadRest, wordOut}
 use Rattle.run.specs.Run as runs
 use Rattle.run.specs.Steps.{asked-in-order, called-in-order}
+use Rattle.calls.specs.After.{wordAfter, blockAfter, slotsAfter, framesAfter}
 
 -- ---- words
 
@@ -92,12 +95,32 @@ run-reader-asks header marker slots n f p ef ep =
     rw (ef, ep)
     (ap₂ (λ (a b : Answer). then a b) (called-in-order header marker n (length slots)) (asked-in-order (fieldsOf header) (planIn header marker) slots))
 
--- ---- what a refusal does
+-- ---- what the slice that was lent for a result holds afterwards: `After` of crate `calls`, which the contracts cite; no other slice is written
 
--- it leaves the slice that was lent for the result as it was; no other slice is lent to be written
-pub refused-keeps : (number place : ℕ) (result old : List ℕ) → after (No number place) result old ≡ old
-refused-keeps number place result old = refl
+-- a refused call leaves it as it was
+pub refused-word-write : (rate : ℕ) (block old : List ℕ) (number place : ℕ) → words.writeSays rate block (length old) ≡ No number place → wordAfter rate block old ≡ old
+refused-word-write rate block old number place e = ap (λ (a : Answer). after a (words.wordOf rate block) old) e
 
--- C gets number and place as place × 256 + number, and 0 where all is done
+pub refused-word-read : (rate : ℕ) (word old : List ℕ) (number place : ℕ) → words.readSays rate word (length old) ≡ No number place → blockAfter rate word old ≡ old
+refused-word-read rate word old number place e = ap (λ (a : Answer). after a (words.blockIn rate word) old) e
+
+pub refused-run-write : (header marker frames old : List ℕ) (number place : ℕ) → runs.writeSays header marker frames (length old) ≡ No number place
+    → slotsAfter header marker frames old ≡ old
+refused-run-write header marker frames old number place e = ap (λ (a : Answer). after a (runs.runOf header marker frames) old) e
+
+pub refused-run-read : (header marker slots old : List ℕ) (number place : ℕ) → runs.readSays header marker slots (length old) ≡ No number place
+    → framesAfter header marker slots old ≡ old
+refused-run-read header marker slots old number place e = ap (λ (a : Answer). after a (runs.framesRead header marker slots) old) e
+
+-- ---- what C gets: place × 256 + number, and 0 where all is done
+
 pub refused-code : (number place : ℕ) → codeOf (No number place) ≡ place * 256 + number
 refused-code number place = refl
+
+pub accepted-code : codeOf Done ≡ 0
+accepted-code = refl
+
+-- ---- question 17, fewer than k fill bits, can be answered no by no header: it is not asked
+
+pub fill-below-k : (f : Fields) → Valid f → blockCount f * infoBits (f .rate) - markedBits f < infoBits (f .rate)
+fill-below-k f v = fill-few f v

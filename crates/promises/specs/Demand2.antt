@@ -1,4 +1,5 @@
--- Demand 2. "The reader accepts a slot buffer only if some frames are written to it under the same header and marker, accepts every such buffer,
+-- Demand 2. "The writer gives the slots that the specification defines": the contract of `run_write` is an equation with `runOf`, and
+-- run/specs/Steps.antt says how that is made, step by step. "The reader accepts a slot buffer only if some frames are written to it under the same header and marker, accepts every such buffer,
 -- and returns those frames. For single words and their blocks the same holds."
 --
 -- The definitions are those that the contracts of the calls cite (crate `calls`): what a call says (`writeSays`, `readSays`), the slots of frames
@@ -9,12 +10,15 @@ use mathlib.Core.List.{List}
 use Prim.Native.Nat.{ℕ}
 use lib.ListN.{length}
 use Rattle.bits.specs.Pack.{Bytes}
+use Rattle.answers.specs.Answer.{after}
+use Rattle.answers.specs.declared.Answer.{Answer}
 use Rattle.answers.specs.declared.Answer.the-variants.{Done}
 use Rattle.sizes.specs.Sizes.{wordBytes}
 use Rattle.word.specs.Word as words
 use Rattle.word.specs.Return as word-laws
 use Rattle.run.specs.Run as runs
 use Rattle.run.specs.Return as run-laws
+use Rattle.calls.specs.After.{wordAfter, blockAfter, slotsAfter, framesAfter}
 
 -- ---- runs
 
@@ -36,6 +40,17 @@ pub run-one : (header marker a b : List ℕ) (n m : ℕ) → Bytes a → Bytes b
 run-one header marker a b n m ha hb wa wb e =
     sym (run-written-read header marker a n ha wa .1) ∙ ap (runs.framesRead header marker) e ∙ run-written-read header marker b m hb wb .1
 
+-- The same of the slices that two calls in a row are lent: what `run_write` leaves in the slots, `run_read` turns back into the frames.
+pub run-there-and-back : (header marker frames slots back : List ℕ) → Bytes frames → runs.writeSays header marker frames (length slots) ≡ Done → length back ≡ length frames
+    → framesAfter header marker (slotsAfter header marker frames slots) back ≡ frames
+run-there-and-back header marker frames slots back b w e =
+    let r = run-written-read header marker frames (length slots) b w in
+    let written : slotsAfter header marker frames slots ≡ runs.runOf header marker frames = ap (λ (a : Answer). after a (runs.runOf header marker frames) slots) w in
+    let said : runs.readSays header marker (runs.runOf header marker frames) (length back) ≡ Done = ap (runs.readSays header marker (runs.runOf header marker frames)) e ∙ r .0 in
+    ap (λ (s : List ℕ). framesAfter header marker s back) written
+    ∙ ap (λ (a : Answer). after a (runs.framesRead header marker (runs.runOf header marker frames)) back) said
+    ∙ r .1
+
 -- ---- words
 
 -- If a block is written to a word, the reader accepts that word and returns that block.
@@ -55,3 +70,14 @@ pub word-one : (rate : ℕ) (a b : List ℕ) → Bytes a → Bytes b → words.w
     → words.wordOf rate a ≡ words.wordOf rate b → a ≡ b
 word-one rate a b ha hb wa wb e =
     sym (word-written-read rate a ha wa .1) ∙ ap (words.blockIn rate) e ∙ word-written-read rate b hb wb .1
+
+-- The same of the lent slices.
+pub word-there-and-back : (rate : ℕ) (block word back : List ℕ) → Bytes block → words.writeSays rate block (length word) ≡ Done → length word ≡ wordBytes → length back ≡ length block
+    → blockAfter rate (wordAfter rate block word) back ≡ block
+word-there-and-back rate block word back b w long e =
+    let r = word-written-read rate block b (ap (words.writeSays rate block) (sym long) ∙ w) in
+    let written : wordAfter rate block word ≡ words.wordOf rate block = ap (λ (a : Answer). after a (words.wordOf rate block) word) w in
+    let said : words.readSays rate (words.wordOf rate block) (length back) ≡ Done = ap (words.readSays rate (words.wordOf rate block)) e ∙ r .0 in
+    ap (λ (x : List ℕ). blockAfter rate x back) written
+    ∙ ap (λ (a : Answer). after a (words.blockIn rate (words.wordOf rate block)) back) said
+    ∙ r .1

@@ -9,7 +9,7 @@ use lib.Bits.{bitXor}
 use lib.Dec.{eqb}
 use lib.ListN.{length, getD}
 use borrow.Author.Tests.{eq-eqb, eqb-true}
-use Rattle.bits.specs.Choice.{lt-or-le}
+use Rattle.bits.specs.Choice.{bool, lt-or-le}
 use Rattle.bits.specs.Sum.{sum3}
 use Rattle.bits.specs.Table.{both-true, tab, getD-tab, tab-same}
 use Rattle.bits.specs.First.{none-fails, all-pass}
@@ -18,7 +18,7 @@ use Rattle.sizes.specs.Rate.{infoBits, inputBits, blockBytes, block-size}
 use Rattle.sizes.specs.Sizes.{wordBits, wordBytes}
 use Rattle.crc.specs.Check.{register, register-same, register-lt, checkBit, checked, checked-block, checked-check, checked-bits, checked-same, checked-sum3}
 use Rattle.convolution.specs.Code.{encode, encode-bits, encode-same, encode-plus, decode-bits, decode-same, decode-encode}
-use Rattle.interleaver.specs.Interleaver.{interleave, deinterleave, interleave-bits, deinterleave-bits, interleave-same, deinterleave-same, deinterleave-interleave, interleave-deinterleave, interleave-plus, deinterleave-plus}
+use Rattle.interleaver.specs.Interleaver.{place, interleave, deinterleave, interleave-bits, deinterleave-bits, interleave-same, deinterleave-same, deinterleave-interleave, interleave-deinterleave, interleave-plus, deinterleave-plus}
 use Rattle.accumulator.specs.Accumulator.{accumulate, differentiate, accumulate-bits, differentiate-bits, accumulate-same, differentiate-same, accumulate-plus, differentiate-plus, differentiate-accumulate, accumulate-differentiate}
 use Rattle.randomizer.specs.Randomizer.{sequence, window, next, randomize, randomize-bits, randomize-same, randomize-twice, randomize-plus, randomize-sum3}
 use Rattle.word.specs.Word.{Packed, inputOf, codedOf, shuffled, wordOf, codedIn, inputIn, packedBlock, blockIn, agrees, firstWrong, endsInZeros, checkRight}
@@ -28,6 +28,11 @@ use Rattle.word.specs.Word.{Packed, inputOf, codedOf, shuffled, wordOf, 
 pub order-example : val (shuffled (λ i. 0)) 16 ≡ 0xFF48
 unfolding shuffled randomize accumulate interleave sequence window next val
 order-example = refl
+
+-- and of step 5 before step 6: coded bit 221 alone goes to place 1, and from there on the accumulator turns every bit over
+pub order-example-5 : val (shuffled (λ i. bool (eqb i 221))) 16 ≡ 0x80B7
+unfolding shuffled randomize accumulate interleave place sequence window next val
+order-example-5 = refl
 
 -- ---- bits all the way
 
