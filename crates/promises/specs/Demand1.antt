@@ -7,6 +7,7 @@
 use mathlib.Core.Path.{_≡_, refl, ap, ap₂}
 use mathlib.Core.List.{List}
 use Prim.Native.Nat.{ℕ, _+_, _-_, _*_, _<_}
+use native.Mathlib.Omega.{arith}
 use lib.Dec.{ltb, eqb}
 use lib.ListN.{length}
 use Rattle.bits.specs.Table.{both}
@@ -14,7 +15,7 @@ use Rattle.answers.specs.Answer.{codeOf, ask, then, after}
 use Rattle.answers.specs.InOrder.{inOrder}
 use Rattle.answers.specs.declared.Answer.{Answer}
 use Rattle.answers.specs.declared.Answer.the-variants.{Done, No}
-use Rattle.sizes.specs.Rate.{infoBits, blockBytes}
+use Rattle.sizes.specs.Rate.{infoBits, blockBytes, info-pos}
 use Rattle.word.specs.Word as words
 use Rattle.word.specs.Word.Answers as word-laws
 use Rattle.header.specs.Header.{fieldsOf}
@@ -123,4 +124,4 @@ accepted-code = refl
 -- ---- question 17, fewer than k fill bits, can be answered no by no header: it is not asked
 
 pub fill-below-k : (f : Fields) → Valid f → blockCount f * infoBits (f .rate) - markedBits f < infoBits (f .rate)
-fill-below-k f v = fill-few f v
+fill-below-k f v = omega (arith, fill-few f v, info-pos (f .rate))
