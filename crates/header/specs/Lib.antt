@@ -1,10 +1,3 @@
 pub mod Header
 pub mod Layout
-pub mod Quantities
-pub mod Questions
-pub mod Valid
-pub mod Shape
-pub mod Bounds
-pub mod Marks
-pub mod Accepted
-pub mod Edges
+pub mod Example

@@ -1,12 +1,5 @@
-// The run header: its eight bytes, the questions put to it, the quantities that follow from it, and the parameters that a run carries along.
-// `layout` reads and makes the bytes, `questions` puts what `runsheet` puts, `quantities` has what the header implies, `marks` adds the
-// marker symbols.
+// The run header: eight bytes, and the fields in them. `layout` reads and makes the bytes.
 pub mod layout;
-pub mod marks;
-pub mod quantities;
-pub mod questions;
-
-use answers::Answer;
 
 // The header's fields, with their letters in the comments.
 pub struct Fields {
@@ -24,17 +17,4 @@ pub struct Fields {
     pub markers: usize,
     // A
     pub frames: usize,
-}
-
-// What a run carries along: the fields and up to 32 marker symbols, the first `count` of `marks`.
-pub struct Parameters {
-    pub fields: Fields,
-    pub marks: [u8; 32],
-    pub count: usize,
-}
-
-// What a header and its marker symbols are found to be: the parameters count where all is answered yes.
-pub struct Checked {
-    pub answer: Answer,
-    pub parameters: Parameters,
 }

@@ -11,14 +11,15 @@ use Rattle.bits.specs.Table.{both, both-true}
 use Rattle.answers.specs.Answer.{ask, then, then-done, ask-done, Fits, fits-ask, fits-then}
 use Rattle.answers.specs.declared.Answer.the-variants.{Done}
 use Rattle.header.specs.Header.{fieldsOf}
-use Rattle.header.specs.Quantities as quantities
-use Rattle.header.specs.Marks.{runSays, lentMarks, parametersOf}
-use Rattle.header.specs.Valid.{Valid, Shaped, header-good}
-use Rattle.header.specs.Shape.{word-symbols}
-use Rattle.header.specs.Bounds as bounds
-use Rattle.header.specs.Accepted.{CarriesMarks, carries-marks, lent-all, run-good, run-fits}
+use Rattle.quantities.specs.Quantities as quantities
+use Rattle.parameters.specs.Marks.{runSays, lentMarks, parametersOf}
+use Rattle.quantities.specs.Valid.{Valid, Shaped}
+use Rattle.questions.specs.Good.{header-good}
+use Rattle.quantities.specs.Shape.{word-symbols}
+use Rattle.quantities.specs.Bounds as bounds
+use Rattle.parameters.specs.Accepted.{CarriesMarks, carries-marks, lent-all, run-good, run-fits}
 use Rattle.header.specs.declared.Fields.{Fields}
-use Rattle.header.specs.declared.Parameters.{Parameters}
+use Rattle.parameters.specs.declared.Parameters.{Parameters}
 use Rattle.plan.specs.Plan.{planOf, planIn, Fine, slotBytes}
 use Rattle.plan.specs.Lengths.{lengthsRight, callSays}
 

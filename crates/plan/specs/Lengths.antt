@@ -8,8 +8,8 @@ use Rattle.bits.specs.Table.{both}
 use Rattle.answers.specs.declared.Answer.{Answer}
 use Rattle.answers.specs.Answer.{ask, then}
 use Rattle.header.specs.Header.{fieldsOf}
-use Rattle.header.specs.Quantities.{markerBytes, frameBytes, slotBytes}
-use Rattle.header.specs.Marks.{runSays}
+use Rattle.quantities.specs.Quantities.{markerBytes, frameBytes, slotBytes}
+use Rattle.parameters.specs.Marks.{runSays}
 use Rattle.header.specs.declared.Fields.{Fields}
 
 -- 8: has every lent slice exactly the length that the header implies?

@@ -5,9 +5,9 @@ use Prim.Native.Nat.{ℕ, _+_, _-_, _*_, _/_, _^_, _≤_, _<_}
 use lib.ListN.{getD, length}
 use Rattle.sizes.specs.Sizes.{wordBits}
 use Rattle.header.specs.Header.{fieldsOf}
-use Rattle.header.specs.Marks.{parametersOf}
-use Rattle.header.specs.Quantities as quantities
-use Rattle.header.specs.declared.Parameters.{Parameters}
+use Rattle.parameters.specs.Marks.{parametersOf}
+use Rattle.quantities.specs.Quantities as quantities
+use Rattle.parameters.specs.declared.Parameters.{Parameters}
 use Rattle.plan.specs.declared.Plan.{Plan}
 
 unfoldable pub planOf : Parameters → Plan

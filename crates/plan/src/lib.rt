@@ -1,14 +1,13 @@
 // What a checked header implies for a call: questions 1 to 8, and the numbers that steps 8 to 10 go by.
 use answers::Answer;
-use header::Checked;
 use header::Fields;
-use header::Parameters;
-use header::quantities;
+use parameters::Checked;
+use parameters::Parameters;
 ghost use mathlib.Core.Path.{_≡_};
 ghost use Rattle.answers.specs.declared.Answer.the-variants.{Done};
 ghost use Rattle.header.specs.Header.{fieldsOf};
-ghost use Rattle.header.specs.Marks.{parametersOf};
-ghost use Rattle.header.specs.Valid.{Valid};
+ghost use Rattle.parameters.specs.Marks.{parametersOf};
+ghost use Rattle.quantities.specs.Valid.{Valid};
 ghost use Rattle.plan.specs.Plan.{planOf};
 ghost use Rattle.plan.specs.Lengths.{lengthsRight, callSays};
 
@@ -80,7 +79,7 @@ pub fn check(header: &[u8], marker: &[u8], frames_length: usize, slots_length: u
     ensures { λ r. ⌜ r .answer ≡ callSays (now (header .entry)) (now (marker .entry)) «frames_length» «slots_length» ⌝ }
     ensures { λ r. ⌜ (r .answer ≡ Done → r .parameters ≡ parametersOf (fieldsOf (now (header .entry))) (now (marker .entry))) ⌝ }
 {
-    let checked = header::marks::check(header, marker);
+    let checked = parameters::check(header, marker);
     let answer = checked.answer;
     let Answer::Done = answer else {
         return checked;

@@ -19,11 +19,11 @@ use Rattle.sizes.specs.Rate.{infoBits, blockBytes, info-pos}
 use Rattle.word.specs.Word as words
 use Rattle.word.specs.Word.Answers as word-laws
 use Rattle.header.specs.Header.{fieldsOf}
-use Rattle.header.specs.Questions.{question1, question2, question3, question4, question5, question6, question7}
-use Rattle.header.specs.Quantities.{blockCount, markedBits}
-use Rattle.header.specs.Valid.{Valid}
-use Rattle.header.specs.Bounds.{fill-few}
-use Rattle.header.specs.Marks.{marksGood}
+use Rattle.questions.specs.Questions.{question1, question2, question3, question4, question5, question6, question7}
+use Rattle.quantities.specs.Quantities.{blockCount, markedBits}
+use Rattle.quantities.specs.Valid.{Valid}
+use Rattle.quantities.specs.Bounds.{fill-few}
+use Rattle.parameters.specs.Marks.{marksGood}
 use Rattle.header.specs.declared.Fields.{Fields}
 use Rattle.plan.specs.declared.Plan.{Plan}
 use Rattle.plan.specs.Plan.{planIn, symbolCount}

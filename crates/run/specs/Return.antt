@@ -15,10 +15,10 @@ use Rattle.word.specs.Word.{readSays as wordReads}
 use Rattle.word.specs.Exports.{word-length, word-bytes, packed-read, read-packed}
 use Rattle.word.specs.Exports.{read-fits as word-fits}
 use Rattle.header.specs.Header.{fieldsOf}
-use Rattle.header.specs.Marks.{parametersOf}
-use Rattle.header.specs.Quantities as quantities
-use Rattle.header.specs.Valid.{Valid}
-use Rattle.header.specs.Bounds as bounds
+use Rattle.parameters.specs.Marks.{parametersOf}
+use Rattle.quantities.specs.Quantities as quantities
+use Rattle.quantities.specs.Valid.{Valid}
+use Rattle.quantities.specs.Bounds as bounds
 use Rattle.header.specs.declared.Fields.{Fields}
 use Rattle.plan.specs.declared.Plan.{Plan}
 use Rattle.plan.specs.Plan.{planIn, Fine, slotBytes}

@@ -10,7 +10,7 @@ use Rattle.sizes.specs.Rate.{infoBits, blockBytes}
 use Rattle.word.specs.Word.{wordOf, blockIn}
 use Rattle.word.specs.Word.{readSays as wordReads}
 use Rattle.header.specs.Header.{fieldsOf}
-use Rattle.header.specs.Quantities.{blockCount}
+use Rattle.quantities.specs.Quantities.{blockCount}
 use Rattle.header.specs.declared.Fields.{Fields}
 use Rattle.plan.specs.declared.Plan.{Plan}
 use Rattle.plan.specs.Plan.{planIn}

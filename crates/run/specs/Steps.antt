@@ -12,10 +12,10 @@ use Rattle.answers.specs.declared.Answer.{Answer}
 use Rattle.sizes.specs.Rate.{infoBits}
 use Rattle.word.specs.Word.{wordOf}
 use Rattle.header.specs.Header.{fieldsOf}
-use Rattle.header.specs.Quantities as quantities
+use Rattle.quantities.specs.Quantities as quantities
 use Rattle.header.specs.declared.Fields.{Fields}
-use Rattle.header.specs.Questions.{question1, question2, question3, question4, question5, question6, question7, fieldsSay, headerSays}
-use Rattle.header.specs.Marks.{marksGood, runSays}
+use Rattle.questions.specs.Questions.{question1, question2, question3, question4, question5, question6, question7, fieldsSay, headerSays}
+use Rattle.parameters.specs.Marks.{marksGood, runSays}
 use Rattle.plan.specs.declared.Plan.{Plan}
 use Rattle.plan.specs.Lengths.{lengthsRight, callSays}
 use Rattle.plan.specs.Plan.{planIn, unit, total, symbolCount, slotBytes}

@@ -10,11 +10,11 @@ use Rattle.answers.specs.Answer.{then}
 use Rattle.answers.proofs.Refused.{Refusal, stands}
 use Rattle.sizes.specs.Rate.{infoBits, blockBytes, by-rate}
 use Rattle.word.specs.Word.{blockIn}
-use Rattle.header.specs.Quantities.{blockCount}
-use Rattle.header.specs.Bounds.{blocks-most, blocks-needed, marked-most}
-use Rattle.header.specs.Valid.{Valid}
+use Rattle.quantities.specs.Quantities.{blockCount}
+use Rattle.quantities.specs.Bounds.{blocks-most, blocks-needed, marked-most}
+use Rattle.quantities.specs.Valid.{Valid}
 use Rattle.header.specs.declared.Fields.{Fields}
-use Rattle.header.specs.declared.Parameters.{Parameters}
+use Rattle.parameters.specs.declared.Parameters.{Parameters}
 use Rattle.plan.specs.declared.Plan.{Plan}
 use Rattle.plan.specs.Plan.{planOf, Fine, slotBytes}
 use Rattle.plan.specs.Accepted.{Entered, plan-words}

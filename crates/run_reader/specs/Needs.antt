@@ -6,10 +6,10 @@ use lib.ListN.{length}
 use Rattle.answers.specs.declared.Answer.the-variants.{Done}
 use Rattle.sizes.specs.Rate.{blockBytes}
 use Rattle.sizes.specs.Sizes.{wordBytes}
-use Rattle.header.specs.Quantities.{blockCount, frameBytes}
-use Rattle.header.specs.Valid.{Valid}
+use Rattle.quantities.specs.Quantities.{blockCount, frameBytes}
+use Rattle.quantities.specs.Valid.{Valid}
 use Rattle.header.specs.declared.Fields.{Fields}
-use Rattle.header.specs.declared.Parameters.{Parameters}
+use Rattle.parameters.specs.declared.Parameters.{Parameters}
 use Rattle.plan.specs.declared.Plan.{Plan}
 use Rattle.plan.specs.Plan.{Fine, slotBytes}
 use Rattle.plan.specs.Accepted.{Entered}

@@ -1,8 +1,7 @@
 // The run reader: slots to frames. Questions 1 to 8, then 9 to 18, and the frames once all are answered yes.
 use answers::Answer;
 use header::Fields;
-use header::Parameters;
-use header::quantities;
+use parameters::Parameters;
 use plan::Plan;
 ghost use mathlib.Core.Path.{_≡_};
 ghost use Prim.Native.Nat.{ℕ, _*_, _<_};
@@ -11,7 +10,7 @@ ghost use Rattle.answers.specs.declared.Answer.the-variants.{Done};
 ghost use Rattle.answers.specs.Answer.{after};
 ghost use Rattle.sizes.specs.Rate.{infoBits, blockBytes};
 ghost use Rattle.word.specs.Word.{blockIn};
-ghost use Rattle.header.specs.Quantities.{blockCount};
+ghost use Rattle.quantities.specs.Quantities.{blockCount};
 ghost use Rattle.plan.specs.Accepted.{Entered};
 ghost use Rattle.plan.specs.Plan.{planOf};
 ghost use Rattle.frames.specs.Frames.{joined, framesIn, framesSay};

@@ -9,11 +9,11 @@ use Rattle.answers.specs.Answer.{after}
 use Rattle.word.specs.Word.{Packed, wordOf}
 use Rattle.word.specs.Word.{writeSays as wordWrites}
 use Rattle.word.specs.Exports.{packed-written}
-use Rattle.header.specs.Quantities.{blockCount, frameBytes}
-use Rattle.header.specs.Bounds.{blocks-most}
-use Rattle.header.specs.Valid.{Valid}
+use Rattle.quantities.specs.Quantities.{blockCount, frameBytes}
+use Rattle.quantities.specs.Bounds.{blocks-most}
+use Rattle.quantities.specs.Valid.{Valid}
 use Rattle.header.specs.declared.Fields.{Fields}
-use Rattle.header.specs.declared.Parameters.{Parameters}
+use Rattle.parameters.specs.declared.Parameters.{Parameters}
 use Rattle.plan.specs.declared.Plan.{Plan}
 use Rattle.plan.specs.Plan.{planOf, Fine, slotBytes}
 use Rattle.plan.specs.Accepted.{plan-words}

@@ -4,10 +4,10 @@ use mathlib.Core.List.{List}
 use Prim.Native.Nat.{ℕ, _<_}
 use lib.ListN.{length}
 use Rattle.sizes.specs.Sizes.{wordBytes}
-use Rattle.header.specs.Quantities.{blockCount, frameBytes}
-use Rattle.header.specs.Valid.{Valid}
+use Rattle.quantities.specs.Quantities.{blockCount, frameBytes}
+use Rattle.quantities.specs.Valid.{Valid}
 use Rattle.header.specs.declared.Fields.{Fields}
-use Rattle.header.specs.declared.Parameters.{Parameters}
+use Rattle.parameters.specs.declared.Parameters.{Parameters}
 use Rattle.plan.specs.Accepted.{Entered}
 
 -- the bytes of 211 words, as many as a run can have

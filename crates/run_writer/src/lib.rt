@@ -1,13 +1,12 @@
 // The run writer: frames to slots. Questions 1 to 8, the words of the frames' blocks, and the slots of the words.
 use answers::Answer;
 use header::Fields;
-use header::Parameters;
-use header::quantities;
+use parameters::Parameters;
 ghost use mathlib.Core.Path.{_≡_};
 ghost use Prim.Native.Nat.{ℕ, _<_};
 ghost use lib.ListN.{length};
 ghost use Rattle.answers.specs.Answer.{after};
-ghost use Rattle.header.specs.Quantities.{blockCount};
+ghost use Rattle.quantities.specs.Quantities.{blockCount};
 ghost use Rattle.plan.specs.Accepted.{Entered};
 ghost use Rattle.plan.specs.Plan.{planOf};
 ghost use Rattle.slots.specs.Slots.{slotsOf};

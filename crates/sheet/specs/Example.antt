@@ -4,8 +4,8 @@ use mathlib.Core.List.{[], _∷_}
 use Rattle.bits.specs.Pack.{val, bitAt}
 use Rattle.sizes.specs.Rate.{infoBits, inputsPer, codedPer}
 use Rattle.header.specs.Header.{field, fieldsOf, spareOf}
-use Rattle.header.specs.Quantities.{pulseOrder, symbolsPerWord, markedBits, blockCount, spread, sequenceLength, sequenceRows, symbolCount, slotsPerSymbol, slotCount}
-use Rattle.header.specs.Questions.{question1, question2, question3, question4, question5, question6, question7, fieldsSay, headerSays}
+use Rattle.quantities.specs.Quantities.{pulseOrder, symbolsPerWord, markedBits, blockCount, spread, sequenceLength, sequenceRows, symbolCount, slotsPerSymbol, slotCount}
+use Rattle.questions.specs.Questions.{question1, question2, question3, question4, question5, question6, question7, fieldsSay, headerSays}
 use Rattle.sheet.specs.Text.{decimalIn, decimal, item, items}
 use Rattle.sheet.specs.Line.{rateText, runNumbers, runLine, noLine, lineOf}
 

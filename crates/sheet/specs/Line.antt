@@ -6,8 +6,8 @@ use native.Mathlib.Omega.{arith}
 use lib.ListN.{length, take}
 use Rattle.sizes.specs.Rate.{inputsPer, codedPer}
 use Rattle.header.specs.Header.{fieldsOf}
-use Rattle.header.specs.Quantities.{pulseOrder, blockCount, symbolCount, slotCount}
-use Rattle.header.specs.Questions.{headerSays}
+use Rattle.quantities.specs.Quantities.{pulseOrder, blockCount, symbolCount, slotCount}
+use Rattle.questions.specs.Questions.{headerSays}
 use Rattle.header.specs.declared.Fields.{Fields}
 use Rattle.answers.specs.Answer.{numberOf}
 use Rattle.answers.specs.declared.Answer.{Answer}

@@ -4,13 +4,11 @@ mod text;
 use answers::Answer;
 use header::Fields;
 use header::layout;
-use header::quantities;
-use header::questions;
 ghost use mathlib.Core.Path.{_≡_};
 ghost use Prim.Native.Nat.{_≤_, _<_};
 ghost use lib.ListN.{length};
 ghost use Rattle.io.specs.Counts.{Counts};
-ghost use Rattle.header.specs.Valid.{Valid};
+ghost use Rattle.quantities.specs.Valid.{Valid};
 ghost use Rattle.sheet.specs.Text.{Put};
 ghost use Rattle.sheet.specs.Line.{rateText, runNumbers, runLine, noLine, Printed};
 

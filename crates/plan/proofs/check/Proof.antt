@@ -10,12 +10,13 @@ use Rattle.answers.specs.declared.Answer.{Answer}
 use Rattle.answers.specs.declared.Answer.the-variants.{Done}
 use Rattle.answers.proofs.Refused.{not-done, stands}
 use Rattle.header.specs.Header.{fieldsOf}
-use Rattle.header.specs.Marks.{runSays, parametersOf, checked}
-use Rattle.header.specs.Valid.{Valid, header-good}
-use Rattle.header.specs.Accepted.{run-good, check-answer, check-parameters}
+use Rattle.parameters.specs.Marks.{runSays, parametersOf, checked}
+use Rattle.quantities.specs.Valid.{Valid}
+use Rattle.questions.specs.Good.{header-good}
+use Rattle.parameters.specs.Accepted.{run-good, check-answer, check-parameters}
 use Rattle.header.specs.declared.Fields.{Fields}
-use Rattle.header.specs.declared.Parameters.{Parameters}
-use Rattle.header.specs.declared.Checked.{Checked}
+use Rattle.parameters.specs.declared.Parameters.{Parameters}
+use Rattle.parameters.specs.declared.Checked.{Checked}
 use Rattle.plan.specs.Lengths.{lengthsRight, callSays}
 use borrow.Author.Needs.{needs}
 use Rattle.plan.proofs.check.Statement.{statement}

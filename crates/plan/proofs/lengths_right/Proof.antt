@@ -2,7 +2,7 @@
 use mathlib.Core.Path.{_≡_, refl, sym, ap, _∙_}
 use lib.Dec.{eqb}
 use borrow.Author.Tests.{eq-eqb, ne-eqb}
-use Rattle.header.specs.Quantities.{markerBytes, frameBytes}
+use Rattle.quantities.specs.Quantities.{markerBytes, frameBytes}
 use Rattle.plan.specs.Lengths.{lengthsRight}
 use borrow.Author.Needs.{needs}
 use Rattle.plan.proofs.lengths_right.Statement.{statement}

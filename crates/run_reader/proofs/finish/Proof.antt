@@ -2,7 +2,7 @@
 use mathlib.Core.Path.{sym, ap, _∙_}
 use Prim.Native.Nat.{ℕ, _*_}
 use Rattle.sizes.specs.Rate.{infoBits, blockBytes}
-use Rattle.header.specs.Quantities.{frameBytes}
+use Rattle.quantities.specs.Quantities.{frameBytes}
 use Rattle.frames.specs.Frames.{joined, framesIn, framesSay}
 use Rattle.answers.specs.declared.Answer.{Answer}
 use Rattle.answers.specs.Answer.{after}

@@ -7,8 +7,8 @@ use Rattle.answers.specs.declared.Answer.{Answer}
 use Rattle.answers.specs.Answer.{after, then}
 use Rattle.answers.proofs.Refused.{kept, stands}
 use Rattle.header.specs.Header.{fieldsOf}
-use Rattle.header.specs.Marks.{parametersOf}
-use Rattle.header.specs.declared.Parameters.{Parameters}
+use Rattle.parameters.specs.Marks.{parametersOf}
+use Rattle.parameters.specs.declared.Parameters.{Parameters}
 use Rattle.plan.specs.Plan.{planIn, planOf}
 use Rattle.plan.specs.Lengths.{callSays}
 use Rattle.plan.specs.Accepted.{entered}

@@ -16,7 +16,7 @@ use Rattle.answers.specs.Answer.{after, isDone, no-done}
 use Rattle.answers.specs.InOrder.{order-no, order-yes}
 use Rattle.answers.proofs.Refused.{is-not-done, moved}
 use Rattle.header.specs.declared.Fields.{Fields}
-use Rattle.header.specs.Quantities.{blockCount}
+use Rattle.quantities.specs.Quantities.{blockCount}
 use Rattle.capture.specs.Capture.{wordOut}
 use Rattle.run.specs.Run.{wordSays, wordsSay}
 use Rattle.run_reader.specs.Needs.{blocksRoom}

@@ -6,7 +6,7 @@ use native.Mathlib.Omega.{arith}
 use lib.ListN.{length, take, drop}
 use lib.Seq.{length-take-le, take-at, length-front}
 use Rattle.sizes.specs.Rate.{blockBytes, block-room}
-use Rattle.header.specs.Bounds.{blocks-most}
+use Rattle.quantities.specs.Bounds.{blocks-most}
 use Rattle.run_writer.proofs.Coding.{coded, frames-lent}
 use borrow.Author.Needs.{needs}
 use Rattle.run_writer.proofs.code_word.Statement.{statement}

@@ -6,8 +6,8 @@ use Prim.Native.Nat.{ℕ, _+_, _-_, _*_, _≤_, _<_}
 use native.Mathlib.Omega.{arith}
 use lib.ListN.{length}
 use borrow.Rule.Slice.PartMut.{putMid, mid-len, same-len-mid}
-use Rattle.header.specs.Quantities.{blockCount}
-use Rattle.header.specs.Bounds.{blocks-most}
+use Rattle.quantities.specs.Quantities.{blockCount}
+use Rattle.quantities.specs.Bounds.{blocks-most}
 use Rattle.run.specs.Run.{wordAt}
 use Rattle.run_writer.specs.Needs.{wordsRoom}
 use Rattle.bits.specs.Pieces.{piece, pieces-more}

@@ -7,8 +7,8 @@ use Rattle.answers.specs.declared.Answer.the-variants.{Done}
 use Rattle.answers.specs.Answer.{after}
 use Rattle.answers.proofs.Refused.{kept}
 use Rattle.header.specs.Header.{fieldsOf}
-use Rattle.header.specs.Marks.{parametersOf}
-use Rattle.header.specs.declared.Parameters.{Parameters}
+use Rattle.parameters.specs.Marks.{parametersOf}
+use Rattle.parameters.specs.declared.Parameters.{Parameters}
 use Rattle.plan.specs.Plan.{planOf}
 use Rattle.plan.specs.Accepted.{entered}
 use Rattle.slots.specs.Slots.{slotsOf}

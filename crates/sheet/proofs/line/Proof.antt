@@ -3,8 +3,8 @@ use mathlib.Core.Path.{_≡_, sym, ap, _∙_}
 use Rattle.answers.specs.Answer.{numberOf}
 use Rattle.answers.specs.declared.Answer.the-variants.{Done}
 use Rattle.answers.proofs.Refused.{not-done}
-use Rattle.header.specs.Questions.{headerSays}
-use Rattle.header.specs.Valid.{header-good}
+use Rattle.questions.specs.Questions.{headerSays}
+use Rattle.questions.specs.Good.{header-good}
 use Rattle.sheet.specs.Text.{put-counts}
 use Rattle.sheet.specs.Line.{noLine, runLine, printed, line-no, line-run}
 use borrow.Author.Needs.{needs}

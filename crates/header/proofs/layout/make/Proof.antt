@@ -7,7 +7,7 @@ use lib.ListN.{length, getD, length-set}
 use borrow.Author.Needs.{needs}
 use borrow.Author.Count.{below-none}
 use Rattle.bits.specs.Table.{fill}
-use Rattle.header.specs.Layout.{made-bytes}
+use Rattle.header.proofs.Cuts.{made-bytes}
 use Rattle.header.proofs.layout.make.Statement.{statement}
 use Rattle.header.proofs.layout.make.Tie as tie
 

@@ -1,5 +1,5 @@
 -- Each shift makes room for the next field, so that the `|` adds it.
-use Rattle.header.specs.Layout.{packed-joined}
+use Rattle.header.proofs.Cuts.{packed-joined}
 use Rattle.header.proofs.layout.pack.Statement.{statement}
 use Rattle.header.proofs.layout.pack.Tie as tie
 

@@ -1,6 +1,6 @@
 -- Each field is what a shift and a mask leave of the 64 bits.
 use mathlib.Core.Path.{ap, _∙_}
-use Rattle.header.specs.Layout.{cutOut, whole, fields-cut}
+use Rattle.header.proofs.Cuts.{cutOut, whole, fields-cut}
 use borrow.Author.Needs.{needs}
 use Rattle.header.proofs.layout.read.Statement.{statement}
 use Rattle.header.proofs.layout.read.Tie as tie

@@ -2,7 +2,7 @@
 use mathlib.Core.Path.{ap, _∙_}
 use Prim.Native.Nat.{ℕ}
 use lib.Bits.{bitAnd}
-use Rattle.header.specs.Layout.{whole, spare-cut}
+use Rattle.header.proofs.Cuts.{whole, spare-cut}
 use borrow.Author.Needs.{needs}
 use Rattle.header.proofs.layout.spare.Statement.{statement}
 use Rattle.header.proofs.layout.spare.Tie as tie

@@ -1,0 +1,13 @@
+-- It is the definition: an array of 32 zeros.
+use mathlib.Core.Path.{refl}
+use Rattle.bits.specs.Table.{tab}
+use Rattle.parameters.specs.Marks.{noParameters}
+use Rattle.parameters.proofs.nothing.Statement.{statement}
+use Rattle.parameters.proofs.nothing.Tie as tie
+
+returns : tie.Need-returns
+unfolding noParameters tab
+returns c = refl
+
+pub nothing-spec : {M : Type 1} → statement M
+nothing-spec = tie.close (tie.spec returns)

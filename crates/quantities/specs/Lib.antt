@@ -1,0 +1,5 @@
+pub mod Quantities
+pub mod Valid
+pub mod Shape
+pub mod Bounds
+pub mod Example

@@ -1,0 +1,54 @@
+-- What a header implies, each quantity with its letter in the specification (docs/SPECIFICATION.md).
+use Prim.Native.Nat.{ℕ, _+_, _-_, _*_, _/_, _^_}
+use Rattle.sizes.specs.Rate.{infoBits}
+use Rattle.sizes.specs.Sizes.{wordBits, span}
+use Rattle.header.specs.declared.Fields.{Fields}
+
+-- M, the pulse order
+unfoldable pub pulseOrder : Fields → ℕ
+pulseOrder f = 2 ^ f .bits
+
+-- S, the symbols of a word (step 8)
+unfoldable pub symbolsPerWord : Fields → ℕ
+symbolsPerWord f = wordBits / f .bits
+
+-- the bits of the A marked frames of F bytes each (step 1)
+unfoldable pub markedBits : Fields → ℕ
+markedBits f = f .frames * span (f .size)
+
+-- C, the blocks of k bits that hold them: the last one is filled (step 1)
+unfoldable pub blockCount : Fields → ℕ
+blockCount f = (markedBits f + (infoBits (f .rate) - 1)) / infoBits (f .rate)
+
+-- N (N - 1) B, the places of step 9 that are not hit
+unfoldable pub spread : Fields → ℕ
+spread f = f .rows * (f .rows - 1) * f .step
+
+-- the places of step 9
+unfoldable pub sequenceLength : Fields → ℕ
+sequenceLength f = blockCount f * symbolsPerWord f + spread f
+
+-- R, the lines of S places that they are cut into
+unfoldable pub sequenceRows : Fields → ℕ
+sequenceRows f = sequenceLength f / symbolsPerWord f
+
+-- the symbols with markers: W before every S (step 10)
+unfoldable pub symbolCount : Fields → ℕ
+symbolCount f = sequenceRows f * (symbolsPerWord f + f .markers)
+
+-- the slots of a symbol: M, and M/4 empty guard slots
+unfoldable pub slotsPerSymbol : Fields → ℕ
+slotsPerSymbol f = pulseOrder f + pulseOrder f / 4
+
+unfoldable pub slotCount : Fields → ℕ
+slotCount f = symbolCount f * slotsPerSymbol f
+
+-- the lengths that question 8 compares: the slots, packed; the frames; the marker symbols
+unfoldable pub slotBytes : Fields → ℕ
+slotBytes f = (slotCount f + 7) / 8
+
+unfoldable pub frameBytes : Fields → ℕ
+frameBytes f = f .frames * f .size
+
+abbrev pub markerBytes : Fields → ℕ
+markerBytes f = f .markers

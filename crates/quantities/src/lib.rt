@@ -1,0 +1,110 @@
+// What a header implies, each quantity with its letter. All of them fit 32 bits.
+use header::Fields;
+ghost use mathlib.Core.Path.{_≡_};
+ghost use Rattle.quantities.specs.Quantities.{pulseOrder, symbolsPerWord, markedBits, blockCount, sequenceLength, sequenceRows, symbolCount, slotsPerSymbol, slotCount, slotBytes, frameBytes, markerBytes};
+ghost use Rattle.quantities.specs.Quantities.{spread as Quantities·spread};
+ghost use Rattle.quantities.specs.Valid.{Shaped, Valid};
+
+// M, the pulse order.
+pub fn pulse_order(f: Fields) -> usize
+    requires { ⌜ Shaped f ⌝ }
+    ensures { λ r. ⌜ r ≡ pulseOrder f ⌝ }
+{
+    1usize << f.bits
+}
+
+// S, the symbols of a word.
+pub fn symbols_per_word(f: Fields) -> usize
+    requires { ⌜ Shaped f ⌝ }
+    ensures { λ r. ⌜ r ≡ symbolsPerWord f ⌝ }
+{
+    sizes::WORD_BITS / f.bits
+}
+
+// N (N - 1) B, the places of step 9 that are not hit.
+pub fn spread(f: Fields) -> usize
+    requires { ⌜ Shaped f ⌝ }
+    ensures { λ r. ⌜ r ≡ Quantities·spread f ⌝ }
+{
+    f.rows * (f.rows - 1) * f.step
+}
+
+// The bits of the marked frames.
+pub fn marked_bits(f: Fields) -> usize
+    requires { ⌜ Valid f ⌝ }
+    ensures { λ r. ⌜ r ≡ markedBits f ⌝ }
+{
+    f.frames * (sizes::MARKER_BITS + 8 * f.size)
+}
+
+// C, the blocks that hold them.
+pub fn block_count(f: Fields) -> usize
+    requires { ⌜ Valid f ⌝ }
+    ensures { λ r. ⌜ r ≡ blockCount f ⌝ }
+{
+    let k = sizes::info_bits(f.rate);
+    (marked_bits(f) + (k - 1)) / k
+}
+
+// The places of step 9.
+pub fn sequence_length(f: Fields) -> usize
+    requires { ⌜ Valid f ⌝ }
+    ensures { λ r. ⌜ r ≡ sequenceLength f ⌝ }
+{
+    block_count(f) * symbols_per_word(f) + spread(f)
+}
+
+// R, the rows of S symbols that they make.
+pub fn sequence_rows(f: Fields) -> usize
+    requires { ⌜ Valid f ⌝ }
+    ensures { λ r. ⌜ r ≡ sequenceRows f ⌝ }
+{
+    sequence_length(f) / symbols_per_word(f)
+}
+
+// The symbols with markers.
+pub fn symbol_count(f: Fields) -> usize
+    requires { ⌜ Valid f ⌝ }
+    ensures { λ r. ⌜ r ≡ symbolCount f ⌝ }
+{
+    sequence_rows(f) * (symbols_per_word(f) + f.markers)
+}
+
+// The slots of a symbol: M, and M/4 guard slots.
+pub fn slots_per_symbol(f: Fields) -> usize
+    requires { ⌜ Shaped f ⌝ }
+    ensures { λ r. ⌜ r ≡ slotsPerSymbol f ⌝ }
+{
+    let m = pulse_order(f);
+    m + m / 4
+}
+
+pub fn slot_count(f: Fields) -> usize
+    requires { ⌜ Valid f ⌝ }
+    ensures { λ r. ⌜ r ≡ slotCount f ⌝ }
+{
+    symbol_count(f) * slots_per_symbol(f)
+}
+
+// The bytes of the packed slots.
+pub fn slot_bytes(f: Fields) -> usize
+    requires { ⌜ Valid f ⌝ }
+    ensures { λ r. ⌜ r ≡ slotBytes f ⌝ }
+{
+    (slot_count(f) + 7) / 8
+}
+
+// The bytes of all frames.
+pub fn frame_bytes(f: Fields) -> usize
+    requires { ⌜ Valid f ⌝ }
+    ensures { λ r. ⌜ r ≡ frameBytes f ⌝ }
+{
+    f.frames * f.size
+}
+
+// The bytes of the marker symbols.
+pub fn marker_bytes(f: Fields) -> usize
+    ensures { λ r. ⌜ r ≡ markerBytes f ⌝ }
+{
+    f.markers
+}

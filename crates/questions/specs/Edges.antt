@@ -1,0 +1,47 @@
+-- The edges of the questions, which antt computes.
+use mathlib.Core.Path.{_≡_, refl}
+use mathlib.Core.List.{[], _∷_, map}
+use Prim.Native.Nat.{ℕ}
+use Rattle.header.specs.declared.Fields.{Fields}
+use Rattle.quantities.specs.Quantities.{symbolsPerWord, spread}
+use Rattle.questions.specs.Questions.{question2, question3, question4, question5, question6, question7, fieldsSay}
+use Rattle.answers.specs.declared.Answer.the-variants.{Done, No}
+
+-- with m = 8 and N = 10
+abbrev edge : ℕ → ℕ → ℕ → Fields
+edge step size markers = record { rate = 1; bits = 8; rows = 10; step = step; size = size; markers = markers; frames = 2 }
+
+-- B = 21 passes, 20 gets 5; F = 0 gets 6; W = 32 passes, 33 gets 7
+pub step-21 : fieldsSay (edge 21 223 32) ≡ Done
+unfolding fieldsSay question2 question3 question4 question5 question6 question7 spread symbolsPerWord
+step-21 = refl
+
+pub step-20 : fieldsSay (edge 20 223 32) ≡ No 5 0
+unfolding fieldsSay question2 question3 question4 question5 spread symbolsPerWord
+step-20 = refl
+
+pub size-0 : fieldsSay (edge 21 0 32) ≡ No 6 0
+unfolding fieldsSay question2 question3 question4 question5 question6 spread symbolsPerWord
+size-0 = refl
+
+pub markers-33 : fieldsSay (edge 21 223 33) ≡ No 7 0
+unfolding fieldsSay question2 question3 question4 question5 question6 question7 spread symbolsPerWord
+markers-33 = refl
+
+-- the ends of the ranges: a run of one frame of one byte, with one field changed
+abbrev ranged : ℕ → ℕ → ℕ → ℕ → ℕ → ℕ → ℕ → Fields
+ranged rate bits rows step size markers frames = record { rate = rate; bits = bits; rows = rows; step = step; size = size; markers = markers; frames = frames }
+
+pub ranges-passed : (fieldsSay (ranged 0 2 1 1 1 1 1) ≡ Done) × (fieldsSay (ranged 2 8 1 256 2048 32 64) ≡ Done)
+unfolding fieldsSay question2 question3 question4 question5 question6 question7 spread symbolsPerWord
+ranges-passed = (refl, refl)
+
+pub below-ranges : map fieldsSay (ranged 0 1 1 1 1 1 1 ∷ ranged 0 2 0 1 1 1 1 ∷ ranged 0 2 1 0 1 1 1 ∷ ranged 0 2 1 1 0 1 1 ∷ ranged 0 2 1 1 1 0 1 ∷ ranged 0 2 1 1 1 1 0 ∷ [])
+    ≡ No 3 0 ∷ No 4 0 ∷ No 4 0 ∷ No 6 0 ∷ No 7 0 ∷ No 6 0 ∷ []
+unfolding fieldsSay question2 question3 question4 question5 question6 question7 spread symbolsPerWord
+below-ranges = refl
+
+pub above-ranges : map fieldsSay (ranged 3 2 1 1 1 1 1 ∷ ranged 0 9 1 1 1 1 1 ∷ ranged 0 2 129 1 1 1 1 ∷ ranged 0 2 1 257 1 1 1 ∷ ranged 0 2 1 1 2049 1 1 ∷ ranged 0 2 1 1 1 33 1 ∷ ranged 0 2 1 1 1 1 65 ∷ [])
+    ≡ No 2 0 ∷ No 3 0 ∷ No 4 0 ∷ No 4 0 ∷ No 6 0 ∷ No 7 0 ∷ No 6 0 ∷ []
+unfolding fieldsSay question2 question3 question4 question5 question6 question7 spread symbolsPerWord
+above-ranges = refl

@@ -1,0 +1,58 @@
+-- Questions 1 to 7, in order; the first no gives the answer. `headerSays` puts those that `runsheet` puts, and everything else builds on it.
+use mathlib.Core.Bool.{Bool}
+use mathlib.Core.List.{List}
+use Prim.Native.Nat.{ℕ, _%_}
+use lib.Dec.{ltb, leb, eqb}
+use lib.ListN.{length}
+use Rattle.bits.specs.Table.{both}
+use Rattle.header.specs.Header.{fieldsOf, spareOf}
+use Rattle.quantities.specs.Quantities.{symbolsPerWord, spread}
+use Rattle.header.specs.declared.Fields.{Fields}
+use Rattle.answers.specs.declared.Answer.{Answer}
+use Rattle.answers.specs.Answer.{ask, then}
+
+-- x is one of the numbers least to most
+abbrev pub within : ℕ → ℕ → ℕ → Bool
+within least x most = both (leb least x) (leb x most)
+
+-- 1: is the header 8 bytes, its last 16 bits zero?
+unfoldable pub question1 : List ℕ → Bool
+question1 header = both (eqb (length header) 8) (eqb (spareOf header) 0)
+
+-- 2: is the rate 0, 1 or 2?
+unfoldable pub question2 : Fields → Bool
+question2 f = ltb (f .rate) 3
+
+-- 3: is m 2 to 8?
+unfoldable pub question3 : Fields → Bool
+question3 f = within 2 (f .bits) 8
+
+-- 4: is N 1 to 128 and B 1 to 256?
+unfoldable pub question4 : Fields → Bool
+question4 f = both (within 1 (f .rows) 128) (within 1 (f .step) 256)
+
+-- 5: is N (N - 1) B a multiple of S?
+unfoldable pub question5 : Fields → Bool
+question5 f = eqb (spread f % symbolsPerWord f) 0
+
+-- 6: is F 1 to 2048 and A 1 to 64?
+unfoldable pub question6 : Fields → Bool
+question6 f = both (within 1 (f .size) 2048) (within 1 (f .frames) 64)
+
+-- 7, its first part: is W 1 to 32?
+unfoldable pub question7 : Fields → Bool
+question7 f = within 1 (f .markers) 32
+
+-- the questions put to the fields
+unfoldable pub fieldsSay : Fields → Answer
+fieldsSay f =
+    then (ask (question2 f) 2 0)
+    (then (ask (question3 f) 3 0)
+    (then (ask (question4 f) 4 0)
+    (then (ask (question5 f) 5 0)
+    (then (ask (question6 f) 6 0)
+    (ask (question7 f) 7 0)))))
+
+-- the questions put to a header
+unfoldable pub headerSays : List ℕ → Answer
+headerSays header = then (ask (question1 header) 1 0) (fieldsSay (fieldsOf header))

@@ -1,0 +1,105 @@
+// Questions 1 to 7, in order; the first no gives the answer. `header_says` puts those that `runsheet` puts.
+use answers::Answer;
+use header::Fields;
+use header::layout;
+ghost use mathlib.Core.Path.{_≡_};
+ghost use Rattle.questions.specs.Questions as asked;
+ghost use Rattle.questions.specs.Questions.{fieldsSay, headerSays};
+ghost use Rattle.quantities.specs.Valid.{Shaped};
+
+// Whether x is one of the numbers least to most.
+fn within(least: usize, x: usize, most: usize) -> bool
+    ensures { λ r. ⌜ r ≡ asked.within least x most ⌝ }
+{
+    if x < least {
+        return false;
+    }
+    x <= most
+}
+
+fn question1(header: &[u8]) -> bool
+    ensures { λ r. ⌜ r ≡ asked.question1 (now (header .entry)) ⌝ }
+{
+    if header.len() != 8 {
+        return false;
+    }
+    layout::spare(header) == 0
+}
+
+fn question2(f: Fields) -> bool
+    ensures { λ r. ⌜ r ≡ asked.question2 f ⌝ }
+{
+    f.rate < 3
+}
+
+fn question3(f: Fields) -> bool
+    ensures { λ r. ⌜ r ≡ asked.question3 f ⌝ }
+{
+    within(2, f.bits, 8)
+}
+
+fn question4(f: Fields) -> bool
+    ensures { λ r. ⌜ r ≡ asked.question4 f ⌝ }
+{
+    if !within(1, f.rows, 128) {
+        return false;
+    }
+    within(1, f.step, 256)
+}
+
+fn question5(f: Fields) -> bool
+    requires { ⌜ Shaped f ⌝ }
+    ensures { λ r. ⌜ r ≡ asked.question5 f ⌝ }
+{
+    quantities::spread(f) % quantities::symbols_per_word(f) == 0
+}
+
+fn question6(f: Fields) -> bool
+    ensures { λ r. ⌜ r ≡ asked.question6 f ⌝ }
+{
+    if !within(1, f.size, 2048) {
+        return false;
+    }
+    within(1, f.frames, 64)
+}
+
+fn question7(f: Fields) -> bool
+    ensures { λ r. ⌜ r ≡ asked.question7 f ⌝ }
+{
+    within(1, f.markers, 32)
+}
+
+// The questions put to the fields.
+pub fn fields_say(f: Fields) -> Answer
+    ensures { λ r. ⌜ r ≡ fieldsSay f ⌝ }
+{
+    if !question2(f) {
+        return Answer::No(2, 0);
+    }
+    if !question3(f) {
+        return Answer::No(3, 0);
+    }
+    if !question4(f) {
+        return Answer::No(4, 0);
+    }
+    if !question5(f) {
+        return Answer::No(5, 0);
+    }
+    if !question6(f) {
+        return Answer::No(6, 0);
+    }
+    if !question7(f) {
+        return Answer::No(7, 0);
+    }
+    Answer::Done
+}
+
+// The questions put to a header.
+pub fn header_says(header: &[u8]) -> Answer
+    ensures { λ r. ⌜ r ≡ headerSays (now (header .entry)) ⌝ }
+{
+    if !question1(header) {
+        return Answer::No(1, 0);
+    }
+    fields_say(layout::read(header))
+}
