@@ -30,7 +30,6 @@ static void fill_blocks(uint64_t rate) {
             state = state * UINT64_C(6364136223846793005) + UINT64_C(1442695040888963407);
             blocks[i][j] = (uint8_t)(state >> 56);
         }
-        blocks[i][len - 1] &= 0xFC;
     }
 }
 
@@ -39,6 +38,11 @@ static void require(int agreed, const char *what) {
         fprintf(stderr, "bench: library and plain C differ: %s\n", what);
         exit(1);
     }
+}
+
+/* Whether this block was read back: its bits, and zeros for the two spare ones. */
+static int is_read_back(const uint8_t *block, size_t len) {
+    return memcmp(read_back, block, len - 1) == 0 && read_back[len - 1] == (block[len - 1] & 0xFC);
 }
 
 /* Nothing is timed that is not right: both write and read each block alike, and refuse alike. */
@@ -50,11 +54,11 @@ static void compare(uint64_t rate) {
                     memcmp(words[i], written, MAHYREI_WORD_BYTES) == 0,
                 "words written");
         require(word_read(rate, words[i], MAHYREI_WORD_BYTES, read_back, len) == 0 &&
-                    memcmp(read_back, blocks[i], len) == 0,
+                    is_read_back(blocks[i], len),
                 "block read by the library");
         memset(read_back, 0, len);
         require(plain_word_read(rate, words[i], MAHYREI_WORD_BYTES, read_back, len) == 0 &&
-                    memcmp(read_back, blocks[i], len) == 0,
+                    is_read_back(blocks[i], len),
                 "block read by plain C");
         written[i] ^= 1;
         require(word_read(rate, written, MAHYREI_WORD_BYTES, read_back, len) ==

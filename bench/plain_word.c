@@ -103,9 +103,6 @@ uint64_t plain_word_write(uint64_t rate, const uint8_t *block, size_t block_len,
     if (block_len != word_block_bytes(rate) || word_len != MAHYREI_WORD_BYTES) {
         return MAHYREI_BAD_LENGTH;
     }
-    if ((block[block_len - 1] & 3) != 0) {
-        return MAHYREI_BAD_SPARE;
-    }
 
     uint8_t inputs[INPUTS_MAX], coded[CODED], bits[CODED];
     const size_t k = block_bits(rate);

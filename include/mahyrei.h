@@ -43,7 +43,8 @@ extern "C" {
 #define MAHYREI_WORD_BITS 15120
 #define MAHYREI_WORD_BYTES 1890
 
-/* Bytes of a packed block: 5006, 7526 or 10046 information bits, then two spare bits, zero. */
+/* Bytes of a packed block: 5006, 7526 or 10046 information bits, then two spare bits, which
+ * word_write disregards and word_read writes as zero. */
 #define MAHYREI_BLOCK_BYTES_1_3 626
 #define MAHYREI_BLOCK_BYTES_1_2 941
 #define MAHYREI_BLOCK_BYTES_2_3 1256
@@ -107,8 +108,8 @@ enum mahyrei_number {
     /* A slice has another length than the rate or the header implies. */
     MAHYREI_BAD_LENGTH = 8,
 
-    /* word_write: the two spare bits at the end of the block are not both zero. run_read: a spare
-     * bit of the last slot byte is set; there are such bits only where m is 2, 3 or 4. */
+    /* run_read: a spare bit of the last slot byte is set; there are such bits only where m is 2, 3
+     * or 4. */
     MAHYREI_BAD_SPARE = 9,
     /* run_read: the slots of a symbol do not hold exactly one pulse among the first M, and none in
      * the guard slots. The place is the symbol, markers counted, as it is for 11 and 12. */
@@ -159,9 +160,10 @@ static inline size_t word_block_bytes(uint64_t rate) {
 /*
  * word_write: makes the word of a block.
  *
- * Reads   block, word_block_bytes(rate) bytes, its last two bits zero.
+ * Reads   block, word_block_bytes(rate) bytes; its two spare bits may hold anything, and the word
+ *         is the same.
  * Writes  word, MAHYREI_WORD_BYTES bytes, all of them, whatever they held; none on refusal.
- * Returns 0 on acceptance; otherwise number 2, 8 or 9, place 0 (so the answer is the number).
+ * Returns 0 on acceptance; otherwise number 2 or 8, place 0 (so the answer is the number).
  */
 uint64_t word_write(uint64_t rate, const uint8_t *block, size_t block_len, uint8_t *word,
                     size_t word_len);
@@ -172,9 +174,9 @@ uint64_t word_write(uint64_t rate, const uint8_t *block, size_t block_len, uint8
  * Reads   word, MAHYREI_WORD_BYTES bytes.
  * Writes  block, word_block_bytes(rate) bytes, all of them, its two spare bits as zero, whatever
  *         they held; none on refusal.
- * Returns 0 on acceptance: word_write at the same rate makes this word of this block and of no
- *         other. Otherwise place * 256 + number, with number 2, 8, 13, 14 or 15; only 13 has a
- *         place. Take it apart by answer_number and answer_place.
+ * Returns 0 on acceptance: word_write at the same rate makes this word of this block, and of no
+ *         other but for the spare bits. Otherwise place * 256 + number, with number 2, 8, 13, 14
+ *         or 15; only 13 has a place. Take it apart by answer_number and answer_place.
  */
 uint64_t word_read(uint64_t rate, const uint8_t *word, size_t word_len, uint8_t *block,
                    size_t block_len);

@@ -16,7 +16,7 @@ static const char *const SENTENCES[] = {
     [MAHYREI_BAD_MARKER] = "The marker is out of range: W is not 1 to 32, or a lent marker symbol "
                            "is not below the pulse order.",
     [MAHYREI_BAD_LENGTH] = "A lent slice is longer or shorter than the rate or the header says.",
-    [MAHYREI_BAD_SPARE] = "A spare bit is set, behind the block's bits or behind the last slot.",
+    [MAHYREI_BAD_SPARE] = "A spare bit behind the last slot is set.",
     [MAHYREI_BAD_PULSE] = "A symbol's slots do not hold exactly one pulse, or it stands in a guard "
                           "slot; the place is that symbol, markers counted.",
     [MAHYREI_WRONG_MARKER] = "A marker symbol is not the one that was lent; the place is that "

@@ -150,7 +150,8 @@ def _written(call, slices, length):
 
 def word_write(rate, block):
     """The word, 1,890 bytes, of a packed block of this rate: 626, 941 or 1,256 bytes for rate 0
-    (1/3), 1 (1/2) and 2 (2/3), the last two bits zero. Refused with 2, 8 or 9."""
+    (1/3), 1 (1/2) and 2 (2/3). Its last two bits are spare and may hold anything. Refused with 2
+    or 8."""
     block, rate = _bytes(block), _number(rate)
     return _written(
         lambda *rest: _library.word_write(rate, *rest), [block], _WORD_BYTES
@@ -158,8 +159,8 @@ def word_write(rate, block):
 
 
 def word_read(rate, word):
-    """The packed block that makes this word at this rate. Refused with 2, 8, 13, 14 or 15; for 13
-    the place is the first wrong coded bit."""
+    """The packed block that makes this word at this rate, its two spare bits zero. Refused with 2,
+    8, 13, 14 or 15; for 13 the place is the first wrong coded bit."""
     word, rate = _bytes(word), _number(rate)
     length = _BLOCK_BYTES[rate] if rate < len(_BLOCK_BYTES) else 0
     return _written(lambda *rest: _library.word_read(rate, *rest), [word], length)

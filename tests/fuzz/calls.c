@@ -7,7 +7,8 @@
  * What is demanded of each call: the answer and every byte of the written slice are those of the
  * plain C version (tests/c/plain_run.c, bench/plain_word.c), which is built into the fuzzer and
  * guides it, the library being closed to it; a refused call changes no lent byte; what is accepted
- * goes back to where it came from, bit for bit; number and place are ones that the call can give.
+ * goes back to where it came from, bit for bit but for a block's spare bits; number and place are
+ * ones that the call can give.
  *
  * The sanitizers do not see into the library either. So each slice is lent from pages of its own,
  * right before or right behind a page that may not be touched, with a margin of bytes on its other
@@ -44,7 +45,7 @@ static const char *const CALL_NAMES[CALLS] = {"word_write", "word_read", "run_wr
 
 /* The numbers that a call can answer, a bit each. */
 static const uint32_t CAN_ANSWER[CALLS] = {
-    [WORD_WRITE] = 1U << 0 | 1U << 2 | 1U << 8 | 1U << 9,
+    [WORD_WRITE] = 1U << 0 | 1U << 2 | 1U << 8,
     [WORD_READ] = 1U << 0 | 1U << 2 | 1U << 8 | 1U << 13 | 1U << 14 | 1U << 15,
     [RUN_WRITE] = 0x1FF,
     [RUN_READ] = 0x1FFFF | 1U << 18,
@@ -327,6 +328,9 @@ static void put_and_back(enum call call, uint64_t rate) {
     const size_t from_len = lent[FROM].len, to_len = lent[TO].len;
     memcpy(came, lent[FROM].slice, from_len);
     memcpy(went, lent[TO].slice, to_len);
+    if (call == WORD_WRITE) { /* the spare bits do not come back */
+        came[from_len - 1] &= 0xFC;
+    }
     lend(FROM, to_len, went, to_len);
     lend_to(from_len);
     require(put(back, rate) == MAHYREI_ACCEPTED, back, "refused what the other call made");
@@ -394,22 +398,13 @@ static void damage_word(struct input *in, uint64_t rate, uint8_t *word) {
     }
 }
 
-static void make_block(struct input *in, uint64_t rate, uint8_t *block) {
-    const size_t len = word_block_bytes(rate);
-    fill(in, block, len);
-    if (take_below(in, 1, 8) != 7) {
-        block[len - 1] &= 0xFC;
-    }
-}
-
 static void make_word(struct input *in, uint64_t rate) {
     uint8_t block[MAHYREI_BLOCK_BYTES_MAX];
     if (take_below(in, 1, 4) == 3) {
         fill_raw(in, given, MAHYREI_WORD_BYTES);
         return;
     }
-    make_block(in, rate, block);
-    block[word_block_bytes(rate) - 1] &= 0xFC;
+    fill(in, block, word_block_bytes(rate)); /* its spare bits too */
     require(word_write(rate, block, word_block_bytes(rate), given, MAHYREI_WORD_BYTES) == 0,
             WORD_WRITE, "refused a block");
     damage_word(in, rate, given);
@@ -421,7 +416,7 @@ static void put_word(struct input *in, enum call call) {
     const size_t block_len = choose_len(in, word_block_bytes(known));
     const size_t word_len = choose_len(in, MAHYREI_WORD_BYTES);
     if (call == WORD_WRITE) {
-        make_block(in, known, given);
+        fill(in, given, word_block_bytes(known));
         lend(FROM, block_len, given, word_block_bytes(known));
         lend_to(word_len);
     } else {

@@ -111,7 +111,7 @@ impl Call {
     /// The numbers that the call can answer.
     pub fn numbers(self) -> &'static [u8] {
         match self {
-            Call::WordWrite => &[0, 2, 8, 9],
+            Call::WordWrite => &[0, 2, 8],
             Call::WordRead => &[0, 2, 8, 13, 14, 15],
             Call::RunWrite => &[0, 1, 2, 3, 4, 5, 6, 7, 8],
             Call::RunRead => &[0, 1, 2, 3, 4, 5, 6, 7, 8, 9, 10, 11, 12, 13, 14, 15, 16, 18],

@@ -267,7 +267,6 @@ fn refused_call(tally: &mut Tally, rng: &mut Rng, rate: u64, wrong: u64, what: &
     } else {
         Way::Read
     };
-    let spare = wrong & 16 != 0;
 
     let block_len = rate_of(rate).block_bytes();
     let (mut input_len, mut output_len) = match way {
@@ -289,14 +288,10 @@ fn refused_call(tally: &mut Tally, rng: &mut Rng, rate: u64, wrong: u64, what: &
     let far = [3, 4, 255, 256, 258, 1 << 63, u64::MAX, wide, any];
     let rate = if wrong_rate { rng.pick(&far) } else { rate };
 
-    let mut input = rng.bytes(input_len);
-    if let (Way::Write, Some(last)) = (way, input.last_mut()) {
-        *last = *last & 0xFC | if spare { 1 + rng.below(3) as u8 } else { 0 };
-    }
+    let input = rng.bytes(input_len);
     let number = match way {
         _ if wrong_rate => 2,
         _ if wrong_input || wrong_output => 8,
-        Way::Write if spare => 9,
         Way::Write => 0,
         Way::Read => 13,
     };
@@ -314,12 +309,13 @@ pub fn compare_word(tally: &mut Tally, rng: &mut Rng, index: u64) {
     let what = format!("word {index} ({})", damage.name);
 
     let block = some_block(rng, rate_of(rate));
-    let packed = word::pack(&block);
+    let mut packed = word::pack(&block);
+    *packed.last_mut().expect("a byte") |= rng.below(4) as u8; // the spare bits are free
     let write = Way::Write;
     compare(tally, rng, write, rate, &packed, WORD_BYTES, &[0], &what);
     let word = (damage.word)(rng, rate, &block);
     let (read, block_len, numbers) = (Way::Read, packed.len(), damage.numbers);
     compare(tally, rng, read, rate, &word, block_len, numbers, &what);
     let beside = format!("beside word {index}");
-    refused_call(tally, rng, rate, turn % 32, &beside);
+    refused_call(tally, rng, rate, turn % 16, &beside);
 }

@@ -3,7 +3,8 @@
 -- refused call changes no lent byte. Everything else is accepted, for every input."
 --
 -- Each call asks its questions in order (`then`), and the first no gives its number and its place (`ask`); where all are answered yes it is done. So
--- what is not refused by one of these numbers is accepted. That every call ends is part of every proof.
+-- what is not refused by one of these numbers is accepted. That every call ends is part of every proof. "Spare bits that are set" are those of slot
+-- buffers: a block's are disregarded since Card 7.
 use mathlib.Core.Path.{_≡_, refl, ap, ap₂}
 use mathlib.Core.List.{List}
 use Prim.Native.Nat.{ℕ, _+_, _*_}
@@ -33,12 +34,11 @@ use Rattle.calls.specs.After.{wordAfter, blockAfter, slotsAfter, framesAfter}
 
 -- ---- words
 
--- the writer: the rate, the lengths of block and word, the block's spare bits
+-- the writer: the rate, the lengths of block and word
 pub word-writer-asks : (rate : ℕ) (block : List ℕ) (n : ℕ)
     → words.writeSays rate block n
     ≡ then (ask (ltb rate 3) 2 0)
-    (then (ask (both (eqb (length block) (blockBytes rate)) (eqb n 1890)) 8 0)
-    (ask (words.blockSpareZero rate block) 9 0))
+    (ask (both (eqb (length block) (blockBytes rate)) (eqb n 1890)) 8 0)
 word-writer-asks = word-laws.write-asks
 
 -- the reader: the rate, the lengths, whether the input bits make all coded bits (with the first wrong one as the place), the termination, the check

@@ -4,12 +4,13 @@
 --
 -- The definitions are those that the contracts of the calls cite (crate `calls`): what a call says (`writeSays`, `readSays`), the slots of frames
 -- (`runOf`), the frames in slots (`framesRead`), the word of a block (`wordOf`) and the block in a word (`blockIn`). `Bytes` says that the elements
--- of a list are bytes, as they are in every slice.
+-- of a list are bytes, as they are in every slice. `SameBits` says of two packed blocks that their k bits are the same, `SpareZero` of one that its
+-- two spare bits are 0.
 use mathlib.Core.Path.{_≡_, sym, ap, _∙_}
 use mathlib.Core.List.{List}
 use Prim.Native.Nat.{ℕ}
 use lib.ListN.{length}
-use Rattle.bits.specs.Pack.{Bytes}
+use Rattle.bits.specs.Pack.{bitAt, Bytes}
 use Rattle.answers.specs.Answer.{after}
 use Rattle.answers.specs.declared.Answer.{Answer}
 use Rattle.answers.specs.declared.Answer.the-variants.{Done}
@@ -53,11 +54,17 @@ run-there-and-back header marker frames slots back b w e =
 
 -- ---- words
 
--- If a block is written to a word, the reader accepts that word and returns that block.
-pub word-written-read : (rate : ℕ) (block : List ℕ) → Bytes block → words.writeSays rate block wordBytes ≡ Done
+-- If a block is written to a word, the reader accepts that word and returns that block: its k bits, with spare bits of 0.
+pub word-written-read : (rate : ℕ) (block : List ℕ) → words.writeSays rate block wordBytes ≡ Done
     → (words.readSays rate (words.wordOf rate block) (length block) ≡ Done)
-    × (words.blockIn rate (words.wordOf rate block) ≡ block)
+    × words.SameBits rate (words.blockIn rate (words.wordOf rate block)) block
+    × words.SpareZero rate (words.blockIn rate (words.wordOf rate block))
 word-written-read = word-laws.written-read
+
+-- Where its spare bits were 0, that is every byte of it.
+pub word-whole : (rate : ℕ) (block : List ℕ) → Bytes block → words.writeSays rate block wordBytes ≡ Done → words.SpareZero rate block
+    → words.blockIn rate (words.wordOf rate block) ≡ block
+word-whole = word-laws.whole-back
 
 -- If the reader accepts a word with some block, the writer writes that very word for that block.
 pub word-read-written : (rate : ℕ) (word : List ℕ) (n : ℕ) → Bytes word → words.readSays rate word n ≡ Done
@@ -65,19 +72,21 @@ pub word-read-written : (rate : ℕ) (word : List ℕ) (n : ℕ) → Bytes word 
     × (words.wordOf rate (words.blockIn rate word) ≡ word)
 word-read-written = word-laws.read-written
 
--- So two different blocks of one rate never give one word.
-pub word-one : (rate : ℕ) (a b : List ℕ) → Bytes a → Bytes b → words.writeSays rate a wordBytes ≡ Done → words.writeSays rate b wordBytes ≡ Done
-    → words.wordOf rate a ≡ words.wordOf rate b → a ≡ b
-word-one rate a b ha hb wa wb e =
-    sym (word-written-read rate a ha wa .1) ∙ ap (words.blockIn rate) e ∙ word-written-read rate b hb wb .1
+-- So two blocks of one rate that differ in one of the k bits never give one word.
+pub word-one : (rate : ℕ) (a b : List ℕ) → words.writeSays rate a wordBytes ≡ Done → words.writeSays rate b wordBytes ≡ Done
+    → words.wordOf rate a ≡ words.wordOf rate b → words.SameBits rate a b
+word-one rate a b wa wb e i l =
+    sym (word-written-read rate a wa .1 i l) ∙ ap (λ (w : List ℕ). bitAt (words.blockIn rate w) i) e ∙ word-written-read rate b wb .1 i l
 
 -- The same of the lent slices.
-pub word-there-and-back : (rate : ℕ) (block word back : List ℕ) → Bytes block → words.writeSays rate block (length word) ≡ Done → length word ≡ wordBytes → length back ≡ length block
-    → blockAfter rate (wordAfter rate block word) back ≡ block
-word-there-and-back rate block word back b w long e =
-    let r = word-written-read rate block b (ap (words.writeSays rate block) (sym long) ∙ w) in
+pub word-there-and-back : (rate : ℕ) (block word back : List ℕ) → words.writeSays rate block (length word) ≡ Done → length word ≡ wordBytes → length back ≡ length block
+    → words.SameBits rate (blockAfter rate (wordAfter rate block word) back) block
+    × words.SpareZero rate (blockAfter rate (wordAfter rate block word) back)
+word-there-and-back rate block word back w long e =
+    let r = word-written-read rate block (ap (words.writeSays rate block) (sym long) ∙ w) in
     let written : wordAfter rate block word ≡ words.wordOf rate block = ap (λ (a : Answer). after a (words.wordOf rate block) word) w in
     let said : words.readSays rate (words.wordOf rate block) (length back) ≡ Done = ap (words.readSays rate (words.wordOf rate block)) e ∙ r .0 in
+    let holds : blockAfter rate (wordAfter rate block word) back ≡ words.blockIn rate (words.wordOf rate block) =
     ap (λ (x : List ℕ). blockAfter rate x back) written
-    ∙ ap (λ (a : Answer). after a (words.blockIn rate (words.wordOf rate block)) back) said
-    ∙ r .1
+    ∙ ap (λ (a : Answer). after a (words.blockIn rate (words.wordOf rate block)) back) said in
+    (λ i l. ap (λ (x : List ℕ). bitAt x i) holds ∙ r .1 i l, λ i l u. ap (λ (x : List ℕ). bitAt x i) holds ∙ r .2 i l u)

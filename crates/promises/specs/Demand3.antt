@@ -2,14 +2,13 @@
 --
 -- An information block is the k bits of a packed block (`infoBits`); bit i of packed bytes is `bitAt`, the first bit of a byte highest. The coded
 -- bits taken back out of a word are `codedIn`. The numbers stand in the statements themselves.
-use mathlib.Core.Path.{_≡_, ap, _∙_}
+use mathlib.Core.Path.{_≡_, ap}
 use mathlib.Core.Bool.{Bool, true}
 use mathlib.Core.List.{List}
 use mathlib.Core.Logic.{_⊎_}
-use Prim.Native.Nat.{ℕ, _+_, _*_, _≤_, _<_}
+use Prim.Native.Nat.{ℕ, _+_, _≤_, _<_}
 use native.Mathlib.Omega.{arith}
 use lib.Bits.{bitXor}
-use lib.ListN.{length}
 use Rattle.bits.specs.Choice.{bool, bool-lt}
 use Rattle.bits.specs.Sum.{xor-bit}
 use Rattle.bits.specs.Pack.{bitAt, bytesOf, Bytes, plus, bit-lt, bit-bytes, length-bytes}
@@ -25,25 +24,31 @@ use Rattle.word.specs.Distances as law-of-distances
 use Rattle.word.specs.Flips as law-of-flips
 
 -- "For every three information blocks of one rate, and the fourth that is their bitwise sum: the word written for the fourth is the bitwise sum of
--- the words written for the three." `plus` adds two lists of bytes bit by bit; the fourth is accepted too.
-pub sums : (rate : ℕ) (a b c : List ℕ) → Bytes a → Bytes b → Bytes c
-    → writeSays rate a wordBytes ≡ Done → writeSays rate b wordBytes ≡ Done → writeSays rate c wordBytes ≡ Done
-    → (writeSays rate (plus (plus a b) c) wordBytes ≡ Done)
-    × (wordOf rate (plus (plus a b) c) ≡ plus (plus (wordOf rate a) (wordOf rate b)) (wordOf rate c))
+-- the words written for the three." The fourth, d, is any block whose k bits are the sums; the spare bits of all four are free. `plus` adds two lists
+-- of bytes bit by bit.
+pub sums : (rate : ℕ) (a b c d : List ℕ) → rate < 3
+    → ((i : ℕ) → i < infoBits rate → bitAt d i ≡ bitXor (bitXor (bitAt a i) (bitAt b i)) (bitAt c i))
+    → wordOf rate d ≡ plus (plus (wordOf rate a) (wordOf rate b)) (wordOf rate c)
 sums = law-of-sums.sums
+
+-- Of three blocks that the writer accepts, the sum byte by byte is such a fourth, and is accepted.
+pub sum-block : (rate : ℕ) (a b c : List ℕ) → writeSays rate a wordBytes ≡ Done → writeSays rate b wordBytes ≡ Done → writeSays rate c wordBytes ≡ Done
+    → (writeSays rate (plus (plus a b) c) wordBytes ≡ Done)
+    × ((i : ℕ) → bitAt (plus (plus a b) c) i ≡ bitXor (bitXor (bitAt a i) (bitAt b i)) (bitAt c i))
+sum-block = law-of-sums.sum-block
 
 -- in how many of the 15,120 places the coded bits taken back out of the words of two blocks differ
 abbrev pub apart : ℕ → List ℕ → List ℕ → ℕ
 apart rate a b = differences (codedIn (wordOf rate a)) (codedIn (wordOf rate b)) 15120
 
 -- "For every two blocks of one rate that differ: the coded bits taken back out of their words differ in at least 8 of the 15,120 places at rate
--- 1/3, 5 at 1/2 and 3 at 2/3." They differ in bit i.
-pub distances : (rate : ℕ) (a b : List ℕ) → Bytes a → Bytes b → writeSays rate a wordBytes ≡ Done → writeSays rate b wordBytes ≡ Done
+-- 1/3, 5 at 1/2 and 3 at 2/3." They differ in bit i of the k.
+pub distances : (rate : ℕ) (a b : List ℕ) → writeSays rate a wordBytes ≡ Done → writeSays rate b wordBytes ≡ Done
     → (i : ℕ) → i < infoBits rate → (bitAt a i ≡ bitAt b i → ⊥)
     → (rate ≡ 0 → 8 ≤ apart rate a b) × (rate ≡ 1 → 5 ≤ apart rate a b) × (rate ≡ 2 → 3 ≤ apart rate a b)
 unfolding distance
-distances rate a b ha hb wa wb i l ne =
-    let d : distance rate ≤ apart rate a b = law-of-distances.distances rate a b ha hb wa wb i l ne in
+distances rate a b wa wb i l ne =
+    let d : distance rate ≤ apart rate a b = law-of-distances.distances rate a b wa wb i l ne in
     (λ e. omega (arith, d, ap distance e), λ e. omega (arith, d, ap distance e), λ e. omega (arith, d, ap distance e))
 
 -- a word with the bits of a set flipped

@@ -3,3 +3,4 @@ pub mod Demand2
 pub mod Demand3
 pub mod Card2
 pub mod Card9
+pub mod Card7

@@ -7,7 +7,7 @@ use native.Mathlib.Omega.{arith}
 use lib.Bits.{bitXor}
 use Rattle.bits.specs.Choice.{bit-cases}
 use Rattle.bits.specs.Sum.{xor-bit, same-xor}
-use Rattle.bits.specs.Pack.{bitAt, Bytes, Bits}
+use Rattle.bits.specs.Pack.{bitAt, Bits}
 use Rattle.bits.specs.Weight.{differences, differences-weight, differences-same, weight, weight-same}
 use Rattle.sizes.specs.Rate.{infoBits}
 use Rattle.sizes.specs.Sizes.{wordBits, wordBytes}
@@ -18,10 +18,10 @@ use Rattle.word.specs.Word.Laws as Laws
 use Rattle.word.specs.Word.Answers as Answers
 use Rattle.answers.specs.declared.Answer.the-variants.{Done}
 
-pub distances : (rate : ℕ) (a b : List ℕ) → Bytes a → Bytes b → writeSays rate a wordBytes ≡ Done → writeSays rate b wordBytes ≡ Done
+pub distances : (rate : ℕ) (a b : List ℕ) → writeSays rate a wordBytes ≡ Done → writeSays rate b wordBytes ≡ Done
     → (i : ℕ) → i < infoBits rate → (bitAt a i ≡ bitAt b i → ⊥)
     → distance rate ≤ differences (codedIn (wordOf rate a)) (codedIn (wordOf rate b)) wordBits
-distances rate a b ha hb ea eb i l ne =
+distances rate a b ea eb i l ne =
     let h : rate < 3 = Answers.write-accepted rate a wordBytes ea .rate-is in
     let x : ℕ → ℕ = inputOf rate a in
     let y : ℕ → ℕ = inputOf rate b in

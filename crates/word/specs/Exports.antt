@@ -1,18 +1,19 @@
 -- What the crates above may use of words. They cite the names of `Word` and never open them.
 use mathlib.Core.Path.{_≡_, sym, ap, _∙_}
-use mathlib.Core.List.{List}
+use mathlib.Core.Bool.{true}
+use mathlib.Core.List.{List, [], _∷_}
 use Prim.Native.Nat.{ℕ, _<_}
 use lib.ListN.{length}
 use Rattle.bits.specs.Pack.{Bytes}
-use Rattle.answers.specs.Answer.{Fits}
+use Rattle.answers.specs.Answer.{numberOf, Fits}
+use Rattle.answers.specs.Numbers.{among}
 use Rattle.sizes.specs.Rate.{blockBytes}
 use Rattle.sizes.specs.Sizes.{wordBytes}
-use Rattle.word.specs.Word.{wordOf, blockIn, writeSays, readSays}
-use Rattle.word.specs.Word.{Packed}
+use Rattle.word.specs.Word.{SameBits, SpareZero, Packed, checkedBlock, wordOf, carriedOn, blockIn, writeSays, readSays}
 use Rattle.word.specs.Word.Laws as Laws
 use Rattle.word.specs.Word.Answers as Answers
-use Rattle.word.specs.Return.{written-read, read-written}
-use Rattle.answers.specs.declared.Answer.the-variants.{Done, No}
+use Rattle.word.specs.Return.{written-read, whole-back, read-written}
+use Rattle.answers.specs.declared.Answer.the-variants.{Done}
 
 -- a word has 1,890 bytes
 pub word-length : (rate : ℕ) (block : List ℕ) → length (wordOf rate block) ≡ wordBytes
@@ -21,20 +22,43 @@ word-length = Laws.word-length
 pub word-bytes : (rate : ℕ) (block : List ℕ) → Bytes (wordOf rate block)
 word-bytes = Laws.word-bytes
 
+-- it is the block with its check behind it, carried on from step 3
+pub word-carried : (rate : ℕ) (block : List ℕ) → wordOf rate block ≡ carriedOn rate (checkedBlock rate block)
+word-carried = Laws.word-carried
+
+-- two packings of the same k bits give one word
+pub word-same : (rate : ℕ) (a b : List ℕ) → rate < 3 → SameBits rate a b → wordOf rate a ≡ wordOf rate b
+word-same = Laws.word-same
+
+-- a block of the right length is written, whatever its spare bits
+pub always-written : (rate : ℕ) (block : List ℕ) → rate < 3 → length block ≡ blockBytes rate → writeSays rate block wordBytes ≡ Done
+always-written = Answers.always-written
+
 -- a packed block is written; its word is accepted, and gives the block back
 pub packed-written : (rate : ℕ) (block : List ℕ) → rate < 3 → Packed rate block → writeSays rate block wordBytes ≡ Done
-packed-written = Answers.packed-accepted
+packed-written rate block h p = always-written rate block h (p .size)
 
 pub packed-read : (rate : ℕ) (block : List ℕ) → rate < 3 → Packed rate block
     → (readSays rate (wordOf rate block) (blockBytes rate) ≡ Done) × (blockIn rate (wordOf rate block) ≡ block)
 packed-read rate block h p =
-    let r = written-read rate block (p .bytes) (packed-written rate block h p) in
-    (ap (readSays rate (wordOf rate block)) (sym (p .size)) ∙ r .0, r .1)
+    let w = packed-written rate block h p in
+    (ap (readSays rate (wordOf rate block)) (sym (p .size)) ∙ written-read rate block w .0, whole-back rate block (p .bytes) w (p .spare))
 
 -- an accepted word gives a packed block, and is the word of that block
 pub read-packed : (rate : ℕ) (word : List ℕ) (n : ℕ) → Bytes word → readSays rate word n ≡ Done
     → Packed rate (blockIn rate word) × (wordOf rate (blockIn rate word) ≡ word)
 read-packed rate word n b e = (Laws.block-packed rate word, read-written rate word n b e .1)
+
+-- a block that is read has spare bits of 0
+pub read-spare : (rate : ℕ) (word : List ℕ) → SpareZero rate (blockIn rate word)
+read-spare rate word = Laws.block-packed rate word .spare
+
+-- the numbers that the two calls can answer
+pub write-numbers : (rate : ℕ) (block : List ℕ) (n : ℕ) → among (0 ∷ 2 ∷ 8 ∷ []) (numberOf (writeSays rate block n)) ≡ true
+write-numbers = Answers.write-numbers
+
+pub read-numbers : (rate : ℕ) (word : List ℕ) (n : ℕ) → among (0 ∷ 2 ∷ 8 ∷ 13 ∷ 14 ∷ 15 ∷ []) (numberOf (readSays rate word n)) ≡ true
+read-numbers = Answers.read-numbers
 
 -- the answers of the two calls fit the number that C gets
 pub write-fits : (rate : ℕ) (block : List ℕ) (n : ℕ) → Fits (writeSays rate block n)

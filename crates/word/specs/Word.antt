@@ -25,9 +25,17 @@ pub mod Judging
 
 -- ---- from a block to its word
 
--- steps 2 and 3: the k bits of the block, their check, and two zero termination bits
+-- the block's bits, as step 2 takes them in
+pub takenIn : List ℕ → ℕ → ℕ
+takenIn block = bitAt block
+
+-- step 2: the k bits of the block, and their check behind them
+pub checkedBlock : ℕ → List ℕ → ℕ → ℕ
+checkedBlock rate block = checked (infoBits rate) (takenIn block)
+
+-- step 3: and two zero termination bits
 pub inputOf : ℕ → List ℕ → ℕ → ℕ
-inputOf rate block = terminated (infoBits rate + 32) (checked (infoBits rate) (bitAt block))
+inputOf rate block = terminated (infoBits rate + 32) (checkedBlock rate block)
 
 -- step 4: the 15,120 coded bits
 pub codedOf : ℕ → List ℕ → ℕ → ℕ
@@ -40,6 +48,10 @@ shuffled coded = randomize (accumulate (interleave coded))
 pub wordOf : ℕ → List ℕ → List ℕ
 wordOf rate block = bytesOf wordBytes (shuffled (codedOf rate block))
 
+-- steps 3 to 7 of any k + 32 bits
+pub carriedOn : ℕ → (ℕ → ℕ) → List ℕ
+carriedOn rate x = bytesOf wordBytes (shuffled (encode rate (terminated (infoBits rate + 32) x)))
+
 -- ---- from a word back to its block
 
 -- the coded bits taken back out: steps 7, 6 and 5 undone, the last first
@@ -50,24 +62,28 @@ codedIn word = deinterleave (differentiate (randomize (bitAt word)))
 pub inputIn : ℕ → List ℕ → ℕ → ℕ
 inputIn rate word = decode rate (codedIn word)
 
--- the block: the first k of them, packed, and spare bits of 0
+-- the block: the first k of them, packed, and the two spare bits 0
 pub packedBlock : ℕ → (ℕ → ℕ) → List ℕ
 packedBlock rate x = bytesOf (blockBytes rate) (cut (infoBits rate) x)
 
 pub blockIn : ℕ → List ℕ → List ℕ
 blockIn rate word = packedBlock rate (inputIn rate word)
 
--- a packed block of a rate: as many bytes as the rate implies, its bits, and zeros behind them
+-- two packings of the same k bits: whatever their spare bits
+abbrev pub SameBits : ℕ → List ℕ → List ℕ → Type 0
+SameBits rate a b = (i : ℕ) → i < infoBits rate → bitAt a i ≡ bitAt b i
+
+-- spare bits of 0
+abbrev pub SpareZero : ℕ → List ℕ → Type 0
+SpareZero rate block = (i : ℕ) → infoBits rate ≤ i → i < 8 * blockBytes rate → bitAt block i ≡ 0
+
+-- a packed block with spare bits of 0, as the reader gives it and a run has it: as many bytes as the rate implies, its bits, and zeros behind them
 pub record Packed (rate : ℕ) (block : List ℕ) : Type 0 where
   pub size : length block ≡ blockBytes rate
   pub bytes : Bytes block
-  pub spare : (i : ℕ) → infoBits rate ≤ i → i < 8 * blockBytes rate → bitAt block i ≡ 0
+  pub spare : SpareZero rate block
 
 -- ---- the questions
-
--- question 9: are the block's two spare bits zero?
-pub blockSpareZero : ℕ → List ℕ → Bool
-blockSpareZero rate block = both (eqb (bitAt block (infoBits rate)) 0) (eqb (bitAt block (infoBits rate + 1)) 0)
 
 -- question 13, of coded bits c and the input bits x that were read from them: do these make coded bit j? And the first that they do not
 pub agrees : ℕ → (ℕ → ℕ) → (ℕ → ℕ) → ℕ → Bool
@@ -84,12 +100,11 @@ endsInZeros rate x = both (eqb (x (infoBits rate + 32)) 0) (eqb (x (infoBits rat
 pub checkRight : ℕ → (ℕ → ℕ) → Bool
 checkRight rate x = eqb (val (λ i. x (infoBits rate + i)) 32) (register x (infoBits rate))
 
--- the writer: questions 2, 8 and 9
+-- the writer: questions 2 and 8; the block's spare bits are not looked at
 pub writeSays : ℕ → List ℕ → ℕ → Answer
 writeSays rate block wordLength =
     then (ask (ltb rate 3) 2 0)
-    (then (ask (both (eqb (length block) (blockBytes rate)) (eqb wordLength wordBytes)) 8 0)
-    (ask (blockSpareZero rate block) 9 0))
+    (ask (both (eqb (length block) (blockBytes rate)) (eqb wordLength wordBytes)) 8 0)
 
 -- the reader: questions 13, 14 and 15, and before them 2 and 8
 pub judged : ℕ → (ℕ → ℕ) → (ℕ → ℕ) → Answer

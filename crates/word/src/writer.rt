@@ -11,7 +11,7 @@ ghost use Rattle.word.specs.Word.{inputOf, codedOf, shuffled, wordOf, wr
 ghost use Rattle.word.specs.Word.Answers.{WriteAccepted};
 ghost use Rattle.word.specs.Needs.{Inputs, Codes, Shuffles};
 
-// Questions 2, 8 and 9.
+// Questions 2 and 8.
 pub fn judge(rate: u64, block: &[u8], word_length: usize) -> Answer
     ensures { λ r. ⌜ r ≡ writeSays rate (now (block .entry)) «word_length» ⌝ }
 {
@@ -24,9 +24,6 @@ pub fn judge(rate: u64, block: &[u8], word_length: usize) -> Answer
     }
     if word_length != sizes::WORD_BYTES {
         return Answer::No(8, 0);
-    }
-    if block[size - 1] & 3 != 0 {
-        return Answer::No(9, 0);
     }
     Answer::Done
 }

@@ -1,25 +1,20 @@
 -- The two calls' answers, case by case, and what an acceptance says.
-use mathlib.Core.Path.{_≡_, refl, ap, ap₂, _∙_}
+use mathlib.Core.Path.{_≡_, refl}
 use mathlib.Core.Bool.{Bool, true, false}
-use mathlib.Core.List.{List}
-use mathlib.Core.Logic.{⊎-elim}
-use Prim.Native.Nat.{ℕ, suc, _+_, _-_, _*_, _/_, _%_, _^_, _≤_, _<_}
+use mathlib.Core.List.{List, [], _∷_}
+use Prim.Native.Nat.{ℕ, _≤_, _<_}
 use native.Mathlib.Omega.{arith}
-use native.Mathlib.Nat.{div-one}
 use lib.Dec.{ltb, eqb}
-use lib.ListN.{length, getD}
+use lib.ListN.{length}
 use borrow.Author.Tests.{lt-ltb, le-ltb, eq-eqb, ne-eqb, ltb-true, eqb-true}
-use Rattle.bits.specs.Choice.{lt-or-le, bit-cases}
 use Rattle.bits.specs.Table.{both, both-true}
 use Rattle.bits.specs.First.{up-to-le}
-use Rattle.bits.specs.Pack.{bitAt, Bytes}
-use Rattle.sizes.specs.Rate.{infoBits, blockBytes, block-size}
+use Rattle.sizes.specs.Rate.{blockBytes}
 use Rattle.sizes.specs.Sizes.{wordBits, wordBytes}
-use Rattle.word.specs.Word.{codedIn, inputIn, blockSpareZero, agrees, firstWrong, endsInZeros, checkRight, writeSays, judged, readSays}
-use Rattle.word.specs.Word.{Packed}
+use Rattle.word.specs.Word.{codedIn, inputIn, agrees, firstWrong, endsInZeros, checkRight, writeSays, judged, readSays}
 use Rattle.word.specs.Word.Laws.{Sound, sound}
-use Rattle.answers.specs.Answer.{ask, then, then-done, ask-done, Fits, fits-ask, fits-then}
-use Rattle.answers.specs.declared.Answer.{Answer}
+use Rattle.answers.specs.Answer.{numberOf, ask, then, then-done, ask-done, Fits, fits-ask, fits-then}
+use Rattle.answers.specs.Numbers.{among, among-ask, among-then}
 use Rattle.answers.specs.declared.Answer.the-variants.{Done, No}
 
 -- ---- the writer
@@ -39,97 +34,30 @@ module _ (rate : ℕ) (block : List ℕ) (n : ℕ) where
       unfolding writeSays
       write-word-length ne = rw (lt-ltb rate 3 h, eq-eqb (length block) (blockBytes rate) e, ne-eqb n wordBytes ne) refl
 
-      module _ (w : n ≡ wordBytes) where
-        pub write-spare : blockSpareZero rate block ≡ false → writeSays rate block n ≡ No 9 0
-        unfolding writeSays
-        write-spare s = rw (lt-ltb rate 3 h, eq-eqb (length block) (blockBytes rate) e, eq-eqb n wordBytes w, s) refl
-
-        pub write-done : blockSpareZero rate block ≡ true → writeSays rate block n ≡ Done
-        unfolding writeSays
-        write-done s = rw (lt-ltb rate 3 h, eq-eqb (length block) (blockBytes rate) e, eq-eqb n wordBytes w, s) refl
+      pub write-done : n ≡ wordBytes → writeSays rate block n ≡ Done
+      unfolding writeSays
+      write-done w = rw (lt-ltb rate 3 h, eq-eqb (length block) (blockBytes rate) e, eq-eqb n wordBytes w) refl
 
 -- an acceptance says that each question was answered yes
 pub record WriteAccepted (rate : ℕ) (block : List ℕ) (n : ℕ) : Type 0 where
   pub rate-is : rate < 3
   pub block-is : length block ≡ blockBytes rate
   pub word-is : n ≡ wordBytes
-  pub spare-is : blockSpareZero rate block ≡ true
 
 pub write-accepted : (rate : ℕ) (block : List ℕ) (n : ℕ) → writeSays rate block n ≡ Done → WriteAccepted rate block n
 unfolding writeSays
 write-accepted rate block n e =
-    let q2 = then-done (ask (ltb rate 3) 2 0) _ e in
-    let q8 = then-done (ask (both (eqb (length block) (blockBytes rate)) (eqb n wordBytes)) 8 0) (ask (blockSpareZero rate block) 9 0) (q2 .1) in
-    let l = both-true (eqb (length block) (blockBytes rate)) (eqb n wordBytes) (ask-done (both (eqb (length block) (blockBytes rate)) (eqb n wordBytes)) 8 0 (q8 .0)) in
+    let q2 = then-done (ask (ltb rate 3) 2 0) (ask (both (eqb (length block) (blockBytes rate)) (eqb n wordBytes)) 8 0) e in
+    let l = both-true (eqb (length block) (blockBytes rate)) (eqb n wordBytes) (ask-done (both (eqb (length block) (blockBytes rate)) (eqb n wordBytes)) 8 0 (q2 .1)) in
     record {
       rate-is = ltb-true rate 3 (ask-done (ltb rate 3) 2 0 (q2 .0));
       block-is = eqb-true (length block) (blockBytes rate) (l .0);
       word-is = eqb-true n wordBytes (l .1);
-      spare-is = ask-done (blockSpareZero rate block) 9 0 (q8 .1);
     }
 
--- the two spare bits are all that a packed block has behind its k bits
-pub accepted-packed : (rate : ℕ) (block : List ℕ) (n : ℕ) → Bytes block → writeSays rate block n ≡ Done → Packed rate block
-unfolding blockSpareZero
-accepted-packed rate block n b e =
-    let a = write-accepted rate block n e in
-    let k : ℕ = infoBits rate in
-    let size : 8 * blockBytes rate ≡ k + 2 = block-size rate (a .rate-is) in
-    let s = both-true (eqb (bitAt block k) 0) (eqb (bitAt block (k + 1)) 0) (a .spare-is) in
-    record {
-      size = a .block-is;
-      bytes = b;
-      spare = λ i l u. ⊎-elim
-          (λ (v : i < k + 1). let q : i ≡ k = omega arith in ap (bitAt block) q ∙ eqb-true (bitAt block k) 0 (s .0))
-          (λ (v : k + 1 ≤ i). let q : i ≡ k + 1 = omega arith in ap (bitAt block) q ∙ eqb-true (bitAt block (k + 1)) 0 (s .1))
-          (lt-or-le i (k + 1));
-    }
-
-pub packed-spare : (rate : ℕ) (block : List ℕ) → rate < 3 → Packed rate block → blockSpareZero rate block ≡ true
-unfolding blockSpareZero
-packed-spare rate block h p =
-    let k : ℕ = infoBits rate in
-    let size : 8 * blockBytes rate ≡ k + 2 = block-size rate h in
-    let e : bitAt block k ≡ 0 = p .spare k (omega arith) (omega arith) in
-    let f : bitAt block (k + 1) ≡ 0 = p .spare (k + 1) (omega arith) (omega arith) in
-    rw (e, f) refl
-
-pub packed-accepted : (rate : ℕ) (block : List ℕ) → rate < 3 → Packed rate block → writeSays rate block wordBytes ≡ Done
-packed-accepted rate block h p = write-done rate block wordBytes h (p .size) refl (packed-spare rate block h p)
-
--- the spare bits are the two lowest of the last byte
-module _ (rate : ℕ) (block : List ℕ) (h : rate < 3) where
-  last : ℕ
-  last = getD block (blockBytes rate - 1) 0
-
-  spare-bits : (bitAt block (infoBits rate) ≡ last / 2 % 2) × (bitAt block (infoBits rate + 1) ≡ last % 2)
-  unfolding bitAt last
-  spare-bits =
-      let k : ℕ = infoBits rate in
-      let size : 8 * blockBytes rate ≡ k + 2 = block-size rate h in
-      let d0 : k / 8 ≡ blockBytes rate - 1 = omega arith in
-      let r0 : 7 - k % 8 ≡ 1 = omega arith in
-      let d1 : (k + 1) / 8 ≡ blockBytes rate - 1 = omega arith in
-      let r1 : 7 - (k + 1) % 8 ≡ 0 = omega arith in
-      (ap₂ (λ (i s : ℕ). getD block i 0 / 2 ^ s % 2) d0 r0, ap₂ (λ (i s : ℕ). getD block i 0 / 2 ^ s % 2) d1 r1 ∙ ap (λ (v : ℕ). v % 2) (div-one (getD block (blockBytes rate - 1) 0)))
-
-  pub spare-yes : getD block (blockBytes rate - 1) 0 % 4 ≡ 0 → blockSpareZero rate block ≡ true
-  unfolding blockSpareZero last
-  spare-yes z =
-      let e : bitAt block (infoBits rate) ≡ 0 = spare-bits .0 ∙ omega arith in
-      let f : bitAt block (infoBits rate + 1) ≡ 0 = spare-bits .1 ∙ omega arith in
-      rw (e, f) refl
-
-  pub spare-no : (getD block (blockBytes rate - 1) 0 % 4 ≡ 0 → ⊥) → blockSpareZero rate block ≡ false
-  unfolding blockSpareZero last
-  spare-no ne =
-      ⊎-elim
-      (λ (z : last / 2 % 2 ≡ 0). ⊎-elim
-      (λ (w : last % 2 ≡ 0). absurd (ne (omega arith)))
-      (λ (w : last % 2 ≡ 1). let e : bitAt block (infoBits rate) ≡ 0 = spare-bits .0 ∙ z in let f : bitAt block (infoBits rate + 1) ≡ 1 = spare-bits .1 ∙ w in rw (e, f) refl)
-      (bit-cases (last % 2) (omega arith)))
-      (λ (z : last / 2 % 2 ≡ 1). let e : bitAt block (infoBits rate) ≡ 1 = spare-bits .0 ∙ z in rw e refl)
-      (bit-cases (last / 2 % 2) (omega arith))
+-- a block of the right length is accepted, whatever its spare bits
+pub always-written : (rate : ℕ) (block : List ℕ) → rate < 3 → length block ≡ blockBytes rate → writeSays rate block wordBytes ≡ Done
+always-written rate block h e = write-done rate block wordBytes h e refl
 
 -- ---- the reader
 
@@ -200,9 +128,7 @@ pub write-fits : (rate : ℕ) (block : List ℕ) (n : ℕ) → Fits (writeSays r
 unfolding writeSays
 write-fits rate block n =
     fits-then (ask (ltb rate 3) 2 0) _ (fits-ask (ltb rate 3) 2 0 (omega arith) (omega arith) (λ z. omega arith))
-    (λ e. fits-then (ask (both (eqb (length block) (blockBytes rate)) (eqb n wordBytes)) 8 0) (ask (blockSpareZero rate block) 9 0)
-    (fits-ask (both (eqb (length block) (blockBytes rate)) (eqb n wordBytes)) 8 0 (omega arith) (omega arith) (λ z. omega arith))
-    (λ f. fits-ask (blockSpareZero rate block) 9 0 (omega arith) (omega arith) (λ z. omega arith)))
+    (λ e. fits-ask (both (eqb (length block) (blockBytes rate)) (eqb n wordBytes)) 8 0 (omega arith) (omega arith) (λ z. omega arith))
 
 pub read-fits : (rate : ℕ) (word : List ℕ) (n : ℕ) → Fits (readSays rate word n)
 unfolding readSays judged firstWrong
@@ -217,13 +143,34 @@ read-fits rate word n =
     (λ g. fits-then (ask (endsInZeros rate x) 14 0) (ask (checkRight rate x) 15 0) (fits-ask (endsInZeros rate x) 14 0 (omega arith) (omega arith) (λ z. omega arith))
     (λ h. fits-ask (checkRight rate x) 15 0 (omega arith) (omega arith) (λ z. omega arith)))))
 
+-- ---- the numbers that the two calls can answer
+
+pub write-numbers : (rate : ℕ) (block : List ℕ) (n : ℕ) → among (0 ∷ 2 ∷ 8 ∷ []) (numberOf (writeSays rate block n)) ≡ true
+unfolding writeSays
+write-numbers rate block n =
+    let ns : List ℕ = 0 ∷ 2 ∷ 8 ∷ [] in
+    let right : Bool = both (eqb (length block) (blockBytes rate)) (eqb n wordBytes) in
+    among-then ns (ask (ltb rate 3) 2 0) (ask right 8 0) (among-ask ns (ltb rate 3) 2 0 refl refl) (among-ask ns right 8 0 refl refl)
+
+pub read-numbers : (rate : ℕ) (word : List ℕ) (n : ℕ) → among (0 ∷ 2 ∷ 8 ∷ 13 ∷ 14 ∷ 15 ∷ []) (numberOf (readSays rate word n)) ≡ true
+unfolding readSays judged
+read-numbers rate word n =
+    let ns : List ℕ = 0 ∷ 2 ∷ 8 ∷ 13 ∷ 14 ∷ 15 ∷ [] in
+    let x : ℕ → ℕ = inputIn rate word in
+    let at : ℕ = firstWrong rate (codedIn word) x in
+    let right : Bool = both (eqb (length word) wordBytes) (eqb n (blockBytes rate)) in
+    among-then ns (ask (ltb rate 3) 2 0) _ (among-ask ns (ltb rate 3) 2 0 refl refl)
+    (among-then ns (ask right 8 0) _ (among-ask ns right 8 0 refl refl)
+    (among-then ns (ask (eqb at wordBits) 13 at) _ (among-ask ns (eqb at wordBits) 13 at refl refl)
+    (among-then ns (ask (endsInZeros rate x) 14 0) (ask (checkRight rate x) 15 0) (among-ask ns (endsInZeros rate x) 14 0 refl refl)
+    (among-ask ns (checkRight rate x) 15 0 refl refl))))
+
 -- ---- the questions of each call, in their order, with their numbers
 
 pub write-asks : (rate : ℕ) (block : List ℕ) (n : ℕ)
     → writeSays rate block n
     ≡ then (ask (ltb rate 3) 2 0)
-    (then (ask (both (eqb (length block) (blockBytes rate)) (eqb n wordBytes)) 8 0)
-    (ask (blockSpareZero rate block) 9 0))
+    (ask (both (eqb (length block) (blockBytes rate)) (eqb n wordBytes)) 8 0)
 unfolding writeSays
 write-asks rate block n = refl
 

@@ -21,7 +21,7 @@ use Rattle.convolution.specs.Code.{encode, encode-bits, encode-same, encode-plu
 use Rattle.interleaver.specs.Interleaver.{place, interleave, deinterleave, interleave-bits, deinterleave-bits, interleave-same, deinterleave-same, deinterleave-interleave, interleave-deinterleave, interleave-plus, deinterleave-plus}
 use Rattle.accumulator.specs.Accumulator.{accumulate, differentiate, accumulate-bits, differentiate-bits, accumulate-same, differentiate-same, accumulate-plus, differentiate-plus, differentiate-accumulate, accumulate-differentiate}
 use Rattle.randomizer.specs.Randomizer.{sequence, window, next, randomize, randomize-bits, randomize-same, randomize-twice, randomize-plus, randomize-sum3}
-use Rattle.word.specs.Word.{Packed, inputOf, codedOf, shuffled, wordOf, codedIn, inputIn, packedBlock, blockIn, agrees, firstWrong, endsInZeros, checkRight}
+use Rattle.word.specs.Word.{SameBits, Packed, takenIn, checkedBlock, inputOf, codedOf, shuffled, wordOf, carriedOn, codedIn, inputIn, packedBlock, blockIn, agrees, firstWrong, endsInZeros, checkRight}
 
 -- ---- the order of steps 6 and 7: where all coded bits are 0, the word is step 7's sequence, FF 48 ..
 
@@ -37,7 +37,7 @@ order-example-5 = refl
 -- ---- bits all the way
 
 pub input-bits : (rate : ℕ) (block : List ℕ) → Bits (inputOf rate block)
-unfolding inputOf
+unfolding inputOf checkedBlock takenIn
 input-bits rate block =
     cut-bits (infoBits rate + 32) (checked (infoBits rate) (bitAt block)) (checked-bits (infoBits rate) (bitAt block) (bit-lt block))
 
@@ -150,9 +150,9 @@ shuffled-sum3 c d e j =
     ∙ randomize-sum3 (accumulate (interleave c)) (accumulate (interleave d)) (accumulate (interleave e)) j
 
 -- the input bits of the sum, and its coded bits
-pub coded-sum3 : (rate : ℕ) (a b c s : List ℕ) → rate < 3 → ((j : ℕ) → bitAt s j ≡ sum3 (bitAt a j) (bitAt b j) (bitAt c j))
+pub coded-sum3 : (rate : ℕ) (a b c s : List ℕ) → rate < 3 → ((i : ℕ) → i < infoBits rate → bitAt s i ≡ sum3 (bitAt a i) (bitAt b i) (bitAt c i))
     → (j : ℕ) → j < wordBits → codedOf rate s j ≡ sum3 (codedOf rate a j) (codedOf rate b j) (codedOf rate c j)
-unfolding codedOf inputOf
+unfolding codedOf inputOf checkedBlock takenIn
 coded-sum3 rate a b c s h e j l =
     let k : ℕ = infoBits rate in
     let x : ℕ → ℕ = inputOf rate a in
@@ -160,7 +160,7 @@ coded-sum3 rate a b c s h e j l =
     let z : ℕ → ℕ = inputOf rate c in
     encode-same rate (inputOf rate s) (λ i. sum3 (x i) (y i) (z i)) h (λ i u.
     cut-same (k + 32) (checked k (bitAt s)) (λ i. sum3 (checked k (bitAt a) i) (checked k (bitAt b) i) (checked k (bitAt c) i)) (λ i v.
-    checked-same k (bitAt s) (λ i. sum3 (bitAt a i) (bitAt b i) (bitAt c i)) (λ i w. e i) i
+    checked-same k (bitAt s) (λ i. sum3 (bitAt a i) (bitAt b i) (bitAt c i)) e i
     ∙ checked-sum3 k (bitAt a) (bitAt b) (bitAt c) (bit-lt a) (bit-lt b) (bit-lt c) i) i
     ∙ cut-sum3 (k + 32) (checked k (bitAt a)) (checked k (bitAt b)) (checked k (bitAt c)) i) j l
     ∙ encode-plus rate (λ i. bitXor (x i) (y i)) z j
@@ -170,12 +170,12 @@ coded-sum3 rate a b c s h e j l =
 
 -- the three parts of the input bits
 pub input-block : (rate : ℕ) (block : List ℕ) (i : ℕ) → i < infoBits rate → inputOf rate block i ≡ bitAt block i
-unfolding inputOf
+unfolding inputOf checkedBlock takenIn
 input-block rate block i l =
     cut-in (infoBits rate + 32) (checked (infoBits rate) (bitAt block)) i (omega arith) ∙ checked-block (infoBits rate) (bitAt block) i l
 
 pub input-check : (rate : ℕ) (block : List ℕ) (i : ℕ) → i < 32 → inputOf rate block (infoBits rate + i) ≡ checkBit (register (bitAt block) (infoBits rate)) i
-unfolding inputOf
+unfolding inputOf checkedBlock takenIn
 input-check rate block i l =
     let e : infoBits rate + i - infoBits rate ≡ i = omega arith in
     cut-in (infoBits rate + 32) (checked (infoBits rate) (bitAt block)) (infoBits rate + i) (omega arith)
@@ -183,7 +183,7 @@ input-check rate block i l =
     ∙ ap (checkBit (register (bitAt block) (infoBits rate))) e
 
 pub input-end : (rate : ℕ) (block : List ℕ) (i : ℕ) → infoBits rate + 32 ≤ i → inputOf rate block i ≡ 0
-unfolding inputOf
+unfolding inputOf checkedBlock takenIn
 input-end rate block i l = cut-past (infoBits rate + 32) (checked (infoBits rate) (bitAt block)) i l
 
 -- the input bits that a written word gives are those that made it
@@ -192,6 +192,14 @@ unfolding inputIn wordOf codedOf
 input-back rate block h i l =
     decode-same rate (codedIn (wordOf rate block)) (encode rate (inputOf rate block)) h (coded-back (codedOf rate block) (coded-bits rate block)) i l
     ∙ decode-encode rate (inputOf rate block) h i
+
+-- the k bits of the block that is read from a word
+pub block-bit : (rate : ℕ) (word : List ℕ) → rate < 3 → (i : ℕ) → i < infoBits rate → bitAt (blockIn rate word) i ≡ inputIn rate word i
+unfolding blockIn packedBlock
+block-bit rate word h i l =
+    let b : 8 * blockBytes rate ≡ infoBits rate + 2 = block-size rate h in
+    bit-bytes (blockBytes rate) (cut (infoBits rate) (inputIn rate word)) (cut-bits (infoBits rate) (inputIn rate word) (input-in-bits rate word)) i (omega arith)
+    ∙ cut-in (infoBits rate) (inputIn rate word) i l
 
 -- ---- a written word passes each question
 
@@ -222,6 +230,12 @@ passes-15 rate block h =
     (val-same (λ i. x (k + i)) (λ i. r / 2 ^ (32 - 1 - i) % 2) 32 (λ i l. input-back rate block h (k + i) (omega arith) ∙ input-check rate block i l)
     ∙ val-bits r 32 (register-lt (bitAt block) (bit-lt block) k)
     ∙ register-same (bitAt block) x k (λ i l. sym (input-back rate block h i (omega arith) ∙ input-block rate block i l)))
+
+-- and gives its block back: the k bits, and all of it where its spare bits were 0
+pub bits-back : (rate : ℕ) (block : List ℕ) → rate < 3 → SameBits rate (blockIn rate (wordOf rate block)) block
+unfolding inputBits
+bits-back rate block h i l =
+    block-bit rate (wordOf rate block) h i l ∙ input-back rate block h i (omega arith) ∙ input-block rate block i l
 
 pub block-back : (rate : ℕ) (block : List ℕ) → rate < 3 → Packed rate block → blockIn rate (wordOf rate block) ≡ block
 unfolding blockIn packedBlock inputBits
@@ -261,14 +275,7 @@ sound rate word e13 e14 e15 =
       check = eqb-true (val (λ i. inputIn rate word (infoBits rate + i)) 32) (register (inputIn rate word) (infoBits rate)) e15;
     }
 
--- the block that is read
-pub block-bit : (rate : ℕ) (word : List ℕ) → rate < 3 → (i : ℕ) → i < infoBits rate → bitAt (blockIn rate word) i ≡ inputIn rate word i
-unfolding blockIn packedBlock
-block-bit rate word h i l =
-    let b : 8 * blockBytes rate ≡ infoBits rate + 2 = block-size rate h in
-    bit-bytes (blockBytes rate) (cut (infoBits rate) (inputIn rate word)) (cut-bits (infoBits rate) (inputIn rate word) (input-in-bits rate word)) i (omega arith)
-    ∙ cut-in (infoBits rate) (inputIn rate word) i l
-
+-- the block that is read has spare bits of 0
 pub block-packed : (rate : ℕ) (word : List ℕ) → Packed rate (blockIn rate word)
 unfolding blockIn packedBlock
 block-packed rate word =
@@ -333,6 +340,20 @@ word-bit rate block j l = bit-bytes wordBytes (shuffled (codedOf rate block)) (s
 pub coded-written : (rate : ℕ) (block : List ℕ) (x : ℕ) → x < wordBits → codedIn (wordOf rate block) x ≡ encode rate (inputOf rate block) x
 unfolding wordOf codedOf
 coded-written rate block x l = coded-back (codedOf rate block) (coded-bits rate block) x l
+
+-- a word is its block with the check behind it, carried on from step 3
+pub word-carried : (rate : ℕ) (block : List ℕ) → wordOf rate block ≡ carriedOn rate (checkedBlock rate block)
+unfolding wordOf codedOf inputOf carriedOn
+word-carried rate block = refl
+
+-- two packings of the same k bits give one word
+pub word-same : (rate : ℕ) (a b : List ℕ) → rate < 3 → SameBits rate a b → wordOf rate a ≡ wordOf rate b
+unfolding wordOf codedOf inputOf checkedBlock takenIn
+word-same rate a b h e =
+    bytes-same wordBytes (shuffled (codedOf rate a)) (shuffled (codedOf rate b)) (λ j l.
+    shuffled-same (codedOf rate a) (codedOf rate b) (λ x u.
+    encode-same rate (inputOf rate a) (inputOf rate b) h (λ i v.
+    cut-same (infoBits rate + 32) (checkedBlock rate a) (checkedBlock rate b) (λ i w. checked-same (infoBits rate) (bitAt a) (bitAt b) e i) i) x u) j)
 
 -- a list of bytes with the right bits is the word
 pub word-is : (rate : ℕ) (block xs : List ℕ) → length xs ≡ wordBytes → Bytes xs → ((j : ℕ) → j < wordBits → bitAt xs j ≡ shuffled (codedOf rate block) j) → xs ≡ wordOf rate block
