@@ -3,7 +3,8 @@ use mathlib.Core.Path.{_≡_}
 use Prim.Native.Nat.{_-_, _≤_}
 use native.Mathlib.Omega.{arith}
 use borrow.Author.Needs.{needs}
-use Rattle.convolution.specs.Compare.{Same, same-none, same-on}
+use Rattle.convolution.specs.Compare.{Same}
+use Rattle.convolution.proofs.Agreeing.{same-none, same-on}
 use Rattle.convolution.proofs.compare.difference.Statement.{statement}
 use Rattle.convolution.proofs.compare.difference.Tie as tie
 
