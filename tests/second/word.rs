@@ -289,6 +289,15 @@ mod tests {
         assert_eq!([1, 2, 36, 15119].map(coded_place), [221, 862, 396, 199]);
     }
 
+    /// The square term of a place repeats after 36 places, and after no fewer.
+    #[test]
+    fn square_term_has_period_36() {
+        let square = |j: usize| 210 * j * j % WORD_BITS;
+        assert!((0..WORD_BITS).all(|j| square(j) == square(j % 36)));
+        assert!((0..WORD_BITS).all(|j| coded_place(j) == (11 * j + square(j % 36)) % WORD_BITS));
+        assert!((1..36).all(|period| (0..36).any(|j| square(j) != square(j + period))));
+    }
+
     #[test]
     fn check_of_one_bit() {
         assert_eq!(check(&[false]), 0xDFFBBFF7);

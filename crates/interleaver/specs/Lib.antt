@@ -1,3 +1,4 @@
 pub mod Interleaver
+pub mod Squares
 pub mod Rows
 pub mod Spread

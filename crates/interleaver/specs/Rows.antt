@@ -6,7 +6,7 @@ use mathlib.Core.List.{List}
 use mathlib.Core.Logic.{⊎-elim}
 use Prim.Native.Nat.{ℕ, _+_, _*_, _/_, _%_, _^_, _≤_, _<_}
 use native.Mathlib.Omega.{arith}
-use native.Mathlib.Nat.{add-mul, mul-add, mul-comm, mul-left-comm, mul-assoc, add-mod, mod-add-mod, add-mul-mod-self-right}
+use native.Mathlib.Nat.{add-mod, mod-add-mod, add-mul-mod-self-right}
 use native.Mathlib.Numerals.{add-one}
 use lib.Bits.{bitOr, or-shifted}
 use lib.Pow.{pow-mono}
@@ -19,9 +19,7 @@ use Rattle.bits.specs.Table.{both, tab, length-tab, getD-tab, getD-tab-past}
 use Rattle.bits.specs.Pack.{val, val-lt, val-same, Bits, bytesOf, bytes-same}
 use Rattle.sizes.specs.Sizes.{wordBits, wordBytes}
 use Rattle.interleaver.specs.Interleaver.{place, place-lt, interleave, interleave-same}
-
-square : (r c : ℕ) → (72 * r + c) * (72 * r + c) ≡ 5184 * (r * r) + 144 * (r * c) + c * c
-square r c = rw (mul-add (72 * r + c) (72 * r) c, add-mul (72 * r) c (72 * r), add-mul (72 * r) c c) (omega (arith, mul-assoc 72 r (72 * r), mul-left-comm r 72 r, mul-assoc 72 r c, mul-comm c (72 * r)))
+use Rattle.interleaver.specs.Squares.{square}
 
 -- place c of row r
 pub place-row : (r c : ℕ) → place (72 * r + c) ≡ (792 * r % wordBits + place c) % wordBits
@@ -29,7 +27,7 @@ unfolding place
 place-row r c =
     let start : ℕ = 792 * r + (11 * c + 210 * (c * c)) in
     let turns : ℕ = 72 * (r * r) + 2 * (r * c) in
-    let e : 11 * (72 * r + c) + 210 * ((72 * r + c) * (72 * r + c)) ≡ start + turns * wordBits = omega (arith, square r c) in
+    let e : 11 * (72 * r + c) + 210 * ((72 * r + c) * (72 * r + c)) ≡ start + turns * wordBits = omega (arith, square 72 r c) in
     ap (λ (n : ℕ). n % wordBits) e
     ∙ add-mul-mod-self-right start turns wordBits
     ∙ add-mod (792 * r) (11 * c + 210 * (c * c)) wordBits

@@ -12,13 +12,18 @@ ghost use Rattle.interleaver.specs.Interleaver as step;
 ghost use Rattle.interleaver.specs.Interleaver.{place};
 ghost use Rattle.interleaver.specs.Rows.{Ready, bitFrom, wordByte};
 ghost use Rattle.interleaver.specs.Spread.{Spread};
+ghost use Rattle.interleaver.specs.Squares.{Squares};
 
-// The coded bit that output place j takes.
-fn place_at(j: usize) -> usize
-    requires { ⌜ j < wordBits ⌝ }
+mod table;
+
+use table::SQUARES;
+
+// The coded bit that output place j takes; the square term is the table's.
+fn place_at(squares: &[usize], j: usize) -> usize
+    requires { ⌜ Squares (now squares) × (j < wordBits) ⌝ }
     ensures { λ r. ⌜ r ≡ place j ⌝ }
 {
-    (11 * j + 210 * (j * j)) % sizes::WORD_BITS
+    (11 * j + squares[j % 36]) % sizes::WORD_BITS
 }
 
 // The places of the first row of 72; each further row stands 792 places on.
@@ -26,9 +31,10 @@ fn first_row(off: &mut [usize])
     requires { ⌜ length (now off) ≡ 72 ⌝ }
     ensures { λ _. ⌜ now (off .exit) ≡ tab 72 place ⌝ }
 {
+    let squares = SQUARES;
     let mut c = 0;
     while c < 72 {
-        off[c] = place_at(c);
+        off[c] = place_at(&squares, c);
         c += 1;
     }
 }

@@ -1,26 +1,30 @@
--- `first_row` meets its contract: every place below c is filled.
-use mathlib.Core.Path.{_≡_}
+-- `first_row` meets its contract: every place below c is filled, and the table's rule is a computed test.
+use mathlib.Core.Path.{_≡_, refl}
 use Prim.Native.Nat.{ℕ, _-_, _≤_, _<_}
 use native.Mathlib.Omega.{arith}
 use lib.ListN.{length, getD}
 use borrow.Author.Count.{below-none}
 use Rattle.bits.specs.Table.{fill, tab-made}
 use Rattle.interleaver.specs.Interleaver.{place}
+use Rattle.interleaver.specs.Squares.{Squares, table-right}
 use borrow.Author.Needs.{needs}
 use Rattle.interleaver.proofs.first_row.Statement.{statement}
 use Rattle.interleaver.proofs.first_row.Tie as tie
 
 abbrev Inv-loop : tie.InvT-loop
-Inv-loop off₀ c₀ off c = (c ≤ 72) × (length off ≡ 72) × ((k : ℕ) → k < c → getD off k 0 ≡ place k)
+Inv-loop off₀ squares c₀ off c = (c ≤ 72) × Squares squares × (length off ≡ 72) × ((k : ℕ) → k < c → getD off k 0 ≡ place k)
 
 abbrev μ-loop : tie.MeasureT-loop
-μ-loop off₀ c₀ off c = 72 - c
+μ-loop off₀ squares c₀ off c = 72 - c
 
 loop-holds : tie.Need-loop-holds Inv-loop μ-loop
-loop-holds c = (search needs, search needs, below-none _)
+loop-holds c = (search needs, table-right _ refl tt, search needs, below-none _)
+
+slice-aggregate-place-at : tie.Need-slice-aggregate-place-at Inv-loop μ-loop
+slice-aggregate-place-at c = search needs
 
 place-at-requires : tie.Need-place-at-requires Inv-loop μ-loop
-place-at-requires c κs = search needs
+place-at-requires c κs = (c .before .before .loop .inv .1, omega arith)
 
 mul-off : tie.Need-mul-off Inv-loop μ-loop
 mul-off c = search needs
@@ -36,8 +40,8 @@ loop-less c = search needs
 
 loop-again : tie.Need-loop-again Inv-loop μ-loop
 loop-again c =
-    let l = c .before .before .loop in
-    (search needs, search needs, fill (l .off) place (l .c) (c .place-at .result) (search needs) (c .place-at .ensures) (l .inv .2))
+    let l = c .before .before .before .loop in
+    (search needs, l .inv .1, search needs, fill (l .off) place (l .c) (c .place-at .result) (search needs) (c .place-at .ensures) (l .inv .3))
 
 same-length : tie.Need-same-length Inv-loop μ-loop
 same-length c = search needs
@@ -45,7 +49,7 @@ same-length c = search needs
 returns : tie.Need-returns Inv-loop μ-loop
 returns c =
     let l = c .before .loop in
-    tab-made 72 place (l .off) (l .inv .1) (λ k h. l .inv .2 k (omega arith))
+    tab-made 72 place (l .off) (l .inv .2) (λ k h. l .inv .3 k (omega arith))
 
 pub first-row-spec : {M : Type 1} → statement M
 first-row-spec =
@@ -54,6 +58,7 @@ first-row-spec =
     Inv-loop
     μ-loop
     loop-holds
+    slice-aggregate-place-at
     place-at-requires
     mul-off
     slice-write-off

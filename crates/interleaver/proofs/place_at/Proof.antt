@@ -1,31 +1,29 @@
--- `place_at` meets its contract: it is the formula itself, and j * j is small enough.
-use Prim.Native.Nat.{ℕ, _*_, _≤_, _<_}
+-- `place_at` meets its contract by the law `place-squares`: the table's constants are the formula's.
 use native.Mathlib.Omega.{arith}
-use native.Mathlib.Nat.{mul-le-mul}
-use Rattle.interleaver.specs.Interleaver.{place}
+use Rattle.interleaver.specs.Squares.{constants, place-squares}
 use borrow.Author.Needs.{needs}
-use Rattle.sizes.specs.Sizes.{wordBits}
 use Rattle.interleaver.proofs.place_at.Statement.{statement}
 use Rattle.interleaver.proofs.place_at.Tie as tie
-
-bound : (j : ℕ) → j < wordBits → j * j ≤ wordBits * wordBits
-bound j h = let l : j ≤ wordBits = omega arith in mul-le-mul l l
 
 mul-result : tie.Need-mul-result
 mul-result c = search needs
 
 mul-result-2 : tie.Need-mul-result-2
-mul-result-2 c = omega (arith, bound (c .args .j) (c .pre))
+mul-result-2 c = search needs
 
-mul-result-3 : tie.Need-mul-result-3
-mul-result-3 c = omega (arith, bound (c .args .j) (c .pre))
+shared-slice-read-result : tie.Need-shared-slice-read-result
+shared-slice-read-result c = omega (arith, c .before .pre .0 .size)
 
 add-result : tie.Need-add-result
-add-result c = omega (arith, bound (c .args .j) (c .pre))
+add-result c =
+    let s = c .before in
+    omega (arith, s .pre .1, constants (s .args .squares .now) (s .pre .0) (s .args .j))
 
 returns : tie.Need-returns
-unfolding place
-returns c = search needs
+returns c =
+    let s = c .before in
+    place-squares (s .args .squares .now) (s .pre .0) (s .args .j)
 
 pub place-at-spec : {M : Type 1} → statement M
-place-at-spec = tie.close (tie.spec mul-result mul-result-2 mul-result-3 add-result returns)
+place-at-spec =
+    tie.close (tie.spec mul-result mul-result-2 shared-slice-read-result add-result returns)
