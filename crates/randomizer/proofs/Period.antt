@@ -1,5 +1,5 @@
 -- The sequence comes again after 255 bits, and so do its bytes after 255 bytes: a table of them is enough.
-use mathlib.Core.Path.{_≡_, refl, sym, ap, ap₂, _∙_}
+use mathlib.Core.Path.{_≡_, refl, sym, ap, _∙_}
 use mathlib.Core.Bool.{Bool, true}
 use mathlib.Core.List.{List, [], _∷_}
 use mathlib.Core.Logic.{⊎-elim}
@@ -12,7 +12,8 @@ use lib.ListN.{length, getD, set, length-set}
 use lib.Seq.{getD-set-same, getD-set-other}
 use Rattle.bits.specs.Choice.{lt-or-le, eq-or-ne}
 use Rattle.bits.specs.Table.{both, both-true}
-use Rattle.bits.specs.Pack.{Bits, val, bitAt, bytesOf, bit-lt, val-same, val-bits, bytes-by-byte}
+use Rattle.bits.specs.Pack.{Bits, val, bitAt, bytesOf, bit-lt, val-same, bytes-by-byte}
+use Rattle.bits.specs.Parts.{byte-val}
 use Rattle.randomizer.specs.Randomizer.{next, window, sequence, randomize, window-bit, sequence-bits}
 use Rattle.randomizer.specs.Bytes.{Added}
 
@@ -56,21 +57,12 @@ val-plus f g hf hg (suc n) =
     ap (λ (v : ℕ). v * 2 + bitXor (f n) (g n)) (val-plus f g hf hg n)
     ∙ sym (xor-block 1 (val f n) (val g n) (f n) (g n) (hf n) (hg n))
 
-byte-of : (xs : List ℕ) (k : ℕ) → getD xs k 0 < 256 → val (λ t. bitAt xs (8 * k + t)) 8 ≡ getD xs k 0
-unfolding bitAt
-byte-of xs k h =
-    val-same (λ t. bitAt xs (8 * k + t)) (λ t. getD xs k 0 / 2 ^ (8 - 1 - t) % 2) 8 (λ t l.
-    let place : (8 * k + t) / 8 ≡ k = omega arith in
-    let low : 7 - (8 * k + t) % 8 ≡ 8 - 1 - t = omega arith in
-    ap₂ (λ (p q : ℕ). getD xs p 0 / 2 ^ q % 2) place low)
-    ∙ val-bits (getD xs k 0) 8 h
-
 randomize-byte : (xs : List ℕ) (k : ℕ) → getD xs k 0 < 256
     → val (λ t. randomize (bitAt xs) (8 * k + t)) 8 ≡ bitXor (getD xs k 0) (sequenceByte k)
 unfolding randomize sequenceByte
 randomize-byte xs k h =
     val-plus (λ t. bitAt xs (8 * k + t)) (λ t. sequence (8 * k + t)) (λ t. bit-lt xs (8 * k + t)) (λ t. sequence-bits (8 * k + t)) 8
-    ∙ ap (λ (v : ℕ). bitXor v (sequenceByte k)) (byte-of xs k h)
+    ∙ ap (λ (v : ℕ). bitXor v (sequenceByte k)) (byte-val xs k h)
 
 -- a byte of the answer depends on that byte alone
 byte-alone : (xs ys : List ℕ) (k : ℕ) → getD ys k 0 ≡ getD xs k 0
