@@ -132,8 +132,8 @@ enum mahyrei_number {
     /* run_read: the frame marker 034776C7272895B0 does not stand before a frame. The place is the
      * frame. */
     MAHYREI_BAD_FRAME_MARKER = 16,
-    /* A block's worth of fill or more. Never answered: C is the least number of blocks. */
-    MAHYREI_BAD_FILL_LENGTH = 17,
+    /* There is no 17, and there will be none: the header fixes the number of blocks, so that fewer
+     * than k bits are ever fill. */
     /* run_read: a fill bit after the last frame is set. */
     MAHYREI_BAD_FILL = 18
 };

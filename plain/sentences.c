@@ -1,7 +1,7 @@
 #include "mahyrei_plain.h"
 
 /* One line a number: the same as in README's table but without its marks, and as in the man page.
- */
+ * A number that no call gives has none. */
 static const char *const SENTENCES[] = {
     [MAHYREI_ACCEPTED] = "All is well: the result has been written, every byte of it.",
     [MAHYREI_BAD_HEADER] = "The header is not eight bytes long, or one of its last 16 bits is set.",
@@ -31,8 +31,6 @@ static const char *const SENTENCES[] = {
                           "word_read.",
     [MAHYREI_BAD_FRAME_MARKER] = "The frame marker does not stand where a frame should begin; the "
                                  "place is that frame.",
-    [MAHYREI_BAD_FILL_LENGTH] = "A whole block or more would be fill; no call ever answers this, "
-                                "since the header fixes the number of blocks.",
     [MAHYREI_BAD_FILL] = "A fill bit behind the last frame is set; the run may hold more than the "
                          "header says.",
 };

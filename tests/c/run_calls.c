@@ -448,6 +448,37 @@ static void test_stream(const struct run *run) {
     CHECK(memcmp(lent_frames.slice, frames, frame_bytes(run)) == 0);
 }
 
+/* The fewest and the most fill bits that a header can imply: none, and k - 2, since both k and the
+ * stream are even. There are never k of them, so nothing is asked about their number. */
+static const struct {
+    struct run run;
+    size_t blocks, fill;
+} FILLS[] = {
+    {{1, 4, 1, 1, 63, 6, 53}, 4, 0},      {{1, 4, 1, 1, 134, 6, 53}, 8, 0},
+    {{0, 4, 1, 1, 618, 6, 1}, 2, 5004},   {{1, 4, 1, 1, 933, 6, 1}, 2, 7524},
+    {{2, 4, 1, 1, 1248, 6, 1}, 2, 10044}, {{2, 4, 1, 1, 1, 6, 1}, 1, 9974},
+};
+
+static void test_fills(void) {
+    for (size_t i = 0; i < sizeof FILLS / sizeof FILLS[0]; i++) {
+        const struct run *run = &FILLS[i].run;
+        const size_t end = FILLS[i].blocks * block_bits(run);
+        CHECK(block_count(run) == FILLS[i].blocks);
+        CHECK(end - run->A * (64 + 8 * run->F) == FILLS[i].fill);
+        fill_random(frames, frame_bytes(run));
+        write_run(run, frames, slots);
+        CHECK(read_back(run, slots, frames));
+        make_words(run, end - 1); /* the last fill bit, or else the last frame bit */
+        CHECK(read_words(run) == (FILLS[i].fill > 0 ? MAHYREI_BAD_FILL : MAHYREI_ACCEPTED));
+        if (FILLS[i].fill > 0) {
+            make_words(run, end - FILLS[i].fill);
+            CHECK(read_words(run) == MAHYREI_BAD_FILL);
+            make_words(run, end - FILLS[i].fill - 1);
+            CHECK(read_words(run) == MAHYREI_ACCEPTED);
+        }
+    }
+}
+
 /* Both calls with a header that fails a question, whatever the slices. */
 static void test_refused_header(const struct run *wrong, unsigned number) {
     for (int write = 0; write < 2; write++) {
@@ -586,6 +617,7 @@ int main(void) {
     test_example_sizes();
     test_symbol_example();
     test_words();
+    test_fills();
     test_refused_headers();
     test_refused_markers();
     for (size_t i = 0; i < RUN_COUNT; i++) {

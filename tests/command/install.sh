@@ -1,10 +1,25 @@
 # What is installed, the man page, and the demo.
 # shellcheck shell=bash disable=SC2034,SC2154
 
+# README, the man page, the C header and the sentences have the same numbers, and none has a 17.
+once_numbers() {
+    local number sentences=''
+    same 'numbers of README' "$(seq -s ' ' 0 16) 18" "$(numbers | xargs)"
+    same 'numbers of the man page' "$(numbers | xargs)" \
+        "$(sed -n 's/^\.IP \([0-9]*\) 4$/\1/p' "$root/host/mahyrei.1" | xargs)"
+    same 'numbers of the header' "$(numbers | xargs)" \
+        "$(gcc -E -P "$root/include/mahyrei.h" | tr -d '\n' | sed 's/.*enum mahyrei_number {\([^}]*\)}.*/\1/' |
+            grep -Eo '= *[0-9]+' | tr -d '= ' | xargs)"
+    for ((number = 0; number < 256; number++)); do
+        ! "$mahyrei" explain "$number" >"$said/out" 2>&1 || sentences+=" $number"
+    done
+    same 'numbers that are explained' "$(numbers | xargs)" "${sentences# }"
+}
+
 # The man page has README's sentences, all subcommands and all options.
 once_manual() {
-    local text
-    for ((number = 0; number <= 18; number++)); do
+    local text number
+    for number in $(numbers); do
         text=$(awk -v from=".IP $number 4" '$0 == from { on = 1; next } /^\./ { on = 0 }
             on { printf "%s%s", gap, $0; gap = " " }' "$root/host/mahyrei.1")
         same "the man page on number $number" "$(sentence "$number")" "$text"

@@ -129,13 +129,14 @@ test_header() {
 }
 
 test_explain() {
-    for ((number = 0; number <= 18; number++)); do
+    local number
+    for number in $(numbers); do
         run 0 explain "$number"
         same "what number $number means" "$(sentence "$number")" "$(out)"
     done
     run 0 explain $((7000 * 256 + 10))
     same 'an answer as the calls give it' "number 10, place 7000: $(sentence 10)" "$(out)"
-    for number in 19 255 x -1 '' 18446744073709551616; do
+    for number in 17 273 19 255 x -1 '' 18446744073709551616; do # 273 is 17 at place 1
         run 2 explain -- "$number"
         has "no number $number" 'no call gives this number' "$err"
     done

@@ -142,27 +142,26 @@ impl Way {
     }
 }
 
-/// What each number says, from 0 on.
-const NUMBERS: [&str; 19] = [
-    "accepted",
-    "header",
-    "rate",
-    "pulse order",
-    "rows and step",
-    "whole codeblocks",
-    "frame size or count",
-    "marker",
-    "length",
-    "spare bits",
-    "pulses",
-    "marker symbols",
-    "unhit places",
-    "coded bits",
-    "termination",
-    "check",
-    "frame marker",
-    "a block of fill",
-    "fill bits",
+/// What each number says. No call answers any other.
+const NUMBERS: [(u8, &str); 18] = [
+    (0, "accepted"),
+    (1, "header"),
+    (2, "rate"),
+    (3, "pulse order"),
+    (4, "rows and step"),
+    (5, "whole codeblocks"),
+    (6, "frame size or count"),
+    (7, "marker"),
+    (8, "length"),
+    (9, "spare bits"),
+    (10, "pulses"),
+    (11, "marker symbols"),
+    (12, "unhit places"),
+    (13, "coded bits"),
+    (14, "termination"),
+    (15, "check"),
+    (16, "frame marker"),
+    (18, "fill bits"),
 ];
 
 /// One call to be put to the library, with what the second implementation says of it.
@@ -294,7 +293,7 @@ impl Tally {
         println!(" {:>12}", "all");
         let any = |_| true;
         self.row(calls, "cases", |of| of.cases, any);
-        for (number, name) in (0..).zip(NUMBERS) {
+        for (number, name) in NUMBERS {
             let count = |of: &Counts| of.answers[usize::from(number)];
             let can = |call: Call| call.numbers().contains(&number);
             self.row(calls, &format!("answer {number:>2} {name}"), count, can);

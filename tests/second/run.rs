@@ -382,7 +382,7 @@ fn stream_of_symbols(run: &Run, symbols: &[u8]) -> Result<Vec<bool>, Refusal> {
     Ok(stream)
 }
 
-/// Questions 16 to 18, and the frames.
+/// Questions 16 and 18, and the frames.
 fn frames_of_stream(run: &Run, stream: &[bool]) -> Result<Vec<u8>, Refusal> {
     let marker = word::unpack(&FRAME_MARKER.to_be_bytes());
     let (marked, fill) = stream.split_at(run.frame_stream_bits());
@@ -394,9 +394,7 @@ fn frames_of_stream(run: &Run, stream: &[bool]) -> Result<Vec<u8>, Refusal> {
         }
         frames.extend(word::pack(frame));
     }
-    if fill.len() >= run.block_bits() {
-        return refuse(17, 0);
-    }
+    assert!(fill.len() < run.block_bits()); // whatever was read: the header decides it
     if fill.contains(&true) {
         return refuse(18, 0);
     }
@@ -647,6 +645,29 @@ mod tests {
         };
         assert_eq!(run(header).blocks(), 4);
         assert_eq!(run(header).frame_stream_bits(), 4 * 7526);
+    }
+
+    /// There are always fewer than k fill bits, and the most are k - 2, both being even.
+    #[test]
+    fn fewer_fill_bits_than_a_block() {
+        let (mut least, mut most) = ([usize::MAX; 3], [0; 3]);
+        for rate in 0..3 {
+            for frames in 1..=64 {
+                for frame_bytes in 1..=2048 {
+                    let run = run(Header {
+                        rate,
+                        frames,
+                        frame_bytes,
+                        ..SMALL
+                    });
+                    let fill = run.blocks() * run.block_bits() - run.frame_stream_bits();
+                    assert!(fill < run.block_bits());
+                    least[rate as usize] = fill.min(least[rate as usize]);
+                    most[rate as usize] = fill.max(most[rate as usize]);
+                }
+            }
+        }
+        assert_eq!((least, most), ([2, 0, 2], [5004, 7524, 10044]));
     }
 
     #[test]

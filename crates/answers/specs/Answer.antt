@@ -46,10 +46,11 @@ abbrev pub movedTo : ℕ → Answer → Answer
 movedTo piece Done = Done
 movedTo piece (No number place) = No number piece
 
--- an answer whose code fits 64 bits
+-- an answer that may go to C: its code fits 64 bits, and its number is one of the list, which has no 17
 pub record Fits (a : Answer) : Type 0 where
   pub number : numberOf a < 256
   pub place : placeOf a < 2 ^ 56
+  pub listed : numberOf a ≡ 17 → ⊥
 
 -- ---- laws
 
@@ -65,6 +66,11 @@ then-done (No number place) b e = absurd (no-done e)
 pub then-then : (a b c : Answer) → then (then a b) c ≡ then a (then b c)
 then-then Done b c = refl
 then-then (No number place) b c = refl
+
+-- a question that is asked only where all before it was answered yes
+pub then-when : (a b c : Answer) → (a ≡ Done → b ≡ c) → then a b ≡ then a c
+then-when Done b c h = h refl
+then-when (No number place) b c h = refl
 
 pub ask-done : (t : Bool) (number place : ℕ) → ask t number place ≡ Done → t ≡ true
 ask-done true number place e = refl
@@ -87,11 +93,11 @@ number-no a n e = n (ap numberOf e)
 -- ---- which answers fit
 
 pub fits-done : Fits Done
-fits-done = record { number = omega arith; place = omega arith }
+fits-done = record { number = omega arith; place = omega arith; listed = λ e. omega arith }
 
-pub fits-ask : (t : Bool) (number place : ℕ) → number < 256 → place < 2 ^ 56 → Fits (ask t number place)
-fits-ask true number place a b = fits-done
-fits-ask false number place a b = record { number = a; place = b }
+pub fits-ask : (t : Bool) (number place : ℕ) → number < 256 → place < 2 ^ 56 → (number ≡ 17 → ⊥) → Fits (ask t number place)
+fits-ask true number place a b c = fits-done
+fits-ask false number place a b c = record { number = a; place = b; listed = c }
 
 pub fits-then : (a b : Answer) → Fits a → (a ≡ Done → Fits b) → Fits (then a b)
 fits-then Done b s f = f refl
@@ -99,7 +105,7 @@ fits-then (No number place) b s f = s
 
 pub fits-moved : (piece : ℕ) (a : Answer) → Fits a → piece < 2 ^ 56 → Fits (movedTo piece a)
 fits-moved piece Done s h = s
-fits-moved piece (No number place) s h = record { number = s .number; place = h }
+fits-moved piece (No number place) s h = record { number = s .number; place = h; listed = s .listed }
 
 -- place × 256 + number, so that a place of 3 with number 13 is 781
 pub code-example : codeOf (No 13 3) ≡ 781

@@ -57,4 +57,4 @@ unfolding inOrder firstRefused
 fits-order n say few fit =
     let k : ℕ = firstRefused n say in
     let b : k ≤ n = up-to-le (λ j. isDone (say j)) n in
-    fits-ask (eqb k n) (numberOf (say k)) k (fit k .number) (omega arith)
+    fits-ask (eqb k n) (numberOf (say k)) k (fit k .number) (omega arith) (fit k .listed)

@@ -136,7 +136,7 @@ slots-fit p b fine =
     let x : firstBadGroup p b ≤ n = up-to-le _ n in
     let y : firstBadMark p b ≤ n = up-to-le _ n in
     let z : firstBadRest p b ≤ n = up-to-le _ n in
-    fits-then (ask (spareEmpty p b) 9 0) _ (fits-ask (spareEmpty p b) 9 0 (omega arith) (omega arith))
-    (λ e. fits-then (ask (eqb (firstBadGroup p b) n) 10 (firstBadGroup p b)) _ (fits-ask (eqb (firstBadGroup p b) n) 10 (firstBadGroup p b) (omega arith) (omega arith))
-    (λ f. fits-then (ask (eqb (firstBadMark p b) n) 11 (firstBadMark p b)) _ (fits-ask (eqb (firstBadMark p b) n) 11 (firstBadMark p b) (omega arith) (omega arith))
-    (λ g. fits-ask (eqb (firstBadRest p b) n) 12 (firstBadRest p b) (omega arith) (omega arith))))
+    fits-then (ask (spareEmpty p b) 9 0) _ (fits-ask (spareEmpty p b) 9 0 (omega arith) (omega arith) (λ z. omega arith))
+    (λ e. fits-then (ask (eqb (firstBadGroup p b) n) 10 (firstBadGroup p b)) _ (fits-ask (eqb (firstBadGroup p b) n) 10 (firstBadGroup p b) (omega arith) (omega arith) (λ z. omega arith))
+    (λ f. fits-then (ask (eqb (firstBadMark p b) n) 11 (firstBadMark p b)) _ (fits-ask (eqb (firstBadMark p b) n) 11 (firstBadMark p b) (omega arith) (omega arith) (λ z. omega arith))
+    (λ g. fits-ask (eqb (firstBadRest p b) n) 12 (firstBadRest p b) (omega arith) (omega arith) (λ z. omega arith))))

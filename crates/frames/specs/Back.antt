@@ -35,8 +35,8 @@ frames-fit size count end stream few =
     let first : ℕ = firstUnmarked size count stream in
     let x : first ≤ count = up-to-le _ count in
     fits-then (ask (eqb first count) 16 first) (ask (fillZero size count end stream) 18 0)
-    (fits-ask (eqb first count) 16 first (omega arith) (omega arith))
-    (λ e. fits-ask (fillZero size count end stream) 18 0 (omega arith) (omega arith))
+    (fits-ask (eqb first count) 16 first (omega arith) (omega arith) (λ z. omega arith))
+    (λ e. fits-ask (fillZero size count end stream) 18 0 (omega arith) (omega arith) (λ z. omega arith))
 
 pub frames-are : (size count : ℕ) (st : ℕ → ℕ) → Bits st → (length (framesIn size count st) ≡ count * size) × Bytes (framesIn size count st)
 unfolding framesIn

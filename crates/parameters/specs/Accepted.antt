@@ -144,4 +144,4 @@ pub run-fits : (header marker : List ℕ) → Fits (runSays header marker)
 unfolding runSays
 run-fits header marker =
     fits-then (headerSays header) (ask (marksGood (fieldsOf header) marker) 7 0) (header-fits header)
-    (λ e. fits-ask (marksGood (fieldsOf header) marker) 7 0 (omega arith) (omega arith))
+    (λ e. fits-ask (marksGood (fieldsOf header) marker) 7 0 (omega arith) (omega arith) (λ z. omega arith))

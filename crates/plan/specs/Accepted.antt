@@ -104,7 +104,7 @@ pub call-fits : (header marker : List ℕ) (n s : ℕ) → Fits (callSays header
 unfolding callSays
 call-fits header marker n s =
     let t : Bool = lengthsRight (fieldsOf header) (length marker) n s in
-    fits-then (runSays header marker) (ask t 8 0) (run-fits header marker) (λ e. fits-ask t 8 0 (omega arith) (omega arith))
+    fits-then (runSays header marker) (ask t 8 0) (run-fits header marker) (λ e. fits-ask t 8 0 (omega arith) (omega arith) (λ z. omega arith))
 
 -- the same of the parameters that the check hands on, as the writer and the reader ask it
 pub record Entered (q : Parameters) (framesLength slotsLength : ℕ) : Type 0 where

@@ -6,8 +6,7 @@
 -- what is not refused by one of these numbers is accepted. That every call ends is part of every proof.
 use mathlib.Core.Path.{_≡_, refl, ap, ap₂}
 use mathlib.Core.List.{List}
-use Prim.Native.Nat.{ℕ, _+_, _-_, _*_, _<_}
-use native.Mathlib.Omega.{arith}
+use Prim.Native.Nat.{ℕ, _+_, _*_}
 use lib.Dec.{ltb, eqb}
 use lib.ListN.{length}
 use Rattle.bits.specs.Table.{both}
@@ -15,14 +14,12 @@ use Rattle.answers.specs.Answer.{codeOf, ask, then, after}
 use Rattle.answers.specs.InOrder.{inOrder}
 use Rattle.answers.specs.declared.Answer.{Answer}
 use Rattle.answers.specs.declared.Answer.the-variants.{Done, No}
-use Rattle.sizes.specs.Rate.{infoBits, blockBytes, info-pos}
+use Rattle.sizes.specs.Rate.{infoBits, blockBytes}
 use Rattle.word.specs.Word as words
 use Rattle.word.specs.Word.Answers as word-laws
 use Rattle.header.specs.Header.{fieldsOf}
 use Rattle.questions.specs.Questions.{question1, question2, question3, question4, question5, question6, question7}
-use Rattle.quantities.specs.Quantities.{blockCount, markedBits}
-use Rattle.quantities.specs.Valid.{Valid}
-use Rattle.quantities.specs.Bounds.{fill-few}
+use Rattle.quantities.specs.Quantities.{blockCount}
 use Rattle.parameters.specs.Marks.{marksGood}
 use Rattle.header.specs.declared.Fields.{Fields}
 use Rattle.plan.specs.declared.Plan.{Plan}
@@ -120,8 +117,3 @@ refused-code number place = refl
 
 pub accepted-code : codeOf Done ≡ 0
 accepted-code = refl
-
--- ---- question 17, fewer than k fill bits, can be answered no by no header: it is not asked
-
-pub fill-below-k : (f : Fields) → Valid f → blockCount f * infoBits (f .rate) - markedBits f < infoBits (f .rate)
-fill-below-k f v = omega (arith, fill-few f v, info-pos (f .rate))

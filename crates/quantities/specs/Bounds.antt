@@ -5,7 +5,7 @@ use native.Mathlib.Omega.{arith}
 use native.Mathlib.Nat.{mul-le-mul, mul-le-mul-left, mul-le-mul-right, mul-assoc, div-mul-le-self, lt-div-mul-add, lt-of-mul-lt-mul-right, div-add-mod', mul-add-mod-self-right}
 use Rattle.sizes.specs.Rate.{infoBits, by-rate}
 use Rattle.sizes.specs.Sizes.{wordBits, wordBytes, span}
-use Rattle.quantities.specs.Quantities.{symbolsPerWord, markedBits, blockCount, spread, sequenceLength, lineCount, symbolCount, slotCount, slotBytes, frameBytes}
+use Rattle.quantities.specs.Quantities.{symbolsPerWord, markedBits, blockCount, fillBits, spread, sequenceLength, lineCount, symbolCount, slotCount, slotBytes, frameBytes}
 use Rattle.quantities.specs.Valid.{Valid}
 use Rattle.quantities.specs.Shape.{word-symbols, symbols-least, symbols-most, group-most, spread-most, spread-steps}
 use Rattle.header.specs.declared.Fields.{Fields}
@@ -59,7 +59,7 @@ module _ (f : Fields) (v : Valid f) where
   unfolding markedBits
   marked-most = let one : span (f .size) ≤ 16448 = let s = v .size-most in omega arith in mul-le-mul (v .frames-most) one
 
-  -- C blocks hold T bits, and one less do not: fewer than k bits are fill (question 17)
+  -- C blocks hold T bits, and one less do not: fewer than k bits are fill
   pub blocks-hold : markedBits f ≤ blockCount f * infoBits (f .rate)
   unfolding blockCount
   blocks-hold = cuts-hold (markedBits f) (infoBits (f .rate)) info-some
@@ -79,11 +79,16 @@ module _ (f : Fields) (v : Valid f) where
       by zero h = absurd (let l = marked-least in omega arith)
       by (suc c) h = omega arith
 
-  pub fill-few : blockCount f * infoBits (f .rate) < markedBits f + infoBits (f .rate)
+  pub fill-sum : markedBits f + fillBits f ≡ blockCount f * infoBits (f .rate)
+  unfolding fillBits
+  fill-sum = let h = blocks-hold in omega arith
+
+  pub fill-few : fillBits f < infoBits (f .rate)
   fill-few =
       let a : (blockCount f - 1 + 1) * infoBits (f .rate) < markedBits f + infoBits (f .rate) = let n = blocks-needed in omega arith in
       let e : blockCount f - 1 + 1 ≡ blockCount f = let l = blocks-least in omega arith in
-      rw e at a
+      let b : blockCount f * infoBits (f .rate) < markedBits f + infoBits (f .rate) = rw e at a in
+      let s = fill-sum in omega arith
 
   pub blocks-most : blockCount f ≤ 211
   blocks-most =

@@ -20,6 +20,10 @@ markedBits f = f .frames * span (f .size)
 unfoldable pub blockCount : Fields → ℕ
 blockCount f = (markedBits f + (infoBits (f .rate) - 1)) / infoBits (f .rate)
 
+-- the fill bits behind the marked frames in these blocks (step 1)
+unfoldable pub fillBits : Fields → ℕ
+fillBits f = blockCount f * infoBits (f .rate) - markedBits f
+
 -- N (N - 1) B, the places of step 9 that are not hit
 unfoldable pub spread : Fields → ℕ
 spread f = f .rows * (f .rows - 1) * f .step

@@ -130,17 +130,17 @@ good-made header b e = let g = header-good header e in made-read header (g .long
 fields-fit : (f : Fields) → Fits (fieldsSay f)
 unfolding fieldsSay
 fields-fit f =
-    fits-then (ask (question2 f) 2 0) _ (fits-ask (question2 f) 2 0 (omega arith) (omega arith))
-    (λ a. fits-then (ask (question3 f) 3 0) _ (fits-ask (question3 f) 3 0 (omega arith) (omega arith))
-    (λ b. fits-then (ask (question4 f) 4 0) _ (fits-ask (question4 f) 4 0 (omega arith) (omega arith))
-    (λ c. fits-then (ask (question5 f) 5 0) _ (fits-ask (question5 f) 5 0 (omega arith) (omega arith))
-    (λ d. fits-then (ask (question6 f) 6 0) (ask (question7 f) 7 0) (fits-ask (question6 f) 6 0 (omega arith) (omega arith))
-    (λ e. fits-ask (question7 f) 7 0 (omega arith) (omega arith))))))
+    fits-then (ask (question2 f) 2 0) _ (fits-ask (question2 f) 2 0 (omega arith) (omega arith) (λ z. omega arith))
+    (λ a. fits-then (ask (question3 f) 3 0) _ (fits-ask (question3 f) 3 0 (omega arith) (omega arith) (λ z. omega arith))
+    (λ b. fits-then (ask (question4 f) 4 0) _ (fits-ask (question4 f) 4 0 (omega arith) (omega arith) (λ z. omega arith))
+    (λ c. fits-then (ask (question5 f) 5 0) _ (fits-ask (question5 f) 5 0 (omega arith) (omega arith) (λ z. omega arith))
+    (λ d. fits-then (ask (question6 f) 6 0) (ask (question7 f) 7 0) (fits-ask (question6 f) 6 0 (omega arith) (omega arith) (λ z. omega arith))
+    (λ e. fits-ask (question7 f) 7 0 (omega arith) (omega arith) (λ z. omega arith))))))
 
 pub header-fits : (header : List ℕ) → Fits (headerSays header)
 unfolding headerSays
 header-fits header =
-    fits-then (ask (question1 header) 1 0) (fieldsSay (fieldsOf header)) (fits-ask (question1 header) 1 0 (omega arith) (omega arith)) (λ e. fields-fit (fieldsOf header))
+    fits-then (ask (question1 header) 1 0) (fieldsSay (fieldsOf header)) (fits-ask (question1 header) 1 0 (omega arith) (omega arith) (λ z. omega arith)) (λ e. fields-fit (fieldsOf header))
 
 -- ---- question 5
 

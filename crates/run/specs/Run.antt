@@ -55,11 +55,11 @@ wordSays f word j = wordReads (f .rate) (word j) (blockBytes (f .rate))
 unfoldable pub wordsSay : Fields → (ℕ → List ℕ) → Answer
 wordsSay f word = inOrder (blockCount f) (wordSays f word)
 
--- 16 to 18, of the stream that the words hold
+-- 16 and 18, of the stream that the words hold
 unfoldable pub streamSays : Fields → (ℕ → List ℕ) → Answer
 streamSays f word = framesSay (f .size) (f .frames) (blockCount f * infoBits (f .rate)) (streamIn f word)
 
--- the reader, of slots of the right length: 9 to 12, then 13 to 15, then 16 to 18
+-- the reader, of slots of the right length: 9 to 12, then 13 to 15, then 16 and 18
 unfoldable pub bufferSays : Fields → Plan → List ℕ → Answer
 bufferSays f p slots = then (slotsSay p slots) (then (wordsSay f (wordOut p slots)) (streamSays f (wordOut p slots)))
 

@@ -199,10 +199,10 @@ read-accepted rate word n e =
 pub write-fits : (rate : ℕ) (block : List ℕ) (n : ℕ) → Fits (writeSays rate block n)
 unfolding writeSays
 write-fits rate block n =
-    fits-then (ask (ltb rate 3) 2 0) _ (fits-ask (ltb rate 3) 2 0 (omega arith) (omega arith))
+    fits-then (ask (ltb rate 3) 2 0) _ (fits-ask (ltb rate 3) 2 0 (omega arith) (omega arith) (λ z. omega arith))
     (λ e. fits-then (ask (both (eqb (length block) (blockBytes rate)) (eqb n wordBytes)) 8 0) (ask (blockSpareZero rate block) 9 0)
-    (fits-ask (both (eqb (length block) (blockBytes rate)) (eqb n wordBytes)) 8 0 (omega arith) (omega arith))
-    (λ f. fits-ask (blockSpareZero rate block) 9 0 (omega arith) (omega arith)))
+    (fits-ask (both (eqb (length block) (blockBytes rate)) (eqb n wordBytes)) 8 0 (omega arith) (omega arith) (λ z. omega arith))
+    (λ f. fits-ask (blockSpareZero rate block) 9 0 (omega arith) (omega arith) (λ z. omega arith)))
 
 pub read-fits : (rate : ℕ) (word : List ℕ) (n : ℕ) → Fits (readSays rate word n)
 unfolding readSays judged firstWrong
@@ -210,12 +210,12 @@ read-fits rate word n =
     let x : ℕ → ℕ = inputIn rate word in
     let at : ℕ = firstWrong rate (codedIn word) x in
     let small : at ≤ wordBits = up-to-le (agrees rate (codedIn word) x) wordBits in
-    fits-then (ask (ltb rate 3) 2 0) _ (fits-ask (ltb rate 3) 2 0 (omega arith) (omega arith))
+    fits-then (ask (ltb rate 3) 2 0) _ (fits-ask (ltb rate 3) 2 0 (omega arith) (omega arith) (λ z. omega arith))
     (λ e. fits-then (ask (both (eqb (length word) wordBytes) (eqb n (blockBytes rate))) 8 0) _
-    (fits-ask (both (eqb (length word) wordBytes) (eqb n (blockBytes rate))) 8 0 (omega arith) (omega arith))
-    (λ f. fits-then (ask (eqb at wordBits) 13 at) _ (fits-ask (eqb at wordBits) 13 at (omega arith) (omega arith))
-    (λ g. fits-then (ask (endsInZeros rate x) 14 0) (ask (checkRight rate x) 15 0) (fits-ask (endsInZeros rate x) 14 0 (omega arith) (omega arith))
-    (λ h. fits-ask (checkRight rate x) 15 0 (omega arith) (omega arith)))))
+    (fits-ask (both (eqb (length word) wordBytes) (eqb n (blockBytes rate))) 8 0 (omega arith) (omega arith) (λ z. omega arith))
+    (λ f. fits-then (ask (eqb at wordBits) 13 at) _ (fits-ask (eqb at wordBits) 13 at (omega arith) (omega arith) (λ z. omega arith))
+    (λ g. fits-then (ask (endsInZeros rate x) 14 0) (ask (checkRight rate x) 15 0) (fits-ask (endsInZeros rate x) 14 0 (omega arith) (omega arith) (λ z. omega arith))
+    (λ h. fits-ask (checkRight rate x) 15 0 (omega arith) (omega arith) (λ z. omega arith)))))
 
 -- ---- the questions of each call, in their order, with their numbers
 

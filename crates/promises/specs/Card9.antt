@@ -1,0 +1,70 @@
+-- Card 9. "With frame count, frame length and buffer length fixed by earlier questions there are always fewer than k fill bits. Prove that, take the
+-- question out, and never use 17 again."
+--
+-- `callSays` is questions 1 to 8 of a call that is lent frames and slots (plan/specs/Lengths.antt); the fill bits are what the C blocks of k bits
+-- hold behind the A marked frames.
+use mathlib.Core.Path.{_≡_, refl, sym, ap, _∙_}
+use mathlib.Core.List.{List}
+use Prim.Native.Nat.{ℕ, _+_, _*_, _<_}
+use lib.Dec.{ltb, eqb}
+use lib.ListN.{length}
+use borrow.Author.Tests.{lt-ltb}
+use Rattle.answers.specs.Answer.{numberOf, ask, then, then-when, ask-yes}
+use Rattle.answers.specs.declared.Answer.{Answer}
+use Rattle.answers.specs.declared.Answer.the-variants.{Done}
+use Rattle.sizes.specs.Rate.{infoBits}
+use Rattle.word.specs.Word as words
+use Rattle.word.specs.Exports as word-laws
+use Rattle.header.specs.Header.{fieldsOf}
+use Rattle.header.specs.declared.Fields.{Fields}
+use Rattle.quantities.specs.Quantities.{markedBits, blockCount, fillBits}
+use Rattle.quantities.specs.Bounds.{fill-sum, fill-few}
+use Rattle.plan.specs.Plan.{planIn}
+use Rattle.plan.specs.Lengths.{callSays}
+use Rattle.plan.specs.Accepted.{ready}
+use Rattle.plan.specs.declared.Plan.{Plan}
+use Rattle.frames.specs.Frames.{firstUnmarked, fillZero, framesSay}
+use Rattle.capture.specs.Capture.{wordOut}
+use Rattle.capture.specs.Answer.{slotsSay}
+use Rattle.run.specs.Run as runs
+use Rattle.run.specs.Return as run-laws
+
+-- Where questions 1 to 8 are passed, the marked frames and the fill bits are all bits of the blocks, and the fill bits are fewer than k.
+pub few-fill-bits : (header marker : List ℕ) (framesLength slotsLength : ℕ) → callSays header marker framesLength slotsLength ≡ Done
+    → (markedBits (fieldsOf header) + fillBits (fieldsOf header) ≡ blockCount (fieldsOf header) * infoBits (fieldsOf header .rate))
+    × (fillBits (fieldsOf header) < infoBits (fieldsOf header .rate))
+few-fill-bits header marker n s e =
+    let f : Fields = fieldsOf header in
+    let v = ready header marker n s e .valid in
+    (fill-sum f v, fill-few f v)
+
+-- The reader with the question put where it stood, between 16 and 18, gives the same answer to every input.
+pub asked-17 : (header marker slots : List ℕ) (n : ℕ) (f : Fields) (word : ℕ → List ℕ) → f ≡ fieldsOf header → word ≡ wordOut (planIn header marker) slots
+    → runs.readSays header marker slots n
+    ≡ then (callSays header marker n (length slots))
+    (then (slotsSay (planIn header marker) slots)
+    (then (runs.wordsSay f word)
+    (then (ask (eqb (firstUnmarked (f .size) (f .frames) (runs.streamIn f word)) (f .frames)) 16 (firstUnmarked (f .size) (f .frames) (runs.streamIn f word)))
+    (then (ask (ltb (fillBits f) (infoBits (f .rate))) 17 0)
+    (ask (fillZero (f .size) (f .frames) (blockCount f * infoBits (f .rate)) (runs.streamIn f word)) 18 0)))))
+unfolding runs.readSays runs.bufferSays runs.streamSays framesSay
+asked-17 header marker slots n f word ef ew =
+    rw (ef, ew)
+    (then-when (callSays header marker n (length slots)) _ _ (λ e.
+    let few = few-fill-bits header marker n (length slots) e .1 in
+    let asked : Answer = ask (ltb (fillBits (fieldsOf header)) (infoBits (fieldsOf header .rate))) 17 0 in
+    let yes : asked ≡ Done = ask-yes _ 17 0 (lt-ltb (fillBits (fieldsOf header)) (infoBits (fieldsOf header .rate)) few) in
+    rw yes refl))
+
+-- No call answers 17: `Fits`, which every answer to C must meet, has it as a field.
+pub word-write-not-17 : (rate : ℕ) (block : List ℕ) (n : ℕ) → numberOf (words.writeSays rate block n) ≡ 17 → ⊥
+word-write-not-17 rate block n = word-laws.write-fits rate block n .listed
+
+pub word-read-not-17 : (rate : ℕ) (word : List ℕ) (n : ℕ) → numberOf (words.readSays rate word n) ≡ 17 → ⊥
+word-read-not-17 rate word n = word-laws.read-fits rate word n .listed
+
+pub run-write-not-17 : (header marker frames : List ℕ) (n : ℕ) → numberOf (runs.writeSays header marker frames n) ≡ 17 → ⊥
+run-write-not-17 header marker frames n = run-laws.write-fits header marker frames n .listed
+
+pub run-read-not-17 : (header marker slots : List ℕ) (n : ℕ) → numberOf (runs.readSays header marker slots n) ≡ 17 → ⊥
+run-read-not-17 header marker slots n = run-laws.read-fits header marker slots n .listed
