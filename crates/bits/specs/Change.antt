@@ -121,7 +121,7 @@ ends-cut xs end used spare bytes eu es h l m =
     let f : ℕ → ℕ = λ t. bitAt xs (8 * i + t) in
     let fb : (t : ℕ) → f t < 2 = λ t. bit-lt xs (8 * i + t) in
     let v : ℕ = getD xs i 0 / 2 ^ spare * 2 ^ spare % 2 ^ 8 in
-    let made : v ≡ val (cut used f) 8 = ap (λ (b : ℕ). b / 2 ^ spare * 2 ^ spare % 2 ^ 8) (sym (byte-val xs bytes i)) ∙ shifted f fb used spare es in
+    let made : v ≡ val (cut used f) 8 = ap (λ (b : ℕ). b / 2 ^ spare * 2 ^ spare % 2 ^ 8) (sym (byte-val xs i (bytes i))) ∙ shifted f fb used spare es in
     record {
       long = length-set xs i v;
       bits = λ x k. ⊎-elim

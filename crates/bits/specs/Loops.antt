@@ -7,7 +7,7 @@ use native.Mathlib.Omega.{arith}
 use native.Mathlib.Numerals.{add-one}
 use native.Mathlib.Nat.{mod-eq-of-lt}
 use lib.Bits.{bitAnd, bitOr, and-mask, or-shifted}
-use lib.Pow.{pow-mono}
+use lib.Pow.{shl-exact}
 use lib.ListN.{length, getD, set, length-set}
 use lib.Seq.{getD-set-same, getD-set-other}
 use Rattle.bits.specs.Choice.{lt-or-le, eq-or-ne}
@@ -48,14 +48,12 @@ unpack-more packed before after i s h k l =
     ∙ sym (ap₂ (λ (a b : ℕ). getD packed a 0 / 2 ^ (7 - b) % 2) d r))
     (lt-or-le k (8 * i))
 
--- one bit more of a number: `v << 1 | b` on 64 bits
-pub push : (f : ℕ → ℕ) (n : ℕ) → Bits f → n < 64 → bitOr (val f n * 2 ^ 1 % 2 ^ 64) (f n) ≡ val f (n + 1)
+-- one bit more of a number: `v << 1 | b` on w bits
+pub push : (w : ℕ) (f : ℕ → ℕ) (n : ℕ) → Bits f → n < w → bitOr (val f n * 2 ^ 1 % 2 ^ w) (f n) ≡ val f (n + 1)
 unfolding val
-push f n b h =
-    let l : n ≤ 63 = omega arith in
-    let small : val f n < 2 ^ 63 = let a = val-lt f b n in let m : 2 ^ n ≤ 2 ^ 63 = pow-mono l in omega arith in
-    let e : val f n * 2 ^ 1 % 2 ^ 64 ≡ val f n * 2 ^ 1 = omega arith in
-    ap (λ (v : ℕ). bitOr v (f n)) e ∙ or-shifted (val f n) 1 (f n) (b n) ∙ ap (val f) (sym (add-one n))
+push w f n b h =
+    let room : n + 1 ≤ w = omega arith in
+    ap (λ (v : ℕ). bitOr v (f n)) (shl-exact n 1 w (val-lt f b n) room) ∙ or-shifted (val f n) 1 (f n) (b n) ∙ ap (val f) (sym (add-one n))
 
 -- eight bits make a byte: `v & 255`
 pub byte-mask : (f : ℕ → ℕ) → Bits f → bitAnd (val f 8) 255 ≡ val f 8

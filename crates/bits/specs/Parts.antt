@@ -32,12 +32,12 @@ pub join : (v w m n : ℕ) → v < 2 ^ m → w < 2 ^ n → m + n ≤ 64 → bitO
 join v w m n hv hw h = ap (λ (x : ℕ). bitOr x w) (shl-exact m n 64 hv h) ∙ or-shifted v n w hw
 
 -- a byte is the number of its bits
-pub byte-val : (xs : List ℕ) → Bytes xs → (i : ℕ) → val (λ t. bitAt xs (8 * i + t)) 8 ≡ getD xs i 0
+pub byte-val : (xs : List ℕ) (i : ℕ) → getD xs i 0 < 256 → val (λ t. bitAt xs (8 * i + t)) 8 ≡ getD xs i 0
 unfolding bitAt
-byte-val xs b i =
+byte-val xs i b =
     val-same (λ t. bitAt xs (8 * i + t)) (λ t. getD xs i 0 / 2 ^ (8 - 1 - t) % 2) 8 (λ t l.
     ap₂ (λ (x y : ℕ). getD xs x 0 / 2 ^ y % 2) (omega arith) (omega arith))
-    ∙ val-bits (getD xs i 0) 8 (b i)
+    ∙ val-bits (getD xs i 0) 8 b
 
 -- eight bits more: `(v << 8) | b`
 pub push-eight : (f : ℕ → ℕ) → Bits f → (i : ℕ) → i < 8 → bitOr (val f (8 * i) * 2 ^ 8 % 2 ^ 64) (val (λ t. f (8 * i + t)) 8) ≡ val f (8 * (i + 1))
@@ -52,7 +52,7 @@ pub push-byte : (xs : List ℕ) → Bytes xs → (at i : ℕ) → i < 8
 push-byte xs b at i l =
     let f : ℕ → ℕ = λ t. bitAt xs (8 * at + t) in
     let next : getD xs (at + i) 0 ≡ val (λ t. f (8 * i + t)) 8 =
-    sym (byte-val xs b (at + i)) ∙ val-same (λ t. bitAt xs (8 * (at + i) + t)) (λ t. f (8 * i + t)) 8 (λ t k. ap (bitAt xs) (omega arith)) in
+    sym (byte-val xs (at + i) (b (at + i))) ∙ val-same (λ t. bitAt xs (8 * (at + i) + t)) (λ t. f (8 * i + t)) 8 (λ t k. ap (bitAt xs) (omega arith)) in
     ap (bitOr (val f (8 * i) * 2 ^ 8 % 2 ^ 64)) next ∙ push-eight f (λ t. bit-lt xs (8 * at + t)) i l
 
 -- one byte more of a number whose bytes stand at their places: `v | (b << d)`
@@ -65,7 +65,7 @@ join-byte xs b at i d l =
     let fits : 8 + d ≤ 64 = omega arith in
     let exact : c * 2 ^ d % 2 ^ 64 ≡ c * 2 ^ d = shl-exact 8 d 64 (b (at + i)) fits in
     let next : c ≡ val (λ t. f (8 * i + t)) 8 =
-    sym (byte-val xs b (at + i)) ∙ val-same (λ t. bitAt xs (8 * (at + i) + t)) (λ t. f (8 * i + t)) 8 (λ t k. ap (bitAt xs) (omega arith)) in
+    sym (byte-val xs (at + i) (b (at + i))) ∙ val-same (λ t. bitAt xs (8 * (at + i) + t)) (λ t. f (8 * i + t)) 8 (λ t k. ap (bitAt xs) (omega arith)) in
     ap (bitOr (v * 2 ^ (8 + d))) exact
     ∙ or-shifted v (8 + d) (c * 2 ^ d) (shl-lt 8 d (b (at + i)))
     ∙ ap (λ (p : ℕ). v * p + c * 2 ^ d) (pow-add 2 8 d)

@@ -77,9 +77,9 @@ eight-of bs y t b =
     let f : ℕ → ℕ = λ u. bitAt bs (8 * q + u) in
     let bits : Bits f = λ u. bit-lt bs (8 * q + u) in
     let second : val (λ u. f (8 + u)) 8 ≡ getD bs (q + 1) 0 =
-    val-same (λ u. f (8 + u)) (λ u. bitAt bs (8 * (q + 1) + u)) 8 (λ u l. let e : 8 * q + (8 + u) ≡ 8 * (q + 1) + u = omega arith in ap (bitAt bs) e) ∙ byte-val bs b (q + 1) in
+    val-same (λ u. f (8 + u)) (λ u. bitAt bs (8 * (q + 1) + u)) 8 (λ u l. let e : 8 * q + (8 + u) ≡ 8 * (q + 1) + u = omega arith in ap (bitAt bs) e) ∙ byte-val bs (q + 1) (b (q + 1)) in
     let both : getD bs q 0 * 256 + getD bs (q + 1) 0 ≡ val f 16 =
-    sym (val-split f 8 8 ∙ ap₂ (λ (x y : ℕ). x * 256 + y) (byte-val bs b q) second) in
+    sym (val-split f 8 8 ∙ ap₂ (λ (x y : ℕ). x * 256 + y) (byte-val bs q (b q)) second) in
     let whole : 16 ≡ r + 8 + (8 - r) = omega arith in
     let low : val (λ u. f (r + 8 + u)) (8 - r) < 2 ^ (8 - r) = val-lt (λ u. f (r + 8 + u)) (λ u. bits (r + 8 + u)) (8 - r) in
     let upper : val f 16 / 2 ^ (8 - r) ≡ val f (r + 8) =

@@ -67,7 +67,7 @@ pub one-byte : (b : List ℕ) → Bytes b → (i : ℕ) → getD b i 0 * 2 ^ 56 
 one-byte b h i =
     let small : getD b i 0 < 256 = h i in
     let fits : getD b i 0 * 2 ^ 56 % 2 ^ 64 ≡ getD b i 0 * 2 ^ 56 = omega arith in
-    fits ∙ ap (λ (v : ℕ). v * 2 ^ 56) (sym (byte-val b h i)) ∙ sym (val-cut (bitsFrom b (8 * i)) 8 64 (omega arith))
+    fits ∙ ap (λ (v : ℕ). v * 2 ^ 56) (sym (byte-val b i (h i))) ∙ sym (val-cut (bitsFrom b (8 * i)) 8 64 (omega arith))
 
 -- and of eight
 pub eight-bytes : (b : List ℕ) (i : ℕ) → val (bitsFrom b (8 * i)) 64 ≡ val (cut 64 (bitsFrom b (8 * i))) 64

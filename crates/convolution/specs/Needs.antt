@@ -1,10 +1,9 @@
 -- What the functions on input bits and coded bits ask of their callers.
-use mathlib.Core.Path.{_≡_, ap, _∙_}
+use mathlib.Core.Path.{_≡_}
 use mathlib.Core.List.{List}
 use Prim.Native.Nat.{ℕ, _*_, _≤_, _<_}
-use native.Mathlib.Omega.{arith}
 use lib.ListN.{length, getD}
-use Rattle.sizes.specs.Rate.{infoBits, inputBits}
+use Rattle.sizes.specs.Rate.{inputBits}
 use Rattle.sizes.specs.Sizes.{wordBits}
 
 -- the input bits at a rate, and room for their coded bits or coded bits to be compared with them
@@ -45,34 +44,3 @@ pub record Steps (step n : ℕ) (coded input : List ℕ) : Type 0 where
 pub record Pairs (coded input : List ℕ) : Type 0 where
   pub coded-size : length coded ≡ wordBits
   pub input-size : length input ≡ 10080
-
--- what each rate hands on
-module _ (rate : ℕ) (input coded : List ℕ) (h : Encodes rate input coded) where
-  pub encodes-third : rate ≡ 0 → Threes 1 input coded
-  unfolding inputBits infoBits
-  encodes-third e =
-      record { low = omega arith; high = omega arith; input-size = h .input-size ∙ ap inputBits e; coded-size = h .coded-size }
-
-  pub encodes-half : rate ≡ 1 → Twos input coded
-  unfolding inputBits infoBits
-  encodes-half e = record { input-size = h .input-size ∙ ap inputBits e; coded-size = h .coded-size }
-
-  pub encodes-two-thirds : rate ≡ 2 → Threes 2 input coded
-  unfolding inputBits infoBits
-  encodes-two-thirds e =
-      record { low = omega arith; high = omega arith; input-size = h .input-size ∙ ap inputBits e; coded-size = h .coded-size }
-
-module _ (rate : ℕ) (coded input : List ℕ) (h : Decodes rate coded input) where
-  pub decodes-third : rate ≡ 0 → Steps 3 5040 coded input
-  unfolding inputBits infoBits
-  decodes-third e =
-      record { low = omega arith; high = omega arith; all = omega arith; coded-size = h .coded-size; input-size = h .input-size ∙ ap inputBits e }
-
-  pub decodes-half : rate ≡ 1 → Steps 2 7560 coded input
-  unfolding inputBits infoBits
-  decodes-half e =
-      record { low = omega arith; high = omega arith; all = omega arith; coded-size = h .coded-size; input-size = h .input-size ∙ ap inputBits e }
-
-  pub decodes-two-thirds : rate ≡ 2 → Pairs coded input
-  unfolding inputBits infoBits
-  decodes-two-thirds e = record { coded-size = h .coded-size; input-size = h .input-size ∙ ap inputBits e }

@@ -11,7 +11,7 @@ const STRETCH: usize = 240;
 const STRETCHES: usize = 63;
 
 // All differences of the stretch from `start` on, joined: 0 where there is none.
-fn difference(made: &[u8], coded: &[u8], start: usize) -> u8
+fn stretch_apart(made: &[u8], coded: &[u8], start: usize) -> u8
     requires { ⌜ Both (now made) (now coded) ⌝ }
     requires { ⌜ start + 240 ≤ wordBits ⌝ }
     ensures { λ r. ⌜ (r ≡ 0 → Same (now (made .entry)) (now (coded .entry)) start 240) ⌝ }
@@ -48,7 +48,7 @@ pub fn first_apart(made: &[u8], coded: &[u8]) -> usize
 {
     let mut t = 0;
     while t < STRETCHES {
-        if difference(made, coded, t * STRETCH) != 0 {
+        if stretch_apart(made, coded, t * STRETCH) != 0 {
             return search(made, coded, t * STRETCH);
         }
         t += 1;

@@ -21,9 +21,9 @@ pub joined-at : (rate : ℕ) (block : ℕ → List ℕ) (j i : ℕ) → i < info
 unfolding joined
 joined-at rate block j i l = ap₂ (λ (a b : ℕ). bitAt (block a) b) (digits-div j l) (digits-mod j l)
 
-pub joined-same : (rate total : ℕ) (block other : ℕ → List ℕ) → ((j : ℕ) → j < total → block j ≡ other j) → (x : ℕ) → x < total * infoBits rate → joined rate block x ≡ joined rate other x
+pub joined-same : (rate pieces : ℕ) (block other : ℕ → List ℕ) → ((j : ℕ) → j < pieces → block j ≡ other j) → (x : ℕ) → x < pieces * infoBits rate → joined rate block x ≡ joined rate other x
 unfolding joined
-joined-same rate total block other h x l =
+joined-same rate pieces block other h x l =
     ap (λ (b : List ℕ). bitAt b (x % infoBits rate)) (h (x / infoBits rate) (div-lt-iff-lt-mul (info-pos rate) .1 l))
 
 pub joined-blocks : (rate : ℕ) (stream : ℕ → ℕ) → rate < 3 → Bits stream → (x : ℕ) → joined rate (blockAt rate stream) x ≡ stream x

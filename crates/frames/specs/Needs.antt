@@ -7,28 +7,28 @@ use Rattle.bits.specs.declared.places.Place.{Place}
 use Rattle.sizes.specs.Sizes.{span}
 use Rattle.sizes.specs.Rate.{infoBits, blockBytes}
 
--- `total` blocks that hold the frames, perhaps with more behind them
-pub record Judged (rate total size count : ℕ) (blocks : List ℕ) : Type 0 where
+-- `pieces` blocks that hold the frames, perhaps with more behind them
+pub record Judged (rate pieces size count : ℕ) (blocks : List ℕ) : Type 0 where
   pub rate3 : rate < 3
-  pub total2 : total ≤ 211
-  pub room : total * blockBytes rate ≤ length blocks
+  pub pieces2 : pieces ≤ 211
+  pub room : pieces * blockBytes rate ≤ length blocks
   pub size1 : 1 ≤ size
   pub size2 : size ≤ 2048
   pub count1 : 1 ≤ count
   pub count2 : count ≤ 64
-  pub fit : count * span size ≤ total * infoBits rate
+  pub fit : count * span size ≤ pieces * infoBits rate
 
--- `total` blocks lie in `blocks`
-pub record Blocks (rate total : ℕ) (blocks : List ℕ) : Type 0 where
+-- `pieces` blocks lie in `blocks`
+pub record Blocks (rate pieces : ℕ) (blocks : List ℕ) : Type 0 where
   pub rate3 : rate < 3
-  pub total2 : total ≤ 211
-  pub room : total * blockBytes rate ≤ length blocks
+  pub pieces2 : pieces ≤ 211
+  pub room : pieces * blockBytes rate ≤ length blocks
 
 -- so do those of the n bits from bit x on
 pub record Held (rate : ℕ) (blocks : List ℕ) (x n : ℕ) : Type 0 where
-  pub total : ℕ
-  pub lie : Blocks rate total blocks
-  pub fit : x + n ≤ total * infoBits rate
+  pub pieces : ℕ
+  pub lie : Blocks rate pieces blocks
+  pub fit : x + n ≤ pieces * infoBits rate
 
 -- the bit of the blocks joined that stands at a place
 abbrev pub bitOf : ℕ → Place → ℕ

@@ -51,13 +51,13 @@ fn some_bytes(
 fn frame_out(
     rate: u64,
     blocks: &[u8],
-    total: usize,
+    pieces: usize,
     size: usize,
     count: usize,
     j: usize,
     frames: &mut [u8],
 )
-    requires { ⌜ Judged rate total size count (now blocks) × (j < count) × (length (now frames) ≡ count * size) ⌝ }
+    requires { ⌜ Judged rate pieces size count (now blocks) × (j < count) × (length (now frames) ≡ count * size) ⌝ }
     ensures { λ _. ⌜ Laid (now (frames .entry)) (j * size) size (λ t. Frames·joined rate (piece (blockBytes rate) (now (blocks .entry))) (j * span size + markerBits + t)) (now (frames .exit)) ⌝ }
 {
     let k = sizes::info_bits(rate);
@@ -71,22 +71,22 @@ fn frame_out(
     }
 }
 
-// The frames, out of the first `total` blocks.
+// The frames, out of the first `pieces` blocks.
 pub fn frames_out(
     rate: u64,
     blocks: &[u8],
-    total: usize,
+    pieces: usize,
     size: usize,
     count: usize,
     frames: &mut [u8],
 )
-    requires { ⌜ Judged rate total size count (now blocks) ⌝ }
+    requires { ⌜ Judged rate pieces size count (now blocks) ⌝ }
     requires { ⌜ length (now frames) ≡ count * size ⌝ }
     ensures { λ _. ⌜ now (frames .exit) ≡ framesIn size count (Frames·joined rate (piece (blockBytes rate) (now (blocks .entry)))) ⌝ }
 {
     let mut j = 0;
     while j < count {
-        frame_out(rate, blocks, total, size, count, j, frames);
+        frame_out(rate, blocks, pieces, size, count, j, frames);
         j += 1;
     }
 }

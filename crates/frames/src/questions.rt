@@ -31,8 +31,8 @@ fn marker_at(rate: u64, blocks: &[u8], x: usize) -> u64
 }
 
 // Question 16: the first frame before which the marker does not stand, `count` where there is none.
-fn first_unmarked(rate: u64, blocks: &[u8], total: usize, size: usize, count: usize) -> usize
-    requires { ⌜ Judged rate total size count (now blocks) ⌝ }
+fn first_unmarked(rate: u64, blocks: &[u8], pieces: usize, size: usize, count: usize) -> usize
+    requires { ⌜ Judged rate pieces size count (now blocks) ⌝ }
     ensures { λ j. ⌜ j ≡ firstUnmarked size count (Frames·joined rate (piece (blockBytes rate) (now (blocks .entry)))) ⌝ }
 {
     let span = sizes::span(size);
@@ -60,13 +60,13 @@ fn zeros_at(rate: u64, blocks: &[u8], at: Place) -> usize
     0
 }
 
-// Question 18: the first bit from `from` on that is not zero, the end of the `total` blocks where there is none.
-fn first_fill(rate: u64, blocks: &[u8], total: usize, from: usize) -> usize
-    requires { ⌜ Blocks rate total (now blocks) × (from ≤ total * infoBits rate) ⌝ }
-    ensures { λ x. ⌜ x ≡ upTo (zeroAt (Frames·joined rate (piece (blockBytes rate) (now (blocks .entry))))) from (total * infoBits rate) ⌝ }
+// Question 18: the first bit from `from` on that is not zero, the end of the `pieces` blocks where there is none.
+fn first_fill(rate: u64, blocks: &[u8], pieces: usize, from: usize) -> usize
+    requires { ⌜ Blocks rate pieces (now blocks) × (from ≤ pieces * infoBits rate) ⌝ }
+    ensures { λ x. ⌜ x ≡ upTo (zeroAt (Frames·joined rate (piece (blockBytes rate) (now (blocks .entry))))) from (pieces * infoBits rate) ⌝ }
 {
     let k = sizes::info_bits(rate);
-    let end = total * k;
+    let end = pieces * k;
     let mut at = places::place_of(from, k);
     let mut x = from;
     while x < end {
@@ -80,17 +80,17 @@ fn first_fill(rate: u64, blocks: &[u8], total: usize, from: usize) -> usize
     x
 }
 
-// Questions 16 and 18, put to the first `total` blocks.
-pub fn judge(rate: u64, blocks: &[u8], total: usize, size: usize, count: usize) -> Answer
-    requires { ⌜ Judged rate total size count (now blocks) ⌝ }
-    ensures { λ a. ⌜ a ≡ framesSay size count (total * infoBits rate) (Frames·joined rate (piece (blockBytes rate) (now (blocks .entry)))) ⌝ }
+// Questions 16 and 18, put to the first `pieces` blocks.
+pub fn judge(rate: u64, blocks: &[u8], pieces: usize, size: usize, count: usize) -> Answer
+    requires { ⌜ Judged rate pieces size count (now blocks) ⌝ }
+    ensures { λ a. ⌜ a ≡ framesSay size count (pieces * infoBits rate) (Frames·joined rate (piece (blockBytes rate) (now (blocks .entry)))) ⌝ }
 {
-    let j = first_unmarked(rate, blocks, total, size, count);
+    let j = first_unmarked(rate, blocks, pieces, size, count);
     if j != count {
         return Answer::No(16, j);
     }
-    let end = total * sizes::info_bits(rate);
-    if first_fill(rate, blocks, total, count * sizes::span(size)) != end {
+    let end = pieces * sizes::info_bits(rate);
+    if first_fill(rate, blocks, pieces, count * sizes::span(size)) != end {
         return Answer::No(18, 0);
     }
     Answer::Done

@@ -1,5 +1,5 @@
 -- Step 5's square term from a table: 210 j² mod 15,120 depends on j mod 36 alone, so 36 constants stand in for the formula.
-use mathlib.Core.Path.{_≡_, sym, ap, ap₂, _∙_}
+use mathlib.Core.Path.{_≡_, sym, ap, _∙_}
 use mathlib.Core.List.{List}
 use Prim.Native.Nat.{ℕ, _+_, _*_, _/_, _%_, _<_}
 use native.Mathlib.Omega.{arith}

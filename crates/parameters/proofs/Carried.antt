@@ -48,10 +48,10 @@ cut-more x xs i l h k b =
 
 pub parameters-same : (f : Fields) (marker marks : List ℕ) (n : ℕ) → length marks ≡ 32 → n ≡ lentMarks f marker
     → ((k : ℕ) → k < 32 → getD marks k 0 ≡ cut (lentMarks f marker) (λ i. getD marker i 0) k)
-    → _≡_ {A = Parameters} (record { fields = f; marks = marks; count = n }) (parametersOf f marker)
+    → _≡_ {A = Parameters} (record { fields = f; marks = marks; markers = n }) (parametersOf f marker)
 unfolding parametersOf
 parameters-same f marker marks n e en h =
-    ap₂ (λ (m : List ℕ) (c : ℕ). record { fields = f; marks = m; count = c }) (tab-made 32 (cut (lentMarks f marker) (λ i. getD marker i 0)) marks e h) en
+    ap₂ (λ (m : List ℕ) (c : ℕ). record { fields = f; marks = m; markers = c }) (tab-made 32 (cut (lentMarks f marker) (λ i. getD marker i 0)) marks e h) en
 
 -- ---- the three ways out of a check
 

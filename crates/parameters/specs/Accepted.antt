@@ -74,7 +74,7 @@ run-good header marker e =
 pub record CarriesMarks (f : Fields) (marker : List ℕ) (p : Parameters) : Type 0 where
   pub fields : p .fields ≡ f
   pub long : length (p .marks) ≡ 32
-  pub count : p .count ≡ lentMarks f marker
+  pub markers : p .markers ≡ lentMarks f marker
   pub lent : (i : ℕ) → i < lentMarks f marker → getD (p .marks) i 0 ≡ getD marker i 0
   pub behind : (i : ℕ) → lentMarks f marker ≤ i → getD (p .marks) i 0 ≡ 0
   pub below : (i : ℕ) → getD (p .marks) i 0 < pulseOrder f
@@ -84,7 +84,7 @@ unfolding parametersOf marksGood
 carries-marks f v marker g = record {
   fields = refl;
   long = length-tab 32 x;
-  count = refl;
+  markers = refl;
   lent = inside;
   behind = outside;
   below = λ i. ⊎-elim

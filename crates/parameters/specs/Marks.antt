@@ -41,7 +41,7 @@ unfoldable pub parametersOf : Fields → List ℕ → Parameters
 parametersOf f marker = record {
   fields = f;
   marks = tab 32 (cut (lentMarks f marker) (λ i. getD marker i 0));
-  count = lentMarks f marker;
+  markers = lentMarks f marker;
 }
 
 -- what stands in their place on a refusal
@@ -49,7 +49,7 @@ unfoldable pub noParameters : Parameters
 noParameters = record {
   fields = record { rate = 0; bits = 0; rows = 0; step = 0; size = 0; markers = 0; frames = 0 };
   marks = tab 32 (λ i. 0);
-  count = 0;
+  markers = 0;
 }
 
 abbrev pub whenDone : Answer → Parameters → Parameters → Parameters

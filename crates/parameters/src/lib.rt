@@ -7,11 +7,11 @@ ghost use Rattle.parameters.specs.Marks.{lentMarks, marksGood, parameter
 ghost use Rattle.parameters.specs.Marks.{checked as Marks·checked};
 ghost use Rattle.quantities.specs.Valid.{Valid};
 
-// What a run carries along: the fields and up to 32 marker symbols, the first `count` of `marks`.
+// What a run carries along: the fields and up to 32 marker symbols, the first `markers` of `marks`.
 pub struct Parameters {
     pub fields: Fields,
     pub marks: [u8; 32],
-    pub count: usize,
+    pub markers: usize,
 }
 
 // What a header and its marker symbols are found to be: the parameters count where all is answered yes.
@@ -53,17 +53,17 @@ fn carry(f: Fields, marker: &[u8]) -> Parameters
     requires { ⌜ Valid f ⌝ }
     ensures { λ r. ⌜ r ≡ parametersOf f (now (marker .entry)) ⌝ }
 {
-    let count = lent_marks(f, marker);
+    let markers = lent_marks(f, marker);
     let mut marks = [0u8; 32];
     let mut i = 0usize;
-    while i < count {
+    while i < markers {
         marks[i] = marker[i];
         i += 1;
     }
     Parameters {
         fields: f,
         marks,
-        count,
+        markers,
     }
 }
 
@@ -84,7 +84,7 @@ fn nothing() -> Parameters
     Parameters {
         fields,
         marks,
-        count: 0,
+        markers: 0,
     }
 }
 

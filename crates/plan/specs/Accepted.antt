@@ -24,13 +24,13 @@ use Rattle.plan.specs.Plan.{planOf, planIn, Fine, slotBytes}
 use Rattle.plan.specs.Lengths.{lengthsRight, callSays}
 
 -- the plan of parameters that carry all W marker symbols
-pub plan-fine : (f : Fields) (marker : List ℕ) (q : Parameters) → Valid f → CarriesMarks f marker q → q .count ≡ f .markers → Fine (planOf q)
+pub plan-fine : (f : Fields) (marker : List ℕ) (q : Parameters) → Valid f → CarriesMarks f marker q → q .markers ≡ f .markers → Fine (planOf q)
 unfolding planOf quantities.pulseOrder quantities.slotsPerSymbol quantities.slotCount quantities.symbolCount
 plan-fine f marker q v c e =
     let g : Fields = q .fields in
     let w : Valid g = rw (c .fields) v in
     let s : Shaped g = w .shaped in
-    let k : q .count ≡ g .markers = e ∙ ap (λ (x : Fields). x .markers) (sym (c .fields)) in
+    let k : q .markers ≡ g .markers = e ∙ ap (λ (x : Fields). x .markers) (sym (c .fields)) in
     let least = w .markers-least in
     let most = w .markers-most in
     record {
@@ -44,7 +44,7 @@ plan-fine f marker q v c e =
       rows-least = s .rows-least;
       rows-most = s .rows-most;
       step-most = s .step-most;
-      lines-are = bounds.rows-steps g w;
+      lines-are = bounds.lines-steps g w;
       count-least = omega arith;
       count-most = omega arith;
       marks-are = c .long;
@@ -58,7 +58,7 @@ pub plan-words : (q : Parameters) → planOf q .words ≡ quantities.blockCount 
 unfolding planOf
 plan-words q = refl
 
-plan-bytes : (q : Parameters) → q .count ≡ q .fields .markers → slotBytes (planOf q) ≡ quantities.slotBytes (q .fields)
+plan-bytes : (q : Parameters) → q .markers ≡ q .fields .markers → slotBytes (planOf q) ≡ quantities.slotBytes (q .fields)
 unfolding planOf quantities.slotBytes quantities.slotCount quantities.symbolCount
 plan-bytes q e = rw e refl
 

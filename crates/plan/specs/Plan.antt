@@ -19,8 +19,8 @@ planOf q = record {
   words = quantities.blockCount (q .fields);
   rows = q .fields .rows;
   step = q .fields .step;
-  lines = quantities.sequenceRows (q .fields);
-  count = q .count;
+  lines = quantities.lineCount (q .fields);
+  count = q .markers;
   marks = q .marks;
 }
 

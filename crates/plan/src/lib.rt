@@ -45,7 +45,7 @@ pub fn plan_of(q: Parameters) -> Plan
     let group = quantities::slots_per_symbol(f);
     let symbols = quantities::symbols_per_word(f);
     let words = quantities::block_count(f);
-    let lines = quantities::sequence_rows(f);
+    let lines = quantities::line_count(f);
     Plan {
         bits: f.bits,
         order,
@@ -55,7 +55,7 @@ pub fn plan_of(q: Parameters) -> Plan
         rows: f.rows,
         step: f.step,
         lines,
-        count: q.count,
+        count: q.markers,
         marks,
     }
 }

@@ -5,7 +5,7 @@ use native.Mathlib.Omega.{arith}
 use native.Mathlib.Nat.{mul-le-mul, mul-le-mul-left, mul-le-mul-right, mul-assoc, div-mul-le-self, lt-div-mul-add, lt-of-mul-lt-mul-right, div-add-mod', mul-add-mod-self-right}
 use Rattle.sizes.specs.Rate.{infoBits, by-rate}
 use Rattle.sizes.specs.Sizes.{wordBits, wordBytes, span}
-use Rattle.quantities.specs.Quantities.{symbolsPerWord, markedBits, blockCount, fillBits, spread, sequenceLength, sequenceRows, symbolCount, slotCount, slotBytes, frameBytes}
+use Rattle.quantities.specs.Quantities.{symbolsPerWord, markedBits, blockCount, fillBits, spread, sequenceLength, lineCount, symbolCount, slotCount, slotBytes, frameBytes}
 use Rattle.quantities.specs.Valid.{Valid}
 use Rattle.quantities.specs.Shape.{word-symbols, symbols-least, symbols-most, group-most, spread-most, spread-steps}
 use Rattle.header.specs.declared.Fields.{Fields}
@@ -113,23 +113,23 @@ module _ (f : Fields) (v : Valid f) where
   unfolding sequenceLength
   sequence-most = let a = coded-most in let b = spread-most f (v .shaped) in omega arith
 
-  -- R rows of S symbols are the whole sequence
-  pub rows-whole : sequenceRows f * symbolsPerWord f ≡ sequenceLength f
-  unfolding sequenceRows
-  rows-whole =
+  -- R lines of S symbols are the whole sequence
+  pub lines-whole : lineCount f * symbolsPerWord f ≡ sequenceLength f
+  unfolding lineCount
+  lines-whole =
       let e : sequenceLength f / symbolsPerWord f * symbolsPerWord f + sequenceLength f % symbolsPerWord f ≡ sequenceLength f = div-add-mod' (sequenceLength f) (symbolsPerWord f) in
       let z : sequenceLength f % symbolsPerWord f ≡ 0 = sequence-multiple f v in
       omega arith
 
-  pub rows-sum : sequenceRows f * symbolsPerWord f ≡ blockCount f * symbolsPerWord f + spread f
+  pub lines-sum : lineCount f * symbolsPerWord f ≡ blockCount f * symbolsPerWord f + spread f
   unfolding sequenceLength
-  rows-sum = rows-whole
+  lines-sum = lines-whole
 
-  pub rows-steps : sequenceRows f * symbolsPerWord f ≡ blockCount f * symbolsPerWord f + (f .rows - 1) * (f .step * f .rows)
-  rows-steps = rows-sum ∙ ap (λ (n : ℕ). blockCount f * symbolsPerWord f + n) (spread-steps f)
+  pub lines-steps : lineCount f * symbolsPerWord f ≡ blockCount f * symbolsPerWord f + (f .rows - 1) * (f .step * f .rows)
+  lines-steps = lines-sum ∙ ap (λ (n : ℕ). blockCount f * symbolsPerWord f + n) (spread-steps f)
 
-  pub rows-least : 1 ≤ sequenceRows f
-  rows-least = by (sequenceRows f) rows-sum
+  pub lines-least : 1 ≤ lineCount f
+  lines-least = by (lineCount f) lines-sum
     where
       by : (r : ℕ) → r * symbolsPerWord f ≡ blockCount f * symbolsPerWord f + spread f → 1 ≤ r
       by zero e =
@@ -137,25 +137,25 @@ module _ (f : Fields) (v : Valid f) where
           absurd (let l = symbols-least f (v .shaped) in omega arith)
       by (suc r) e = omega arith
 
-  pub rows-most : sequenceRows f ≤ 3045
-  rows-most =
+  pub lines-most : lineCount f ≤ 3045
+  lines-most =
       let m = sequence-most in
-      let e = rows-whole in
-      let l : sequenceRows f * wordBytes ≤ sequenceRows f * symbolsPerWord f = mul-le-mul-left (sequenceRows f) (symbols-least f (v .shaped)) in
+      let e = lines-whole in
+      let l : lineCount f * wordBytes ≤ lineCount f * symbolsPerWord f = mul-le-mul-left (lineCount f) (symbols-least f (v .shaped)) in
       omega arith
 
   -- ---- step 10
 
-  -- W markers stand before each row
-  pub symbol-sum : symbolCount f ≡ sequenceLength f + sequenceRows f * f .markers
+  -- W markers stand before each line
+  pub symbol-sum : symbolCount f ≡ sequenceLength f + lineCount f * f .markers
   unfolding symbolCount
-  symbol-sum = let e = rows-whole in omega arith
+  symbol-sum = let e = lines-whole in omega arith
 
   symbol-bound : symbolCount f ≤ 5854136
   symbol-bound =
       let e = symbol-sum in
       let m = sequence-most in
-      let w : sequenceRows f * f .markers ≤ 3045 * 32 = mul-le-mul rows-most (v .markers-most) in
+      let w : lineCount f * f .markers ≤ 3045 * 32 = mul-le-mul lines-most (v .markers-most) in
       omega arith
 
   pub symbol-most : symbolCount f < 2 ^ 23

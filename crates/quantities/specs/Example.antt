@@ -2,8 +2,8 @@
 use mathlib.Core.Path.{_≡_, refl}
 use Rattle.sizes.specs.Rate.{infoBits}
 use Rattle.header.specs.Example.{exampleFields}
-use Rattle.quantities.specs.Quantities.{symbolsPerWord, markedBits, blockCount, spread, sequenceLength, sequenceRows, symbolCount}
+use Rattle.quantities.specs.Quantities.{symbolsPerWord, markedBits, blockCount, spread, sequenceLength, lineCount, symbolCount}
 
 pub example-symbols : symbolCount exampleFields ≡ 844488
-unfolding symbolCount sequenceRows sequenceLength blockCount markedBits symbolsPerWord spread infoBits
+unfolding symbolCount lineCount sequenceLength blockCount markedBits symbolsPerWord spread infoBits
 example-symbols = refl

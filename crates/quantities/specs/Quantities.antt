@@ -33,12 +33,12 @@ unfoldable pub sequenceLength : Fields → ℕ
 sequenceLength f = blockCount f * symbolsPerWord f + spread f
 
 -- R, the lines of S places that they are cut into
-unfoldable pub sequenceRows : Fields → ℕ
-sequenceRows f = sequenceLength f / symbolsPerWord f
+unfoldable pub lineCount : Fields → ℕ
+lineCount f = sequenceLength f / symbolsPerWord f
 
 -- the symbols with markers: W before every S (step 10)
 unfoldable pub symbolCount : Fields → ℕ
-symbolCount f = sequenceRows f * (symbolsPerWord f + f .markers)
+symbolCount f = lineCount f * (symbolsPerWord f + f .markers)
 
 -- the slots of a symbol: M, and M/4 empty guard slots
 unfoldable pub slotsPerSymbol : Fields → ℕ

@@ -1,7 +1,7 @@
 // What a header implies, each quantity with its letter. All of them fit 32 bits.
 use header::Fields;
 ghost use mathlib.Core.Path.{_≡_};
-ghost use Rattle.quantities.specs.Quantities.{pulseOrder, symbolsPerWord, markedBits, blockCount, sequenceLength, sequenceRows, symbolCount, slotsPerSymbol, slotCount, slotBytes, frameBytes, markerBytes};
+ghost use Rattle.quantities.specs.Quantities.{pulseOrder, symbolsPerWord, markedBits, blockCount, sequenceLength, lineCount, symbolCount, slotsPerSymbol, slotCount, slotBytes, frameBytes, markerBytes};
 ghost use Rattle.quantities.specs.Quantities.{spread as Quantities·spread};
 ghost use Rattle.quantities.specs.Valid.{Shaped, Valid};
 
@@ -54,10 +54,10 @@ pub fn sequence_length(f: Fields) -> usize
     block_count(f) * symbols_per_word(f) + spread(f)
 }
 
-// R, the rows of S symbols that they make.
-pub fn sequence_rows(f: Fields) -> usize
+// R, the lines of S places that they are cut into.
+pub fn line_count(f: Fields) -> usize
     requires { ⌜ Valid f ⌝ }
-    ensures { λ r. ⌜ r ≡ sequenceRows f ⌝ }
+    ensures { λ r. ⌜ r ≡ lineCount f ⌝ }
 {
     sequence_length(f) / symbols_per_word(f)
 }
@@ -67,7 +67,7 @@ pub fn symbol_count(f: Fields) -> usize
     requires { ⌜ Valid f ⌝ }
     ensures { λ r. ⌜ r ≡ symbolCount f ⌝ }
 {
-    sequence_rows(f) * (symbols_per_word(f) + f.markers)
+    line_count(f) * (symbols_per_word(f) + f.markers)
 }
 
 // The slots of a symbol: M, and M/4 guard slots.

@@ -39,11 +39,11 @@ pub blocks-fit : (f : Fields) → Valid f → blockCount f * blockBytes (f .rate
 blocks-fit f v = few-blocks (f .rate) (v .rate) (blockCount f) (omega (arith, blocks-needed f v, marked-most f v))
 
 -- and are what questions 16 and 18 are put to
-pub frames-judged : (f : Fields) → Valid f → (total : ℕ) (blocks : List ℕ) → total ≡ blockCount f → length blocks ≡ blocksRoom → Judged (f .rate) total (f .size) (f .frames) blocks
-frames-judged f v total blocks e l =
+pub frames-judged : (f : Fields) → Valid f → (pieces : ℕ) (blocks : List ℕ) → pieces ≡ blockCount f → length blocks ≡ blocksRoom → Judged (f .rate) pieces (f .size) (f .frames) blocks
+frames-judged f v pieces blocks e l =
     rw e (record {
       rate3 = v .rate;
-      total2 = blocks-most f v;
+      pieces2 = blocks-most f v;
       room = omega (arith, blocks-fit f v);
       size1 = v .size-least;
       size2 = v .size-most;

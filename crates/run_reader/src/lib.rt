@@ -67,12 +67,12 @@ fn finish(f: Fields, blocks: &[u8], frames: &mut [u8]) -> Answer
     let rate = f.rate;
     let size = f.size;
     let count = f.frames;
-    let total = quantities::block_count(f);
-    let answer = frames::questions::judge(rate, blocks, total, size, count);
+    let pieces = quantities::block_count(f);
+    let answer = frames::questions::judge(rate, blocks, pieces, size, count);
     let Answer::Done = answer else {
         return answer;
     };
-    frames::back::frames_out(rate, blocks, total, size, count, frames);
+    frames::back::frames_out(rate, blocks, pieces, size, count, frames);
     answer
 }
 

@@ -1,18 +1,16 @@
 -- The line that `runsheet` prints of a header, for any bytes.
-use mathlib.Core.Path.{_≡_, refl, sym, ap, _∙_}
+use mathlib.Core.Path.{_≡_}
 use mathlib.Core.List.{List, [], _∷_, _++_}
 use Prim.Native.Nat.{ℕ}
-use native.Mathlib.Omega.{arith}
 use lib.ListN.{length, take}
 use Rattle.sizes.specs.Rate.{inputsPer, codedPer}
 use Rattle.header.specs.Header.{fieldsOf}
 use Rattle.quantities.specs.Quantities.{pulseOrder, blockCount, symbolCount, slotCount}
 use Rattle.questions.specs.Questions.{headerSays}
 use Rattle.header.specs.declared.Fields.{Fields}
-use Rattle.answers.specs.Answer.{numberOf}
 use Rattle.answers.specs.declared.Answer.{Answer}
 use Rattle.answers.specs.declared.Answer.the-variants.{Done, No}
-use Rattle.sheet.specs.Text.{digit, items, Put}
+use Rattle.sheet.specs.Text.{digit, items}
 
 -- `1/3`, `1/2` or `2/3`
 unfoldable pub rateText : ℕ → List ℕ
@@ -41,19 +39,3 @@ lineOf header = lineFor (headerSays header) (fieldsOf header)
 pub record Printed (header out : List ℕ) (n : ℕ) : Type 0 where
   pub count : n ≡ length (lineOf header)
   pub text : take n out ≡ lineOf header
-
-pub printed : (header before piece out : List ℕ) (n : ℕ) → piece ≡ lineOf header → Put before 0 piece out n → Printed header out n
-printed header before piece out n e p = record {
-  count = (let whole : n ≡ length piece = omega arith in whole ∙ ap length e);
-  text = p .text ∙ e;
-}
-
--- the two kinds of line
-pub line-no : (header : List ℕ) (a : Answer) → a ≡ headerSays header → (a ≡ Done → ⊥) → noLine (numberOf a) ≡ lineOf header
-unfolding lineOf
-line-no header Done e n = absurd (n refl)
-line-no header (No number place) e n = ap (λ (a : Answer). lineFor a (fieldsOf header)) e
-
-pub line-run : (header : List ℕ) → headerSays header ≡ Done → runLine (fieldsOf header) ≡ lineOf header
-unfolding lineOf
-line-run header e = sym (rw e refl)

@@ -81,9 +81,9 @@ block-packed rate stream h b j =
     )
 
 -- streams that agree so far have the same blocks so far
-pub block-same : (rate total : ℕ) (s t : ℕ → ℕ) → ((x : ℕ) → x < total * infoBits rate → s x ≡ t x) → (j : ℕ) → j < total → blockAt rate s j ≡ blockAt rate t j
+pub block-same : (rate pieces : ℕ) (s t : ℕ → ℕ) → ((x : ℕ) → x < pieces * infoBits rate → s x ≡ t x) → (j : ℕ) → j < pieces → blockAt rate s j ≡ blockAt rate t j
 unfolding blockAt
-block-same rate total s t h j l =
+block-same rate pieces s t h j l =
     let k : ℕ = infoBits rate in
     bytes-same (blockBytes rate) (cut k (λ i. s (j * k + i))) (cut k (λ i. t (j * k + i))) (λ i _.
     cut-same k (λ i. s (j * k + i)) (λ i. t (j * k + i)) (λ i m. h (j * k + i) (digits-lt l m)) i)

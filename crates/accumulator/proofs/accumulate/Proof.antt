@@ -8,7 +8,8 @@ use lib.ListN.{length, getD}
 use borrow.Author.Needs.{needs}
 use Rattle.bits.specs.Pack.{val, bitAt, bit-lt, bytes-by-byte}
 use Rattle.accumulator.specs.Accumulator.{accumulate, accumulate-bits}
-use Rattle.accumulator.specs.Bytes.{bitOf, behind, behind-bit, accumulateFrom, accumulated-byte, accumulated-last, Made, made-none, made-more}
+use Rattle.accumulator.specs.Bytes.{bitOf, behind, accumulateFrom}
+use Rattle.accumulator.proofs.Places.{behind-bit, accumulated-byte, accumulated-last, Made, made-none, made-more}
 use Rattle.accumulator.proofs.accumulate.Statement.{statement}
 use Rattle.accumulator.proofs.accumulate.Tie as tie
 

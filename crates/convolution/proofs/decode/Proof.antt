@@ -8,7 +8,7 @@ use lib.ListN.{getD}
 use Rattle.bits.specs.Table.{tab}
 use Rattle.sizes.specs.Rate.{infoBits, inputBits}
 use Rattle.convolution.specs.Code.{decode}
-use Rattle.convolution.specs.Needs.{decodes-third, decodes-half, decodes-two-thirds}
+use Rattle.convolution.proofs.Rates.{decodes-third, decodes-half, decodes-two-thirds}
 use Rattle.convolution.proofs.decode.Statement.{statement}
 use Rattle.convolution.proofs.decode.Tie as tie
 

@@ -8,7 +8,7 @@ use lib.ListN.{getD}
 use Rattle.bits.specs.Table.{tab}
 use Rattle.sizes.specs.Sizes.{wordBits}
 use Rattle.convolution.specs.Code.{encode}
-use Rattle.convolution.specs.Needs.{encodes-third, encodes-half, encodes-two-thirds}
+use Rattle.convolution.proofs.Rates.{encodes-third, encodes-half, encodes-two-thirds}
 use Rattle.convolution.proofs.encode.Statement.{statement}
 use Rattle.convolution.proofs.encode.Tie as tie
 

@@ -3,7 +3,7 @@ use mathlib.Core.Path.{_∙_}
 use borrow.Author.Needs.{needs}
 use lib.ListN.{getD}
 use Rattle.convolution.specs.Code.{encode}
-use Rattle.convolution.specs.Compare.{same-made}
+use Rattle.convolution.proofs.Agreeing.{same-made}
 use Rattle.convolution.proofs.remade.Statement.{statement}
 use Rattle.convolution.proofs.remade.Tie as tie
 

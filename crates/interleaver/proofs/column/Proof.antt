@@ -6,7 +6,8 @@ use lib.ListN.{length, getD}
 use Rattle.bits.specs.Choice.{pick}
 use Rattle.bits.specs.Pack.{val}
 use Rattle.sizes.specs.Sizes.{wordBits, wordBytes}
-use Rattle.interleaver.specs.Rows.{bitFrom, wordByte, inColumn, row-on, byte-row, column-none, column-more, column-all}
+use Rattle.interleaver.specs.Rows.{bitFrom, wordByte}
+use Rattle.interleaver.proofs.Rows.{inColumn, row-on, byte-row, column-none, column-more, column-all}
 use borrow.Author.Needs.{needs}
 use Rattle.interleaver.proofs.column.Statement.{statement}
 use Rattle.interleaver.proofs.column.Tie as tie

@@ -8,7 +8,8 @@ use Rattle.bits.specs.Choice.{pick}
 use Rattle.bits.specs.Pack.{bytes-by-byte}
 use Rattle.sizes.specs.Sizes.{wordBytes}
 use Rattle.interleaver.specs.Interleaver.{interleave}
-use Rattle.interleaver.specs.Rows.{wordByte, columns-none, columns-more, columns-all}
+use Rattle.interleaver.specs.Rows.{wordByte}
+use Rattle.interleaver.proofs.Rows.{columns-none, columns-more, columns-all}
 use borrow.Author.Needs.{needs}
 use Rattle.interleaver.proofs.columns.Statement.{statement}
 use Rattle.interleaver.proofs.columns.Tie as tie

@@ -1,7 +1,7 @@
 -- `deinterleave` meets its contract: once every bit stands at its spot, the two places of coded bit x join to word bit placeBack x.
 use mathlib.Core.Path.{_∙_}
 use Rattle.bits.specs.Pack.{bitAt}
-use Rattle.interleaver.specs.Spread.{spread-zeros, spread-joined}
+use Rattle.interleaver.proofs.Spots.{spread-zeros, spread-joined}
 use borrow.Author.Needs.{needs}
 use Rattle.interleaver.proofs.deinterleave.Statement.{statement}
 use Rattle.interleaver.proofs.deinterleave.Tie as tie

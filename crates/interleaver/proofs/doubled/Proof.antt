@@ -5,7 +5,7 @@ use native.Mathlib.Omega.{arith}
 use lib.ListN.{length, getD, length-set}
 use Rattle.bits.specs.Table.{tab-made}
 use Rattle.sizes.specs.Sizes.{wordBits}
-use Rattle.interleaver.specs.Rows.{double-more}
+use Rattle.interleaver.proofs.Rows.{double-more}
 use borrow.Author.Needs.{needs}
 use Rattle.interleaver.proofs.doubled.Statement.{statement}
 use Rattle.interleaver.proofs.doubled.Tie as tie

@@ -1,11 +1,13 @@
 -- `gathered` meets its contract: v is the number of the first t bits.
-use mathlib.Core.Path.{_≡_, refl, ap, _∙_}
-use Prim.Native.Nat.{ℕ, _+_, _-_, _≤_}
+use mathlib.Core.Path.{_≡_, refl, ap, ap₂, _∙_}
+use Prim.Native.Nat.{ℕ, _+_, _-_, _*_, _%_, _≤_}
 use native.Mathlib.Omega.{arith}
+use lib.Bits.{bitOr}
 use lib.ListN.{getD}
 use Rattle.bits.specs.Pack.{val}
+use Rattle.bits.specs.Loops.{push}
 use Rattle.interleaver.specs.Interleaver.{place, place-lt}
-use Rattle.interleaver.specs.Rows.{bitFrom, push}
+use Rattle.interleaver.specs.Rows.{bitFrom}
 use borrow.Author.Needs.{needs}
 use Rattle.interleaver.proofs.gathered.Statement.{statement}
 use Rattle.interleaver.proofs.gathered.Tie as tie
@@ -52,8 +54,12 @@ loop-again c =
     let a = c .before .before .before .before in
     let l = c .before .before .before .loop in
     let xs = a .args .twice .now in
-    let here = a .pre .0 .places (a .args .col + l .t) (omega arith) in
-    (search needs, push (bitFrom xs (a .args .base) (a .args .col)) (λ t. a .pre .0 .bits (a .args .base + place (a .args .col + t))) (l .t) (l .v) (getD xs (a .args .base + getD (a .args .off .now) (a .args .col + l .t) 0) 0) (search needs) (l .inv .1) (ap (λ (p : ℕ). getD xs (a .args .base + p) 0) here))
+    let f : ℕ → ℕ = bitFrom xs (a .args .base) (a .args .col) in
+    let here = a .pre .0 .places (a .args .col + l .t) (omega arith) in (
+      search needs,
+      ap₂ (λ (v b : ℕ). bitOr (v * 2 % 256) b) (l .inv .1) (ap (λ (p : ℕ). getD xs (a .args .base + p) 0) here)
+          ∙ push 8 f (l .t) (λ t. a .pre .0 .bits (a .args .base + place (a .args .col + t))) (omega arith),
+    )
 
 returns : tie.Need-returns Inv-loop μ-loop
 returns c =

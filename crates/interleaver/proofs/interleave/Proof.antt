@@ -1,6 +1,6 @@
 -- `interleave` meets its contract: the bits laid out twice make the same word.
 use mathlib.Core.Path.{_∙_}
-use Rattle.interleaver.specs.Rows.{ready, same-word}
+use Rattle.interleaver.proofs.Rows.{ready, same-word}
 use borrow.Author.Needs.{needs}
 use Rattle.interleaver.proofs.interleave.Statement.{statement}
 use Rattle.interleaver.proofs.interleave.Tie as tie

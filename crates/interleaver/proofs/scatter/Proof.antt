@@ -4,8 +4,9 @@ use Prim.Native.Nat.{ℕ, _+_, _-_, _*_, _%_, _≤_}
 use native.Mathlib.Omega.{arith}
 use Rattle.bits.specs.Pack.{bitAt}
 use Rattle.sizes.specs.Sizes.{wordBits}
-use Rattle.interleaver.specs.Rows.{row-on}
-use Rattle.interleaver.specs.Spread.{Spread, spread-is}
+use Rattle.interleaver.proofs.Rows.{row-on}
+use Rattle.interleaver.specs.Spread.{Spread}
+use Rattle.interleaver.proofs.Spots.{spread-is}
 use borrow.Author.Needs.{needs}
 use Rattle.interleaver.proofs.scatter.Statement.{statement}
 use Rattle.interleaver.proofs.scatter.Tie as tie

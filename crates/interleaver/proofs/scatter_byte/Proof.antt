@@ -8,8 +8,10 @@ use lib.ListN.{length, getD, set}
 use Rattle.bits.specs.Table.{length-tab}
 use Rattle.bits.specs.Pack.{bitAt}
 use Rattle.interleaver.specs.Interleaver.{place}
-use Rattle.interleaver.specs.Rows.{spot, spot-lt}
-use Rattle.interleaver.specs.Spread.{Spread, spread-is, spread-more, spot-at, bit-shifted}
+use Rattle.interleaver.specs.Rows.{spot}
+use Rattle.interleaver.proofs.Rows.{spot-lt}
+use Rattle.interleaver.specs.Spread.{Spread}
+use Rattle.interleaver.proofs.Spots.{spread-is, spread-more, spot-at, bit-shifted}
 use borrow.Author.Needs.{needs}
 use Rattle.interleaver.proofs.scatter_byte.Statement.{statement}
 use Rattle.interleaver.proofs.scatter_byte.Tie as tie

@@ -4,7 +4,8 @@ use Prim.Native.Nat.{ℕ, _+_, _-_, _*_, _/_, _%_, _≤_}
 use native.Mathlib.Omega.{arith}
 use Rattle.bits.specs.Pack.{bitAt}
 use Rattle.sizes.specs.Sizes.{wordBits}
-use Rattle.interleaver.specs.Spread.{Spread, spread-is}
+use Rattle.interleaver.specs.Spread.{Spread}
+use Rattle.interleaver.proofs.Spots.{spread-is}
 use borrow.Author.Needs.{needs}
 use Rattle.interleaver.proofs.scatter_row.Statement.{statement}
 use Rattle.interleaver.proofs.scatter_row.Tie as tie

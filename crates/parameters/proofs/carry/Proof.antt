@@ -12,10 +12,10 @@ use Rattle.parameters.proofs.carry.Statement.{statement}
 use Rattle.parameters.proofs.carry.Tie as tie
 
 abbrev Inv-loop : tie.InvT-loop
-Inv-loop f marker count marks₀ i₀ marks i = (i ≤ count) × (length marks ≡ 32) × ((k : ℕ) → k < 32 → getD marks k 0 ≡ cut i (λ j. getD marker j 0) k)
+Inv-loop f marker markers marks₀ i₀ marks i = (i ≤ markers) × (length marks ≡ 32) × ((k : ℕ) → k < 32 → getD marks k 0 ≡ cut i (λ j. getD marker j 0) k)
 
 abbrev μ-loop : tie.MeasureT-loop
-μ-loop f marker count marks₀ i₀ marks i = count - i
+μ-loop f marker markers marks₀ i₀ marks i = markers - i
 
 lent-marks-requires : tie.Need-lent-marks-requires Inv-loop μ-loop
 lent-marks-requires c κs = search needs

@@ -16,8 +16,8 @@ symbols-per-word-requires c κs = search needs
 block-count-requires : tie.Need-block-count-requires
 block-count-requires c κs = search needs
 
-sequence-rows-requires : tie.Need-sequence-rows-requires
-sequence-rows-requires c κs = search needs
+line-count-requires : tie.Need-line-count-requires
+line-count-requires c κs = search needs
 
 returns : tie.Need-returns
 unfolding planOf
@@ -31,8 +31,8 @@ returns c =
       words = c .before .block-count .ensures i;
       rows = q .fields .rows;
       step = q .fields .step;
-      lines = c .sequence-rows .ensures i;
-      count = q .count;
+      lines = c .line-count .ensures i;
+      count = q .markers;
       marks = q .marks;
     }
 
@@ -44,5 +44,5 @@ plan-of-spec =
     slots-per-symbol-requires
     symbols-per-word-requires
     block-count-requires
-    sequence-rows-requires
+    line-count-requires
     returns)

@@ -12,10 +12,10 @@ use Rattle.quantities.proofs.symbol_count.Tie as tie
 returns : tie.Need-returns
 unfolding symbolCount
 returns c =
-    ap₂ (λ (r s : ℕ). r * (s + c .before .before .before .args .f .markers)) (c .before .before .sequence-rows .ensures) (c .before .symbols-per-word .ensures)
+    ap₂ (λ (r s : ℕ). r * (s + c .before .before .before .args .f .markers)) (c .before .before .line-count .ensures) (c .before .symbols-per-word .ensures)
 
-sequence-rows-requires : tie.Need-sequence-rows-requires
-sequence-rows-requires c κs = search needs
+line-count-requires : tie.Need-line-count-requires
+line-count-requires c κs = search needs
 
 symbols-per-word-requires : tie.Need-symbols-per-word-requires
 symbols-per-word-requires c κs = search needs
@@ -26,10 +26,10 @@ add-result c = omega (arith, symbols-most (c .before .before .before .args .f) (
 mul-result : tie.Need-mul-result
 mul-result c =
     let f = c .before .before .before .args .f in
-    let e : c .before .before .sequence-rows .result * (c .before .symbols-per-word .result + f .markers) ≡ symbolCount f = returns c in
+    let e : c .before .before .line-count .result * (c .before .symbols-per-word .result + f .markers) ≡ symbolCount f = returns c in
     omega (arith, symbol-most f (c .before .before .before .pre))
 
 pub symbol-count-spec : {M : Type 1} → statement M
 symbol-count-spec =
     tie.close
-    (tie.spec sequence-rows-requires symbols-per-word-requires add-result mul-result returns)
+    (tie.spec line-count-requires symbols-per-word-requires add-result mul-result returns)

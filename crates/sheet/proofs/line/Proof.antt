@@ -1,12 +1,12 @@
 -- A refusal's line is `no` and its number; past it the header is good, and its fields are valid.
 use mathlib.Core.Path.{_≡_, sym, ap, _∙_}
-use Rattle.answers.specs.Answer.{numberOf}
 use Rattle.answers.specs.declared.Answer.the-variants.{Done}
 use Rattle.answers.proofs.Refused.{not-done}
 use Rattle.questions.specs.Questions.{headerSays}
 use Rattle.questions.specs.Good.{header-good}
-use Rattle.sheet.specs.Text.{put-counts}
-use Rattle.sheet.specs.Line.{noLine, runLine, printed, line-no, line-run}
+use Rattle.sheet.proofs.Pieces.{put-counts}
+use Rattle.sheet.specs.Line.{noLine, runLine}
+use Rattle.sheet.proofs.Pieces.{printed, line-no, line-run}
 use borrow.Author.Needs.{needs}
 use Rattle.sheet.proofs.line.Statement.{statement}
 use Rattle.sheet.proofs.line.Tie as tie

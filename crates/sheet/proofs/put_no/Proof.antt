@@ -1,6 +1,7 @@
 -- `no`, and behind it the number as the one item.
 use mathlib.Core.List.{[], _∷_}
-use Rattle.sheet.specs.Text.{items, put-put}
+use Rattle.sheet.specs.Text.{items}
+use Rattle.sheet.proofs.Pieces.{put-put}
 use Rattle.sheet.specs.Line.{noLine}
 use borrow.Author.Needs.{needs}
 use Rattle.sheet.proofs.put_no.Statement.{statement}

@@ -2,7 +2,8 @@
 use mathlib.Core.Path.{ap₂}
 use mathlib.Core.List.{List, _++_}
 use Prim.Native.Nat.{ℕ}
-use Rattle.sheet.specs.Text.{items, put-same, put-put}
+use Rattle.sheet.specs.Text.{items}
+use Rattle.sheet.proofs.Pieces.{put-same, put-put}
 use Rattle.sheet.specs.Line.{runLine}
 use borrow.Author.Needs.{needs}
 use Rattle.sheet.proofs.put_run.Statement.{statement}

@@ -39,7 +39,7 @@ loop-again c =
     let f : ℕ → ℕ = λ i. getD (a .bits .now) (a .at + i) 0 in (
       search needs,
       ap₂ (λ (v b : ℕ). bitOr (v * 2 % 2 ^ 64) b) (l .inv .1) (c .bit-or-zero .ensures)
-          ∙ push f (l .t) (λ i. c .before .before .before .before .pre .1 (a .at + i)) (omega arith),
+          ∙ push 64 f (l .t) (λ i. c .before .before .before .before .pre .1 (a .at + i)) (omega arith),
     )
 
 returns : tie.Need-returns Inv-loop μ-loop

@@ -43,7 +43,7 @@ loop-again c =
     let f : ℕ → ℕ = λ i. getD (a .bits .now) (a .at + i) 0 in (
       search needs,
       ap (λ (v : ℕ). bitOr (v * 2 % 2 ^ 64) (f (l .t))) (l .inv .1)
-          ∙ push f (l .t) (λ i. c .before .before .before .pre .2 (a .at + i)) (omega arith),
+          ∙ push 64 f (l .t) (λ i. c .before .before .before .pre .2 (a .at + i)) (omega arith),
     )
 
 returns : tie.Need-returns Inv-loop μ-loop

@@ -4,7 +4,8 @@ use Prim.Native.Nat.{ℕ, _+_, _-_, _*_, _≤_}
 use native.Mathlib.Omega.{arith}
 use borrow.Author.Needs.{needs}
 use lib.ListN.{getD, length-set}
-use Rattle.convolution.specs.Turns.{Decoded, filled-none, filled-all, carried-none, decoded-on, pairs-even, pairs-odd}
+use Rattle.convolution.proofs.Decoding.{Decoded, carried-none, decoded-on, pairs-even, pairs-odd}
+use Rattle.convolution.proofs.Filling.{filled-none, filled-all}
 use Rattle.convolution.proofs.back.pairs.Statement.{statement}
 use Rattle.convolution.proofs.back.pairs.Tie as tie
 

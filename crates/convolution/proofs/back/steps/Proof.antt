@@ -5,7 +5,8 @@ use native.Mathlib.Omega.{arith}
 use borrow.Author.Needs.{needs}
 use lib.ListN.{getD}
 use Rattle.sizes.specs.Sizes.{wordBits}
-use Rattle.convolution.specs.Turns.{Decoded, filled-none, filled-all, carried-none, decoded-on, steps-place, steps-fit}
+use Rattle.convolution.proofs.Decoding.{Decoded, carried-none, decoded-on, steps-place, steps-fit}
+use Rattle.convolution.proofs.Filling.{filled-none, filled-all}
 use Rattle.convolution.proofs.back.steps.Statement.{statement}
 use Rattle.convolution.proofs.back.steps.Tie as tie
 

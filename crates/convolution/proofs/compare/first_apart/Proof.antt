@@ -18,11 +18,11 @@ abbrev μ-loop : tie.MeasureT-loop
 loop-holds : tie.Need-loop-holds Inv-loop μ-loop
 loop-holds c = (search needs, refl)
 
-mul-difference : tie.Need-mul-difference Inv-loop μ-loop
-mul-difference c = search needs
+mul-stretch-apart : tie.Need-mul-stretch-apart Inv-loop μ-loop
+mul-stretch-apart c = search needs
 
-difference-requires : tie.Need-difference-requires Inv-loop μ-loop
-difference-requires c κs = (c .before .before .before .before .pre, omega arith)
+stretch-apart-requires : tie.Need-stretch-apart-requires Inv-loop μ-loop
+stretch-apart-requires c κs = (c .before .before .before .before .pre, omega arith)
 
 mul-search : tie.Need-mul-search Inv-loop μ-loop
 mul-search c = search needs
@@ -46,7 +46,7 @@ loop-again c =
     let p = sameAt (s .args .made .now) (s .args .coded .now) in
     let e : (at .t + 1) * 240 ≡ at .t * 240 + 240 = omega arith in (
       search needs,
-      ap (λ (i : ℕ). upTo p i wordBits) e ∙ first-skip p 240 wordBits (at .t * 240) (omega arith) (c .before .difference .ensures (c .if1 .left)) ∙ at .inv .1,
+      ap (λ (i : ℕ). upTo p i wordBits) e ∙ first-skip p 240 wordBits (at .t * 240) (omega arith) (c .before .stretch-apart .ensures (c .if1 .left)) ∙ at .inv .1,
     )
 
 returns-2 : tie.Need-returns-2 Inv-loop μ-loop
@@ -62,8 +62,8 @@ first-apart-spec =
     Inv-loop
     μ-loop
     loop-holds
-    mul-difference
-    difference-requires
+    mul-stretch-apart
+    stretch-apart-requires
     mul-search
     search-requires
     returns

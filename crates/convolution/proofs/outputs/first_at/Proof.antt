@@ -1,7 +1,7 @@
 -- `first_at` meets its contract: at the first two input bits the bit two places earlier is a zero, which adds nothing.
 use mathlib.Core.Path.{sym}
 use lib.ListN.{getD}
-use Rattle.convolution.specs.Turns.{first-early, first-late}
+use Rattle.convolution.proofs.Taps.{first-early, first-late}
 use borrow.Author.Needs.{needs}
 use Rattle.convolution.proofs.outputs.first_at.Statement.{statement}
 use Rattle.convolution.proofs.outputs.first_at.Tie as tie

@@ -2,7 +2,7 @@
 use mathlib.Core.Path.{sym}
 use borrow.Author.Needs.{needs}
 use lib.ListN.{getD}
-use Rattle.convolution.specs.Turns.{second-late}
+use Rattle.convolution.proofs.Taps.{second-late}
 use Rattle.convolution.proofs.outputs.second_at.Statement.{statement}
 use Rattle.convolution.proofs.outputs.second_at.Tie as tie
 

@@ -3,7 +3,7 @@ use mathlib.Core.Path.{_≡_, sym}
 use native.Mathlib.Omega.{arith}
 use borrow.Author.Needs.{needs}
 use lib.ListN.{getD}
-use Rattle.convolution.specs.Turns.{second-zero, second-one}
+use Rattle.convolution.proofs.Taps.{second-zero, second-one}
 use Rattle.convolution.proofs.outputs.second_early.Statement.{statement}
 use Rattle.convolution.proofs.outputs.second_early.Tie as tie
 

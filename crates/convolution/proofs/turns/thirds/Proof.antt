@@ -6,7 +6,7 @@ use borrow.Author.Needs.{needs}
 use lib.ListN.{getD}
 use Rattle.sizes.specs.Sizes.{wordBits}
 use Rattle.convolution.specs.Code.{encode}
-use Rattle.convolution.specs.Turns.{Filled, filled-none, fill-three, filled-all}
+use Rattle.convolution.proofs.Filling.{Filled, filled-none, fill-three, filled-all}
 use Rattle.convolution.proofs.turns.thirds.Statement.{statement}
 use Rattle.convolution.proofs.turns.thirds.Tie as tie
 

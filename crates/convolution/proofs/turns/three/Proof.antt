@@ -5,7 +5,7 @@ use native.Mathlib.Omega.{arith}
 use borrow.Author.Needs.{needs}
 use lib.ListN.{length, getD, length-set}
 use Rattle.convolution.specs.Code.{encode}
-use Rattle.convolution.specs.Turns.{put-three, threes-first, threes-second, threes-last, threes-fit}
+use Rattle.convolution.proofs.Filling.{put-three, threes-first, threes-second, threes-last, threes-fit}
 use Rattle.convolution.proofs.turns.three.Statement.{statement}
 use Rattle.convolution.proofs.turns.three.Tie as tie
 

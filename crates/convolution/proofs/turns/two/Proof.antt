@@ -5,7 +5,7 @@ use native.Mathlib.Omega.{arith}
 use borrow.Author.Needs.{needs}
 use lib.ListN.{getD, length-set}
 use Rattle.convolution.specs.Code.{encode, half-first, half-second}
-use Rattle.convolution.specs.Turns.{put-two}
+use Rattle.convolution.proofs.Filling.{put-two}
 use Rattle.convolution.proofs.turns.two.Statement.{statement}
 use Rattle.convolution.proofs.turns.two.Tie as tie
 

@@ -8,18 +8,18 @@ use Rattle.bits.specs.Stretch.{Laid, laid-none}
 use Rattle.sizes.specs.Sizes.{markerBits, span}
 use Rattle.sizes.specs.Rate.{infoBits, blockBytes, info-le, info-pos}
 use Rattle.frames.specs.Frames.{joined}
-use Rattle.frames.proofs.Rooms.{total-room, held-at, piece-le, span-fits, frame-held, bytes-fit}
+use Rattle.frames.proofs.Rooms.{pieces-room, held-at, piece-le, span-fits, frame-held, bytes-fit}
 use Rattle.frames.proofs.Bytes.{made-more}
 use borrow.Author.Needs.{needs}
 use Rattle.frames.proofs.back.frame_out.Statement.{statement}
 use Rattle.frames.proofs.back.frame_out.Tie as tie
 
 abbrev Inv-loop : tie.InvT-loop
-Inv-loop rate blocks total size count j frames₀ k start at₀ u₀ frames at u =
+Inv-loop rate blocks pieces size count j frames₀ k start at₀ u₀ frames at u =
     (u ≤ size) × Laid frames₀ start u (λ t. joined rate (piece (blockBytes rate) blocks) (j * span size + markerBits + t)) frames × At (infoBits rate) (j * span size + markerBits + 8 * u) at
 
 abbrev μ-loop : tie.MeasureT-loop
-μ-loop rate blocks total size count j frames₀ k start at₀ u₀ frames at u = size - u
+μ-loop rate blocks pieces size count j frames₀ k start at₀ u₀ frames at u = size - u
 
 info-bits-requires : tie.Need-info-bits-requires Inv-loop μ-loop
 info-bits-requires c κs =
@@ -40,8 +40,8 @@ mul-place-of : tie.Need-mul-place-of Inv-loop μ-loop
 mul-place-of c =
     let s = c .before .before .before .before in
     let a = s .args in
-    let fit : a .j * span (a .size) + span (a .size) ≤ a .total * infoBits (a .rate) = span-fits (s .pre .0) (a .j) (s .pre .1) in
-    let room = total-room (a .rate) (a .total) (s .pre .0 .total2) in
+    let fit : a .j * span (a .size) + span (a .size) ≤ a .pieces * infoBits (a .rate) = span-fits (s .pre .0) (a .j) (s .pre .1) in
+    let room = pieces-room (a .rate) (a .pieces) (s .pre .0 .pieces2) in
     let e : a .j * c .span .result ≡ a .j * span (a .size) = ap (λ (k : ℕ). a .j * k) (c .span .ensures) in
     omega arith
 
@@ -49,8 +49,8 @@ add-place-of : tie.Need-add-place-of Inv-loop μ-loop
 add-place-of c =
     let s = c .before .before .before .before in
     let a = s .args in
-    let fit : a .j * span (a .size) + span (a .size) ≤ a .total * infoBits (a .rate) = span-fits (s .pre .0) (a .j) (s .pre .1) in
-    let room = total-room (a .rate) (a .total) (s .pre .0 .total2) in
+    let fit : a .j * span (a .size) + span (a .size) ≤ a .pieces * infoBits (a .rate) = span-fits (s .pre .0) (a .j) (s .pre .1) in
+    let room = pieces-room (a .rate) (a .pieces) (s .pre .0 .pieces2) in
     let e : a .j * c .span .result ≡ a .j * span (a .size) = ap (λ (k : ℕ). a .j * k) (c .span .ensures) in
     omega arith
 

@@ -14,11 +14,11 @@ use Rattle.frames.proofs.back.frames_out.Statement.{statement}
 use Rattle.frames.proofs.back.frames_out.Tie as tie
 
 abbrev Inv-loop : tie.InvT-loop
-Inv-loop rate blocks total size count frames₀ j₀ frames j =
+Inv-loop rate blocks pieces size count frames₀ j₀ frames j =
     (j ≤ count) × Laid frames₀ 0 (j * size) (λ y. joined rate (piece (blockBytes rate) blocks) (framePlace size y)) frames
 
 abbrev μ-loop : tie.MeasureT-loop
-μ-loop rate blocks total size count frames₀ j₀ frames j = count - j
+μ-loop rate blocks pieces size count frames₀ j₀ frames j = count - j
 
 loop-holds : tie.Need-loop-holds Inv-loop μ-loop
 loop-holds c =

@@ -77,7 +77,7 @@ loop-again c =
     let st : ℕ → ℕ = joined (a .rate) (piece (blockBytes (a .rate)) (a .blocks .now)) in
     let z : x + l .t + 1 ≡ x + (l .t + 1) = omega arith in (
       search needs,
-      ap₂ (λ (v b : ℕ). bitOr (v * 2 % 2 ^ 64) b) (l .inv .1) (c .before .joined-bit .ensures ∙ ap st (l .inv .2 .place)) ∙ push f (l .t) b (omega arith),
+      ap₂ (λ (v b : ℕ). bitOr (v * 2 % 2 ^ 64) b) (l .inv .1) (c .before .joined-bit .ensures ∙ ap st (l .inv .2 .place)) ∙ push 64 f (l .t) b (omega arith),
       at-same z (at-on 1 (c .before .before .before .before .info-bits .ensures) (l .inv .2) (c .place-after .ensures)),
     )
 

@@ -8,17 +8,17 @@ use Rattle.bits.specs.Places.{At, at-on}
 use Rattle.sizes.specs.Rate.{infoBits, blockBytes, info-le, info-pos}
 use Rattle.frames.specs.Frames.{joined, zeroAt}
 use Rattle.frames.specs.Needs.{Held}
-use Rattle.frames.proofs.Rooms.{total-room, held-at, piece-le, block-fit}
+use Rattle.frames.proofs.Rooms.{pieces-room, held-at, piece-le, block-fit}
 use Rattle.frames.proofs.Fill.{fill-on, fill-here}
 use Rattle.frames.proofs.questions.first_fill.Statement.{statement}
 use Rattle.frames.proofs.questions.first_fill.Tie as tie
 
 abbrev Inv-loop : tie.InvT-loop
-Inv-loop rate blocks total from k end at₀ x₀ at x =
-    (x ≤ total * infoBits rate) × (upTo (zeroAt (joined rate (piece (blockBytes rate) blocks))) x (total * infoBits rate) ≡ upTo (zeroAt (joined rate (piece (blockBytes rate) blocks))) from (total * infoBits rate)) × At (infoBits rate) x at
+Inv-loop rate blocks pieces from k end at₀ x₀ at x =
+    (x ≤ pieces * infoBits rate) × (upTo (zeroAt (joined rate (piece (blockBytes rate) blocks))) x (pieces * infoBits rate) ≡ upTo (zeroAt (joined rate (piece (blockBytes rate) blocks))) from (pieces * infoBits rate)) × At (infoBits rate) x at
 
 abbrev μ-loop : tie.MeasureT-loop
-μ-loop rate blocks total from k end at₀ x₀ at x = total * infoBits rate - x
+μ-loop rate blocks pieces from k end at₀ x₀ at x = pieces * infoBits rate - x
 
 info-bits-requires : tie.Need-info-bits-requires Inv-loop μ-loop
 info-bits-requires c κs =
@@ -27,7 +27,7 @@ info-bits-requires c κs =
 mul-end : tie.Need-mul-end Inv-loop μ-loop
 mul-end c =
     let s = c .before .before in
-    let w = total-room (s .args .rate) (s .args .total) (s .pre .0 .total2) in
+    let w = pieces-room (s .args .rate) (s .args .pieces) (s .pre .0 .pieces2) in
     rw (c .info-bits .ensures) (record { fits = omega arith })
 
 place-of-requires : tie.Need-place-of-requires Inv-loop μ-loop
@@ -47,25 +47,25 @@ zeros-at-requires c κs =
     let s = c .before .before .before .before .before in
     let a = s .args in
     let l = c .before .loop in
-    let e = ap (λ (k : ℕ). a .total * k) (c .before .before .before .info-bits .ensures) in
-    let held : Held (a .rate) (a .blocks .now) (l .x) 1 = record { total = a .total; lie = s .pre .0; fit = omega arith } in
+    let e = ap (λ (k : ℕ). a .pieces * k) (c .before .before .before .info-bits .ensures) in
+    let held : Held (a .rate) (a .blocks .now) (l .x) 1 = record { pieces = a .pieces; lie = s .pre .0; fit = omega arith } in
     held-at held (l .x) 1 (l .inv .2) (omega arith)
 
 returns : tie.Need-returns Inv-loop μ-loop
 returns c =
     let a = c .before .before .before .before .before .before .before .args in
     let l = c .before .before .before .loop in
-    let e = ap (λ (k : ℕ). a .total * k) (c .before .before .before .before .before .info-bits .ensures) in
+    let e = ap (λ (k : ℕ). a .pieces * k) (c .before .before .before .before .before .info-bits .ensures) in
     let st : ℕ → ℕ = joined (a .rate) (piece (blockBytes (a .rate)) (a .blocks .now)) in
-    sym (sym (l .inv .1) ∙ fill-here (a .rate) st (l .x) (a .total * infoBits (a .rate)) _ (l .at) (c .before .zeros-at .ensures) (l .inv .2) (omega arith) (omega arith))
+    sym (sym (l .inv .1) ∙ fill-here (a .rate) st (l .x) (a .pieces * infoBits (a .rate)) _ (l .at) (c .before .zeros-at .ensures) (l .inv .2) (omega arith) (omega arith))
 
 place-after-requires : tie.Need-place-after-requires Inv-loop μ-loop
 place-after-requires c κs =
     let s = c .before .before .before .before .before .before .before in
     let a = s .args in
     let l = c .before .before .before .loop in
-    let e = ap (λ (k : ℕ). a .total * k) (c .before .before .before .before .before .info-bits .ensures) in
-    let held : Held (a .rate) (a .blocks .now) (l .x) 1 = record { total = a .total; lie = s .pre .0; fit = omega arith } in
+    let e = ap (λ (k : ℕ). a .pieces * k) (c .before .before .before .before .before .info-bits .ensures) in
+    let held : Held (a .rate) (a .blocks .now) (l .x) 1 = record { pieces = a .pieces; lie = s .pre .0; fit = omega arith } in
     let p = piece-le (a .rate) 1 (a .blocks .now) (l .at) (held-at held (l .x) 1 (l .inv .2) (omega arith)) (omega arith) in
     let k = c .before .before .before .before .before .info-bits .ensures in
     let w = info-le (a .rate) in
@@ -78,11 +78,11 @@ add-x c =
     let s = c .before .before .before .before .before .before .before .before in
     let a = s .args in
     let l = c .before .before .before .before .loop in
-    let e = ap (λ (k : ℕ). a .total * k) (c .before .before .before .before .before .before .info-bits .ensures) in
+    let e = ap (λ (k : ℕ). a .pieces * k) (c .before .before .before .before .before .before .info-bits .ensures) in
     let z = c .before .before .zeros-at .ensures in
     let n = c .before .before .zeros-at .result in
-    let fit : l .x + n ≤ a .total * infoBits (a .rate) = block-fit (a .rate) (a .total) n (l .inv .2) (omega arith) (z .inside) in
-    let w = total-room (a .rate) (a .total) (s .pre .0 .total2) in
+    let fit : l .x + n ≤ a .pieces * infoBits (a .rate) = block-fit (a .rate) (a .pieces) n (l .inv .2) (omega arith) (z .inside) in
+    let w = pieces-room (a .rate) (a .pieces) (s .pre .0 .pieces2) in
     omega arith
 
 loop-less : tie.Need-loop-less Inv-loop μ-loop
@@ -90,10 +90,10 @@ loop-less c =
     let s = c .before .before .before .before .before .before .before .before in
     let a = s .args in
     let l = c .before .before .before .before .loop in
-    let e = ap (λ (k : ℕ). a .total * k) (c .before .before .before .before .before .before .info-bits .ensures) in
+    let e = ap (λ (k : ℕ). a .pieces * k) (c .before .before .before .before .before .before .info-bits .ensures) in
     let z = c .before .before .zeros-at .ensures in
     let n = c .before .before .zeros-at .result in
-    let fit : l .x + n ≤ a .total * infoBits (a .rate) = block-fit (a .rate) (a .total) n (l .inv .2) (omega arith) (z .inside) in
+    let fit : l .x + n ≤ a .pieces * infoBits (a .rate) = block-fit (a .rate) (a .pieces) n (l .inv .2) (omega arith) (z .inside) in
     omega arith
 
 loop-again : tie.Need-loop-again Inv-loop μ-loop
@@ -101,22 +101,22 @@ loop-again c =
     let s = c .before .before .before .before .before .before .before .before in
     let a = s .args in
     let l = c .before .before .before .before .loop in
-    let e = ap (λ (k : ℕ). a .total * k) (c .before .before .before .before .before .before .info-bits .ensures) in
+    let e = ap (λ (k : ℕ). a .pieces * k) (c .before .before .before .before .before .before .info-bits .ensures) in
     let z = c .before .before .zeros-at .ensures in
     let n = c .before .before .zeros-at .result in
-    let fit : l .x + n ≤ a .total * infoBits (a .rate) = block-fit (a .rate) (a .total) n (l .inv .2) (omega arith) (z .inside) in
+    let fit : l .x + n ≤ a .pieces * infoBits (a .rate) = block-fit (a .rate) (a .pieces) n (l .inv .2) (omega arith) (z .inside) in
     let st : ℕ → ℕ = joined (a .rate) (piece (blockBytes (a .rate)) (a .blocks .now)) in
-    (fit, fill-on (a .rate) st (l .x) (a .total * infoBits (a .rate)) n (l .at) z (l .inv .2) fit ∙ l .inv .1, at-on n (c .before .before .before .before .before .before .info-bits .ensures) (l .inv .2) (c .place-after .ensures))
+    (fit, fill-on (a .rate) st (l .x) (a .pieces * infoBits (a .rate)) n (l .at) z (l .inv .2) fit ∙ l .inv .1, at-on n (c .before .before .before .before .before .before .info-bits .ensures) (l .inv .2) (c .place-after .ensures))
 
 returns-2 : tie.Need-returns-2 Inv-loop μ-loop
 returns-2 c =
     let a = c .before .before .before .before .before .args in
     let l = c .before .loop in
-    let e = ap (λ (k : ℕ). a .total * k) (c .before .before .before .info-bits .ensures) in
+    let e = ap (λ (k : ℕ). a .pieces * k) (c .before .before .before .info-bits .ensures) in
     let st : ℕ → ℕ = joined (a .rate) (piece (blockBytes (a .rate)) (a .blocks .now)) in
-    let h : a .total * infoBits (a .rate) ≤ l .x = omega arith in
-    let q : l .x ≡ a .total * infoBits (a .rate) = omega arith in
-    q ∙ sym (sym (l .inv .1) ∙ first-end (zeroAt st) (a .total * infoBits (a .rate)) (l .x) h (l .inv .0))
+    let h : a .pieces * infoBits (a .rate) ≤ l .x = omega arith in
+    let q : l .x ≡ a .pieces * infoBits (a .rate) = omega arith in
+    q ∙ sym (sym (l .inv .1) ∙ first-end (zeroAt st) (a .pieces * infoBits (a .rate)) (l .x) h (l .inv .0))
 
 pub first-fill-spec : {M : Type 1} → statement M
 first-fill-spec =

@@ -9,17 +9,17 @@ use Rattle.bits.specs.Pieces.{piece}
 use Rattle.sizes.specs.Sizes.{frameMarker, markerBits, span as Sizes·span}
 use Rattle.sizes.specs.Rate.{infoBits, blockBytes}
 use Rattle.frames.specs.Frames.{joined, marked, firstUnmarked}
-use Rattle.frames.proofs.Rooms.{total-room, span-fits, marker-held}
+use Rattle.frames.proofs.Rooms.{pieces-room, span-fits, marker-held}
 use borrow.Author.Needs.{needs}
 use Rattle.frames.proofs.questions.first_unmarked.Statement.{statement}
 use Rattle.frames.proofs.questions.first_unmarked.Tie as tie
 
 abbrev Inv-loop : tie.InvT-loop
-Inv-loop rate blocks total size count span j₀ j =
+Inv-loop rate blocks pieces size count span j₀ j =
     (j ≤ count) × (upTo (marked size (joined rate (piece (blockBytes rate) blocks))) j count ≡ upTo (marked size (joined rate (piece (blockBytes rate) blocks))) 0 count)
 
 abbrev μ-loop : tie.MeasureT-loop
-μ-loop rate blocks total size count span j₀ j = count - j
+μ-loop rate blocks pieces size count span j₀ j = count - j
 
 span-requires : tie.Need-span-requires Inv-loop μ-loop
 span-requires c κs =
@@ -36,8 +36,8 @@ mul-marker-at c =
     let a = s .args in
     let l = c .before .loop in
     let e : l .j * c .before .before .span .result ≡ l .j * Sizes·span (a .size) = ap (λ (k : ℕ). l .j * k) (c .before .before .span .ensures) in
-    let fit : l .j * Sizes·span (a .size) + Sizes·span (a .size) ≤ a .total * infoBits (a .rate) = span-fits (s .pre) (l .j) (omega arith) in
-    let room = total-room (a .rate) (a .total) (s .pre .total2) in
+    let fit : l .j * Sizes·span (a .size) + Sizes·span (a .size) ≤ a .pieces * infoBits (a .rate) = span-fits (s .pre) (l .j) (omega arith) in
+    let room = pieces-room (a .rate) (a .pieces) (s .pre .pieces2) in
     omega arith
 
 marker-at-requires : tie.Need-marker-at-requires Inv-loop μ-loop

@@ -7,7 +7,7 @@ use Rattle.bits.specs.Pieces.{piece}
 use Rattle.sizes.specs.Sizes.{span}
 use Rattle.sizes.specs.Rate.{infoBits, blockBytes}
 use Rattle.frames.specs.Frames.{joined, zeroAt}
-use Rattle.frames.proofs.Rooms.{total-room, judged-blocks}
+use Rattle.frames.proofs.Rooms.{pieces-room, judged-blocks}
 use Rattle.frames.proofs.Answers.{say-unmarked, say-fill, say-done}
 use borrow.Author.Needs.{needs}
 use Rattle.frames.proofs.questions.judge.Statement.{statement}
@@ -20,7 +20,7 @@ returns : tie.Need-returns
 returns c =
     let a = c .before .before .before .args in
     let st : ℕ → ℕ = joined (a .rate) (piece (blockBytes (a .rate)) (a .blocks .now)) in
-    say-unmarked (a .size) (a .count) (a .total * infoBits (a .rate)) (c .before .first-unmarked .result) st (c .before .first-unmarked .ensures) (c .if1 .taken)
+    say-unmarked (a .size) (a .count) (a .pieces * infoBits (a .rate)) (c .before .first-unmarked .result) st (c .before .first-unmarked .ensures) (c .if1 .taken)
 
 info-bits-requires : tie.Need-info-bits-requires
 info-bits-requires c κs = search needs
@@ -28,7 +28,7 @@ info-bits-requires c κs = search needs
 mul-end : tie.Need-mul-end
 mul-end c =
     let s = c .before .before .before .before in
-    let room = total-room (s .args .rate) (s .args .total) (s .pre .total2) in
+    let room = pieces-room (s .args .rate) (s .args .pieces) (s .pre .pieces2) in
     rw (c .info-bits .ensures) (record { fits = omega arith })
 
 span-requires : tie.Need-span-requires
@@ -40,7 +40,7 @@ mul-first-fill c =
     let a = s .args in
     let e : a .count * c .span .result ≡ a .count * span (a .size) = ap (λ (k : ℕ). a .count * k) (c .span .ensures) in
     let fit = s .pre .fit in
-    let room = total-room (a .rate) (a .total) (s .pre .total2) in
+    let room = pieces-room (a .rate) (a .pieces) (s .pre .pieces2) in
     omega arith
 
 first-fill-requires : tie.Need-first-fill-requires
@@ -57,8 +57,8 @@ returns-2 c =
     let st : ℕ → ℕ = joined (a .rate) (piece (blockBytes (a .rate)) (a .blocks .now)) in
     let n = c .before .before .before .before .before .first-unmarked in
     let x = c .before .first-fill in
-    let end = a .total * infoBits (a .rate) in
-    let e : a .total * c .before .before .before .info-bits .result ≡ end = ap (λ (k : ℕ). a .total * k) (c .before .before .before .info-bits .ensures) in
+    let end = a .pieces * infoBits (a .rate) in
+    let e : a .pieces * c .before .before .before .info-bits .result ≡ end = ap (λ (k : ℕ). a .pieces * k) (c .before .before .before .info-bits .ensures) in
     let f : x .result ≡ upTo (zeroAt st) (a .count * span (a .size)) end = x .ensures ∙ ap (λ (k : ℕ). upTo (zeroAt st) (a .count * k) end) (c .before .before .span .ensures) in
     say-fill (a .size) (a .count) end (n .result) st (n .ensures) (omega arith) (x .result) f (λ q. c .if2 .taken (q ∙ sym e))
 
@@ -68,8 +68,8 @@ returns-3 c =
     let st : ℕ → ℕ = joined (a .rate) (piece (blockBytes (a .rate)) (a .blocks .now)) in
     let n = c .before .before .before .before .before .first-unmarked in
     let x = c .before .first-fill in
-    let end = a .total * infoBits (a .rate) in
-    let e : a .total * c .before .before .before .info-bits .result ≡ end = ap (λ (k : ℕ). a .total * k) (c .before .before .before .info-bits .ensures) in
+    let end = a .pieces * infoBits (a .rate) in
+    let e : a .pieces * c .before .before .before .info-bits .result ≡ end = ap (λ (k : ℕ). a .pieces * k) (c .before .before .before .info-bits .ensures) in
     let f : x .result ≡ upTo (zeroAt st) (a .count * span (a .size)) end = x .ensures ∙ ap (λ (k : ℕ). upTo (zeroAt st) (a .count * k) end) (c .before .before .span .ensures) in
     say-done (a .size) (a .count) end (n .result) st (n .ensures) (omega arith) (x .result) f (c .if2 .left ∙ e)
 

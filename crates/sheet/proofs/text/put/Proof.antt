@@ -6,7 +6,7 @@ use native.Mathlib.Omega.{arith}
 use lib.ListN.{length, take, length-set}
 use lib.Seq.{take-length}
 use borrow.Author.Needs.{needs}
-use Rattle.sheet.specs.Text.{put-more}
+use Rattle.sheet.proofs.Pieces.{put-more}
 use Rattle.sheet.proofs.text.put.Statement.{statement}
 use Rattle.sheet.proofs.text.put.Tie as tie
 

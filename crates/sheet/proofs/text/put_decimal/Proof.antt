@@ -2,7 +2,9 @@
 use mathlib.Core.Path.{_∙_}
 use native.Mathlib.Omega.{arith}
 use lib.ListN.{take}
-use Rattle.sheet.specs.Text.{decimal, digits-few, digits-decimal, put-same}
+use Rattle.sheet.specs.Text.{decimal}
+use Rattle.sheet.proofs.Decimals.{digits-few, digits-decimal}
+use Rattle.sheet.proofs.Pieces.{put-same}
 use borrow.Author.Needs.{needs}
 use Rattle.sheet.proofs.text.put_decimal.Statement.{statement}
 use Rattle.sheet.proofs.text.put_decimal.Tie as tie

@@ -3,7 +3,7 @@ use mathlib.Core.Path.{_∙_}
 use Prim.Native.Nat.{_<_}
 use native.Mathlib.Omega.{arith}
 use lib.ListN.{length, length-set}
-use Rattle.sheet.specs.Text.{put-spaced}
+use Rattle.sheet.proofs.Pieces.{put-spaced}
 use borrow.Author.Needs.{needs}
 use Rattle.sheet.proofs.text.put_item.Statement.{statement}
 use Rattle.sheet.proofs.text.put_item.Tie as tie

@@ -5,7 +5,8 @@ use Prim.Native.Nat.{ℕ, _+_, _-_, _*_, _≤_, _<_}
 use native.Mathlib.Omega.{arith}
 use lib.ListN.{length, getD, take, drop}
 use borrow.Author.Needs.{needs}
-use Rattle.sheet.specs.Text.{items, item-short, items-turn, items-done}
+use Rattle.sheet.specs.Text.{items}
+use Rattle.sheet.proofs.Pieces.{item-short, items-turn, items-done}
 use Rattle.sheet.proofs.text.put_items.Statement.{statement}
 use Rattle.sheet.proofs.text.put_items.Tie as tie
 

@@ -279,7 +279,7 @@ module _ {M : Type 1} (𝓤 : URA M) (H : Heap 𝓤) (A : Atoms 𝓤) (W : Given
           use1 W (later (some (λ (t : ℕ). (‵ ftrue ⊛ ‵ (u64 .own t (w′ ∷ []))) ⊛ raw (ensured 𝓤 H A pushed.ended (pushed.clauses 𝓤 H A at-mem run) tt (val f i, (r, tt)) tt t)))) (id⊢ 𝓤 _) $ await ! tt $ pick ! (λ t.
           split ! $ move ! (1 ∷ []) $ use1 W (raw (fact 𝓤 (t ≡ bitOr (val f i * 2 % 2 ^ 64) r))) (pushed-said (val f i) r t) $ heard ! (t ≡ bitOr (val f i * 2 % 2 ^ 64) r) (λ e′. split ! $ drop ! $ peeks ! u64 (Is u64) (shows 𝓤 H A u64) t (w′ ∷ []) (λ is′.
           land ! (from ! (stop !)) (store ! 14 refl (uint-lawful 𝓤 H A W w64 .typed t _ is′ .0)) $
-          rewrite ! 14 (λ (z : Val). ‵ (fat fullShare word l₆ 0 z)) (ap only (is′ .0) ∙ ap (vint w64) (e′ ∙ ap (bitOr (val f i * 2 % 2 ^ 64)) (e .0) ∙ push f i (λ t. stream-bits size count (now s) (x + t)) (omega arith))) refl $ drop ! $
+          rewrite ! 14 (λ (z : Val). ‵ (fat fullShare word l₆ 0 z)) (ap only (is′ .0) ∙ ap (vint w64) (e′ ∙ ap (bitOr (val f i * 2 % 2 ^ 64)) (e .0) ∙ push 64 f i (λ t. stream-bits size count (now s) (x + t)) (omega arith))) refl $ drop ! $
           assigns-last ! (bin ! (load ! (from ! (stop !)) (look ! 11 refl)) (lit ! tt) (record { fits = omega arith })) (from ! (stop !)) (store ! 11 refl (tt, record { fits = omega arith })) $
           forget ! 3 refl $ forget ! 5 refl $ forget ! 7 refl $ again ! Nearer At (i, l) (i + 1, omega arith) (omega arith))))))))))))
 

@@ -1,11 +1,12 @@
--- `difference` meets its contract: while the joined differences are 0, all places so far agree.
+-- `stretch_apart` meets its contract: while the joined differences are 0, all places so far agree.
 use mathlib.Core.Path.{_≡_}
 use Prim.Native.Nat.{_-_, _≤_}
 use native.Mathlib.Omega.{arith}
 use borrow.Author.Needs.{needs}
-use Rattle.convolution.specs.Compare.{Same, same-none, same-on}
-use Rattle.convolution.proofs.compare.difference.Statement.{statement}
-use Rattle.convolution.proofs.compare.difference.Tie as tie
+use Rattle.convolution.specs.Compare.{Same}
+use Rattle.convolution.proofs.Agreeing.{same-none, same-on}
+use Rattle.convolution.proofs.compare.stretch_apart.Statement.{statement}
+use Rattle.convolution.proofs.compare.stretch_apart.Tie as tie
 
 abbrev Inv-loop : tie.InvT-loop
 Inv-loop made coded start joined₀ k₀ joined k = (k ≤ 240) × (joined ≡ 0 → Same made coded start k)
@@ -44,8 +45,8 @@ returns : tie.Need-returns Inv-loop μ-loop
 returns c =
     λ z k a b. c .before .loop .inv .1 z k a (omega arith)
 
-pub difference-spec : {M : Type 1} → statement M
-difference-spec =
+pub stretch-apart-spec : {M : Type 1} → statement M
+stretch-apart-spec =
     tie.close
     (tie.spec
     Inv-loop

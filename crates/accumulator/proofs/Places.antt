@@ -1,0 +1,103 @@
+-- Eight places on from any place are the bytes of the whole; and a list that is changed in place, element by element.
+use mathlib.Core.Path.{_≡_, refl, sym, ap, ap₂, _∙_}
+use mathlib.Core.List.{List}
+use Prim.Native.Nat.{ℕ, zero, suc, _+_, _-_, _*_, _/_, _%_, _^_, _≤_, _<_}
+use native.Mathlib.Omega.{arith}
+use native.Mathlib.Nat.{add-zero, add-suc}
+use lib.Bits.{bitXor, xor-zero-r}
+use lib.ListN.{length, getD, set, length-set}
+use lib.Seq.{getD-set-other}
+use Rattle.bits.specs.Table.{fill}
+use Rattle.bits.specs.Pack.{val, val-same, bitAt, bit-lt, Bits}
+use Rattle.accumulator.specs.Accumulator.{accumulate, differentiate, accumulate-bits}
+use Rattle.accumulator.specs.Bytes.{bitOf, behind, accumulateFrom, differentiateFrom}
+
+accumulate-here : (f : ℕ → ℕ) (m : ℕ) → accumulate f m ≡ bitXor (f m) (behind 0 (accumulate f) m)
+unfolding accumulate behind
+accumulate-here f zero = sym (xor-zero-r (f 0))
+accumulate-here f (suc m) = refl
+
+-- t places on from place m
+accumulate-on : (f : ℕ → ℕ) (m t : ℕ) → accumulate f (m + t) ≡ accumulateFrom (behind 0 (accumulate f) m) (λ s. f (m + s)) t
+unfolding accumulateFrom accumulate
+accumulate-on f m zero = rw add-zero (accumulate-here f m)
+accumulate-on f m (suc t) = rw add-suc (ap (λ (a : ℕ). bitXor (f (suc (m + t))) a) (accumulate-on f m t))
+
+differentiate-on : (g : ℕ → ℕ) (m t : ℕ) → differentiate g (m + t) ≡ differentiateFrom (behind 0 g m) (λ s. g (m + s)) t
+unfolding differentiateFrom differentiate behind
+differentiate-on g zero zero = sym (xor-zero-r (g 0))
+differentiate-on g (suc m) zero = rw add-zero refl
+differentiate-on g m (suc t) = rw add-suc refl
+
+-- they ask for no input past their own place
+accumulate-upto : (p : ℕ) (f g : ℕ → ℕ) (j : ℕ) → ((i : ℕ) → i ≤ j → f i ≡ g i) → accumulateFrom p f j ≡ accumulateFrom p g j
+unfolding accumulateFrom
+accumulate-upto p f g zero h = ap (λ (a : ℕ). bitXor a p) (h 0 (omega arith))
+accumulate-upto p f g (suc j) h = ap₂ bitXor (h (suc j) (omega arith)) (accumulate-upto p f g j (λ i l. h i (omega arith)))
+
+differentiate-upto : (p : ℕ) (f g : ℕ → ℕ) (j : ℕ) → ((i : ℕ) → i ≤ j → f i ≡ g i) → differentiateFrom p f j ≡ differentiateFrom p g j
+unfolding differentiateFrom behind
+differentiate-upto p f g zero h = ap (λ (a : ℕ). bitXor a p) (h 0 (omega arith))
+differentiate-upto p f g (suc j) h = ap₂ bitXor (h (suc j) (omega arith)) (h j (omega arith))
+
+-- the bits of byte i are eight bits of the list
+byte-bits : (xs : List ℕ) (i s : ℕ) → s < 8 → bitOf (getD xs i 0) s ≡ bitAt xs (8 * i + s)
+unfolding bitAt
+byte-bits xs i s h =
+    let q : i ≡ (8 * i + s) / 8 = omega arith in
+    let r : 7 - s ≡ 7 - (8 * i + s) % 8 = omega arith in
+    ap₂ (λ (x y : ℕ). getD xs x 0 / 2 ^ y % 2) q r
+
+-- byte i of the outputs, and of the inputs
+pub accumulated-byte : (xs : List ℕ) (i : ℕ)
+    → val (accumulateFrom (behind 0 (accumulate (bitAt xs)) (8 * i)) (bitOf (getD xs i 0))) 8 ≡ val (λ t. accumulate (bitAt xs) (8 * i + t)) 8
+accumulated-byte xs i =
+    let p : ℕ = behind 0 (accumulate (bitAt xs)) (8 * i) in
+    val-same (accumulateFrom p (bitOf (getD xs i 0))) (λ t. accumulate (bitAt xs) (8 * i + t)) 8 (λ t h.
+    accumulate-upto p (bitOf (getD xs i 0)) (λ s. bitAt xs (8 * i + s)) t (λ s l. byte-bits xs i s (omega arith))
+    ∙ sym (accumulate-on (bitAt xs) (8 * i) t))
+
+pub differentiated-byte : (xs : List ℕ) (i : ℕ)
+    → val (differentiateFrom (behind 0 (bitAt xs) (8 * i)) (bitOf (getD xs i 0))) 8 ≡ val (λ t. differentiate (bitAt xs) (8 * i + t)) 8
+differentiated-byte xs i =
+    let p : ℕ = behind 0 (bitAt xs) (8 * i) in
+    val-same (differentiateFrom p (bitOf (getD xs i 0))) (λ t. differentiate (bitAt xs) (8 * i + t)) 8 (λ t h.
+    differentiate-upto p (bitOf (getD xs i 0)) (λ s. bitAt xs (8 * i + s)) t (λ s l. byte-bits xs i s (omega arith))
+    ∙ sym (differentiate-on (bitAt xs) (8 * i) t))
+
+-- the bit before the next byte is the last of this one
+next : (g : ℕ → ℕ) (i : ℕ) → g (8 * i + 7) ≡ behind 0 g (8 * (i + 1))
+unfolding behind
+next g i = let e : 8 * (i + 1) ≡ suc (8 * i + 7) = omega arith in rw e refl
+
+pub accumulated-last : (xs : List ℕ) (i v : ℕ) → v ≡ val (λ t. accumulate (bitAt xs) (8 * i + t)) 8 → v % 2 ≡ behind 0 (accumulate (bitAt xs)) (8 * (i + 1))
+unfolding val
+accumulated-last xs i v e =
+    let b : accumulate (bitAt xs) (8 * i + 7) < 2 = accumulate-bits (bitAt xs) (bit-lt xs) (8 * i + 7) in
+    rw e (omega (arith, next (accumulate (bitAt xs)) i))
+
+pub given-last : (xs : List ℕ) (i : ℕ) → getD xs i 0 % 2 ≡ behind 0 (bitAt xs) (8 * (i + 1))
+given-last xs i = let e : bitOf (getD xs i 0) 7 ≡ bitAt xs (8 * i + 7) = byte-bits xs i 7 (omega arith) in omega (arith, next (bitAt xs) i)
+
+-- the bit before a place is a bit
+pub behind-bit : (g : ℕ → ℕ) → Bits g → (j : ℕ) → behind 0 g j < 2
+unfolding behind
+behind-bit g h zero = omega arith
+behind-bit g h (suc j) = h j
+
+-- a list changed in place up to i: the first i elements are made, the others as they were given
+pub record Made (f : ℕ → ℕ) (given out : List ℕ) (i : ℕ) : Type 0 where
+  pub size : length out ≡ length given
+  pub done : (k : ℕ) → k < i → getD out k 0 ≡ f k
+  pub rest : (k : ℕ) → i ≤ k → getD out k 0 ≡ getD given k 0
+
+pub made-none : (f : ℕ → ℕ) (xs : List ℕ) → Made f xs xs 0
+made-none f xs = record { size = refl; done = λ k l. absurd (omega arith); rest = λ k l. refl }
+
+pub made-more : (f : ℕ → ℕ) (xs out : List ℕ) (i v : ℕ) → Made f xs out i → i < length out → v ≡ f i → Made f xs (set out i v) (i + 1)
+made-more f xs out i v m l e =
+    record {
+      size = length-set out i v ∙ m .size;
+      done = fill out f i v l e (m .done);
+      rest = λ k h. let n : k ≡ i → ⊥ = λ q. omega arith in getD-set-other out i k v 0 n ∙ m .rest k (omega arith);
+    }
