@@ -10,7 +10,6 @@ use Rattle.word.specs.Word.{Packed, wordOf}
 use Rattle.word.specs.Word.{writeSays as wordWrites}
 use Rattle.word.specs.Exports.{packed-written}
 use Rattle.quantities.specs.Quantities.{blockCount, frameBytes}
-use Rattle.quantities.specs.Bounds.{blocks-most}
 use Rattle.quantities.specs.Valid.{Valid}
 use Rattle.header.specs.declared.Fields.{Fields}
 use Rattle.parameters.specs.declared.Parameters.{Parameters}
@@ -24,7 +23,6 @@ use Rattle.slots.specs.Slots.{slotsOf}
 use Rattle.slots.specs.Needs.{Lent}
 use Rattle.slots.specs.Laws.{slots-same}
 use Rattle.run.specs.Run.{streamOf, wordAt}
-use Rattle.run_writer.specs.Needs.{wordsRoom}
 use Rattle.bits.specs.Pieces.{piece}
 use Rattle.sizes.specs.Sizes.{wordBytes}
 
@@ -48,9 +46,8 @@ frames-lent f v frames e =
     record { size1 = v .size-least; size2 = v .size-most; count1 = v .frames-least; count2 = v .frames-most; long = e }
 
 -- the plan, as steps 8 to 10 ask for it
-pub plan-lent : (q : Parameters) (p : Plan) (words slots : List ℕ) → p ≡ planOf q → Valid (q .fields) → Fine (planOf q) → length words ≡ wordsRoom → length slots ≡ slotBytes (planOf q) → Lent p words slots
-plan-lent q p words slots e v fine lw ls =
-    let few : blockCount (q .fields) ≤ 211 = blocks-most (q .fields) v in
+pub plan-lent : (q : Parameters) (p : Plan) (words slots : List ℕ) → p ≡ planOf q → Fine (planOf q) → blockCount (q .fields) * wordBytes ≤ length words → length slots ≡ slotBytes (planOf q) → Lent p words slots
+plan-lent q p words slots e fine lw ls =
     let enough : planOf q .words * wordBytes ≤ length words = omega (arith, plan-words q) in
     rw e (record { given = record { fine = fine; long = enough }; room = ls })
 

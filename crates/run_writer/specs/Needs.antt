@@ -1,7 +1,7 @@
 -- What the functions inside the writer ask of what they are handed.
 use mathlib.Core.Path.{_≡_}
 use mathlib.Core.List.{List}
-use Prim.Native.Nat.{ℕ, _<_}
+use Prim.Native.Nat.{ℕ, _*_, _≤_, _<_}
 use lib.ListN.{length}
 use Rattle.sizes.specs.Sizes.{wordBytes}
 use Rattle.quantities.specs.Quantities.{blockCount, frameBytes}
@@ -9,10 +9,6 @@ use Rattle.quantities.specs.Valid.{Valid}
 use Rattle.header.specs.declared.Fields.{Fields}
 use Rattle.parameters.specs.declared.Parameters.{Parameters}
 use Rattle.plan.specs.Accepted.{Entered}
-
--- the bytes of 211 words, as many as a run can have
-abbrev pub wordsRoom : ℕ
-wordsRoom = 398790
 
 -- coding word j of frames, with space for a packed block of any rate
 pub record Codes (f : Fields) (frames : List ℕ) (j : ℕ) (space word : List ℕ) : Type 0 where
@@ -27,10 +23,10 @@ pub record CodesAll (f : Fields) (frames space words : List ℕ) : Type 0 where
   pub valid : Valid f
   pub frames-are : length frames ≡ frameBytes f
   pub space-is : length space ≡ 1256
-  pub words-are : length words ≡ wordsRoom
+  pub words-fit : blockCount f * wordBytes ≤ length words
 
 -- writing the slots of a call that passed questions 1 to 8, with room for the words
 pub record Writes (q : Parameters) (frames space words slots : List ℕ) : Type 0 where
   pub entered : Entered q (length frames) (length slots)
   pub space-is : length space ≡ 1256
-  pub words-are : length words ≡ wordsRoom
+  pub words-fit : blockCount (q .fields) * wordBytes ≤ length words

@@ -3,7 +3,7 @@ use answers::Answer;
 use header::Fields;
 use parameters::Parameters;
 ghost use mathlib.Core.Path.{_≡_};
-ghost use Prim.Native.Nat.{ℕ, _<_};
+ghost use Prim.Native.Nat.{ℕ, _≤_, _<_};
 ghost use lib.ListN.{length};
 ghost use Rattle.answers.specs.Answer.{after};
 ghost use Rattle.quantities.specs.Quantities.{blockCount};
@@ -52,14 +52,37 @@ fn write_in(q: Parameters, frames: &[u8], space: &mut [u8], words: &mut [u8], sl
     slots::write(plan::plan_of(q), words, slots);
 }
 
-// The slots of the frames, with room for their words.
-fn write_with(q: Parameters, frames: &[u8], slots: &mut [u8])
+// With room for as many words as a run can have.
+fn write_many(q: Parameters, frames: &[u8], slots: &mut [u8])
     requires { ⌜ Entered q (length (now frames)) (length (now slots)) ⌝ }
     ensures { λ _. ⌜ now (slots .exit) ≡ slotsOf (planOf q) (wordAt (q .fields) (now (frames .entry))) ⌝ }
 {
     let mut space = [0u8; 1256];
     let mut words = [0u8; 398790];
     write_in(q, frames, &mut space, &mut words, slots)
+}
+
+// With room for sixteen words, of which little has to be cleared.
+fn write_few(q: Parameters, frames: &[u8], slots: &mut [u8])
+    requires { ⌜ Entered q (length (now frames)) (length (now slots)) × (blockCount (q .fields) ≤ 16) ⌝ }
+    ensures { λ _. ⌜ now (slots .exit) ≡ slotsOf (planOf q) (wordAt (q .fields) (now (frames .entry))) ⌝ }
+{
+    let mut space = [0u8; 1256];
+    let mut words = [0u8; 30240];
+    write_in(q, frames, &mut space, &mut words, slots)
+}
+
+// The slots of the frames, with room for their words.
+fn write_with(q: Parameters, frames: &[u8], slots: &mut [u8])
+    requires { ⌜ Entered q (length (now frames)) (length (now slots)) ⌝ }
+    ensures { λ _. ⌜ now (slots .exit) ≡ slotsOf (planOf q) (wordAt (q .fields) (now (frames .entry))) ⌝ }
+{
+    let f = q.fields;
+    if quantities::block_count(f) <= 16 {
+        write_few(q, frames, slots);
+    } else {
+        write_many(q, frames, slots);
+    }
 }
 
 // Writes the slots of frames.

@@ -148,7 +148,7 @@ pub fn write(p: Plan, words: &[u8], slots: &mut [u8])
 {
     let group = p.group;
     let end = p.lines * (p.symbols + p.count) * group;
-    let mut zeros = [0u8; 8000];
+    let mut zeros = [0u8; 16000];
     fill_zeros(group, &mut zeros);
     put_rows(p, words, &zeros, slots);
     bits::change::clear_spare(slots, end);

@@ -1,6 +1,6 @@
 -- The words below j stand in their places.
 use borrow.Author.Needs.{needs}
-use mathlib.Core.Path.{_≡_, sym, _∙_}
+use mathlib.Core.Path.{_≡_, refl, sym, _∙_}
 use mathlib.Core.List.{List}
 use Prim.Native.Nat.{ℕ, _+_, _-_, _*_, _≤_, _<_}
 use native.Mathlib.Omega.{arith}
@@ -9,7 +9,6 @@ use borrow.Rule.Slice.PartMut.{putMid, mid-len, same-len-mid}
 use Rattle.quantities.specs.Quantities.{blockCount}
 use Rattle.quantities.specs.Bounds.{blocks-most}
 use Rattle.run.specs.Run.{wordAt}
-use Rattle.run_writer.specs.Needs.{wordsRoom}
 use Rattle.bits.specs.Pieces.{piece, pieces-more}
 use Rattle.sizes.specs.Sizes.{wordBytes}
 use Rattle.run_writer.proofs.code_words.Statement.{statement}
@@ -17,7 +16,7 @@ use Rattle.run_writer.proofs.code_words.Tie as tie
 
 abbrev Inv-loop : tie.InvT-loop
 Inv-loop f frames space₀ words₀ n j₀ space words j =
-    (j ≤ n) × (length space ≡ 1256) × (length words ≡ wordsRoom) × ((i : ℕ) → i < j → piece wordBytes words i ≡ wordAt f frames i)
+    (j ≤ n) × (length space ≡ 1256) × (length words ≡ length words₀) × ((i : ℕ) → i < j → piece wordBytes words i ≡ wordAt f frames i)
 
 abbrev μ-loop : tie.MeasureT-loop
 μ-loop f frames space₀ words₀ n j₀ space words j = n - j
@@ -31,7 +30,7 @@ block-count-requires c κs = c .before .before .before .pre .valid
 loop-holds : tie.Need-loop-holds Inv-loop μ-loop
 loop-holds c =
     let s = c .before .before .before .before in
-    (search needs, s .pre .space-is, s .pre .words-are, λ i l. absurd (omega arith))
+    (search needs, s .pre .space-is, refl, λ i l. absurd (omega arith))
 
 mul-at : tie.Need-mul-at Inv-loop μ-loop
 mul-at c = let s = c .before .before .before .before .before .before in omega (arith, few s _ (c .before .before .block-count .ensures))
@@ -48,8 +47,8 @@ part-code-word-start c = search needs
 part-code-word-end : tie.Need-part-code-word-end Inv-loop μ-loop
 part-code-word-end c =
     let l = c .before .before .loop in
-    let f = few (c .before .before .before .before .before .before .before) _ (c .before .before .before .block-count .ensures) in
-    omega (arith, l .inv .2, c .before .loop-test .taken)
+    let n = c .before .before .before .block-count .ensures in
+    omega (arith, c .before .before .before .before .before .before .before .pre .words-fit, l .inv .2, c .before .loop-test .taken)
 
 code-word-requires : tie.Need-code-word-requires Inv-loop μ-loop
 code-word-requires c κs =
@@ -61,7 +60,7 @@ code-word-requires c κs =
       frames-are = s .pre .frames-are;
       below = omega (arith, n .ensures, c .before .before .loop-test .taken);
       space-is = l .inv .1;
-      word-is = mid-len (l .j * wordBytes) (l .j * wordBytes + wordBytes) (l .words) (omega (arith, few s (n .result) (n .ensures), l .inv .2, c .before .before .loop-test .taken)) ∙ omega arith;
+      word-is = mid-len (l .j * wordBytes) (l .j * wordBytes + wordBytes) (l .words) (omega (arith, s .pre .words-fit, n .ensures, l .inv .2, c .before .before .loop-test .taken)) ∙ omega arith;
     }
 
 add-j : tie.Need-add-j Inv-loop μ-loop
@@ -77,10 +76,9 @@ loop-again c =
     let t = c .before .before .before .before .before .before .before .loop-test .taken in
     let n = c .before .before .before .before .before .before .before .before .before .block-count in
     let w = c .before .before .before .before .code-word in
-    let few211 : n .result ≤ 211 = few s (n .result) (n .ensures) in
     let k : ℕ = l .j * wordBytes + wordBytes - l .j * wordBytes in
     let new : List ℕ = w .last .1 .1 .1 .1 .0 in
-    let inside : l .j * wordBytes + wordBytes ≤ length (l .words) = omega (arith, l .inv .2) in
+    let inside : l .j * wordBytes + wordBytes ≤ length (l .words) = omega (arith, s .pre .words-fit, n .ensures, l .inv .2, t) in
     let long : length (putMid (l .j * wordBytes) k (l .words) new) ≡ length (l .words) = same-len-mid {X = ℕ} (l .j * wordBytes) k (l .words) new (w .kept .1 .1 .1 .1 .0) in
     let size : length new ≡ wordBytes = w .kept .1 .1 .1 .1 .0 ∙ mid-len (l .j * wordBytes) (l .j * wordBytes + wordBytes) (l .words) inside ∙ omega arith in (
       omega (arith, t),
@@ -93,7 +91,7 @@ same-length : tie.Need-same-length Inv-loop μ-loop
 same-length c = c .before .loop .inv .1 ∙ sym (c .before .before .before .before .before .before .pre .space-is)
 
 same-length-2 : tie.Need-same-length-2 Inv-loop μ-loop
-same-length-2 c = c .before .loop .inv .2 ∙ sym (c .before .before .before .before .before .before .pre .words-are)
+same-length-2 c = c .before .loop .inv .2
 
 returns : tie.Need-returns Inv-loop μ-loop
 returns c = λ j h. c .before .loop .inv .3 j (omega (arith, c .before .before .block-count .ensures))

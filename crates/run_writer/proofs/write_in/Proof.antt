@@ -1,5 +1,5 @@
 -- The words of the frames, and the slots of the words.
-use mathlib.Core.Path.{_∙_}
+use native.Mathlib.Omega.{arith}
 use Rattle.run_writer.proofs.Coding.{plan-lent, slots-coded}
 use borrow.Author.Needs.{needs}
 use Rattle.run_writer.proofs.write_in.Statement.{statement}
@@ -15,7 +15,7 @@ write-requires : tie.Need-write-requires
 write-requires c κs =
     let s = c .before .before .before .before .before .before .before .before .before .before .before .before .before .before .before in
     let w = c .before .before .before .before .before .before .before .code-words in
-    plan-lent (s .args .q) _ _ _ (c .before .before .plan-of .ensures) (s .pre .entered .valid) (s .pre .entered .fine) (w .kept .1 .1 .1 .0 ∙ s .pre .words-are) (s .pre .entered .slots-are)
+    plan-lent (s .args .q) _ _ _ (c .before .before .plan-of .ensures) (s .pre .entered .fine) (let k = w .kept .1 .1 .1 .0 in let h = s .pre .words-fit in omega arith) (s .pre .entered .slots-are)
 
 same-length : tie.Need-same-length
 same-length c = search needs

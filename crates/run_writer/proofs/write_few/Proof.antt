@@ -1,10 +1,11 @@
 -- The rooms have their lengths.
 use mathlib.Core.Path.{refl, sym}
 use Prim.Native.Nat.{ℕ}
+use native.Mathlib.Omega.{arith}
 use lib.ListN.{length-replicate}
 use borrow.Author.Needs.{needs}
-use Rattle.run_writer.proofs.write_with.Statement.{statement}
-use Rattle.run_writer.proofs.write_with.Tie as tie
+use Rattle.run_writer.proofs.write_few.Statement.{statement}
+use Rattle.run_writer.proofs.write_few.Tie as tie
 
 slice-aggregate-write-in : tie.Need-slice-aggregate-write-in
 slice-aggregate-write-in c = search needs
@@ -14,7 +15,7 @@ slice-aggregate-write-in-2 c = search needs
 
 write-in-requires : tie.Need-write-in-requires
 write-in-requires c κs =
-    record { entered = c .before .before .before .before .before .pre; space-is = refl; words-are = length-replicate {A = ℕ} 398790 0 }
+    record { entered = c .before .before .before .before .before .pre .0; space-is = refl; words-fit = let few = c .before .before .before .before .before .pre .1 in let l = length-replicate {A = ℕ} 30240 0 in omega arith }
 
 same-length : tie.Need-same-length
 same-length c = search needs
@@ -22,8 +23,8 @@ same-length c = search needs
 returns : tie.Need-returns
 returns c = search needs
 
-pub write-with-spec : {M : Type 1} → statement M
-write-with-spec =
+pub write-few-spec : {M : Type 1} → statement M
+write-few-spec =
     tie.close
     (tie.spec
     slice-aggregate-write-in
