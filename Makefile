@@ -24,8 +24,8 @@ RUSTFLAGS = --edition 2021 -O -D warnings
 
 VERSION = 0.1.0
 
-# The static library: the run calls and the word calls. Another archive can stand in for it, such as
-# the plain C version, which shows that the tests outside the proofs hold without the library:
+# The static library: all calls. Another archive can stand in for it, such as the plain C version,
+# which shows that the tests outside the proofs hold without the library:
 #   make host-test LIBS=target/host/standin/libmahyrei.a RUNSHEET=
 # Several archives are linked in the order given.
 LIBRARY = target/lib/libmahyrei.a
@@ -58,12 +58,13 @@ COMMAND_TESTS = $(PROGRAM) $(HOST)/mahyrei_sanitized $(HOST)/slots $(HOST)/fault
 # For the comparisons with the second implementation; empty means their own defaults.
 SEED ?=
 WORDS ?=
+PASSES ?=
 RUNS ?=
 
 help:
 	@echo 'make test       prove every crate (rt ci), then host-test; last line: N passed, 0 failed'
-	@echo 'make host-test  the tests outside the proofs alone; SEED=n, WORDS=n and RUNS=n choose what'
-	@echo '                is compared'
+	@echo 'make host-test  the tests outside the proofs alone; SEED=n, WORDS=n, PASSES=n and RUNS=n'
+	@echo '                choose what is compared'
 	@echo 'make demo       write a run, see its first symbols, read it back, damage it, look into it'
 	@echo 'make bench      times of the library beside plain C and beside memory'
 	@echo 'make lib        the static library and the shared one: $(LIBS)'
@@ -72,9 +73,9 @@ help:
 	@echo 'make install    libraries, headers, pkg-config file, command, man pages and Python module,'
 	@echo '                under PREFIX=$(PREFIX) and DESTDIR; make uninstall takes them away'
 	@echo 'make clean      remove what was built outside the proofs'
-	@echo 'make soak       the four calls against the second implementation, on all cores for'
+	@echo 'make soak       all calls against the second implementation, on all cores for'
 	@echo '                SECONDS=n, with a fresh seed or SEED=n'
-	@echo 'make fuzz       the four calls under libFuzzer and the sanitizers, likewise'
+	@echo 'make fuzz       all calls under libFuzzer and the sanitizers, likewise'
 	@echo 'make mutants    COUNT=n small changes of the code of each crate, which the prover has to'
 	@echo '                refuse; CRATES=name for one crate'
 
@@ -84,17 +85,19 @@ test:
 PYTHON_TEST = if ! command -v python3 >/dev/null; then \
     echo 'python: no python3 here; the module is not tried'; \
     else MAHYREI_LIBRARY=$(abspath $(SHARED)) tests/python/module $(PROGRAM) $(HOST)/slots; fi
-HOST_TESTS = $(SHARED) $(addprefix $(HOST)/,mahyrei_lying word_calls run_calls plain_calls sha256_vectors \
-    second_test compare_words compare_runs) \
+HOST_TESTS = $(SHARED) $(addprefix $(HOST)/,mahyrei_lying word_calls pass_calls run_calls \
+    plain_calls sha256_vectors second_test compare_words compare_passes compare_runs) \
     $(COMMAND_TESTS)
 host-test: $(HOST_TESTS)
 	@echo '#include "mahyrei_plain.h"' | $(CXX) -x c++ $(WARNINGS) -Iinclude -fsyntax-only -
 	@$(STACK) && ASAN_OPTIONS=detect_leaks=0 $(HOST)/word_calls
+	@$(STACK) && ASAN_OPTIONS=detect_leaks=0 $(HOST)/pass_calls
 	@$(STACK) && ASAN_OPTIONS=detect_leaks=0 $(HOST)/run_calls
 	@$(STACK) && ASAN_OPTIONS=detect_leaks=0 $(HOST)/plain_calls
 	@ASAN_OPTIONS=detect_leaks=0 $(HOST)/sha256_vectors
 	@$(STACK) && $(HOST)/second_test --quiet
 	@$(STACK) && SEED=$(SEED) WORDS=$(WORDS) $(HOST)/compare_words
+	@$(STACK) && SEED=$(SEED) PASSES=$(PASSES) $(HOST)/compare_passes
 	@$(STACK) && SEED=$(SEED) RUNS=$(RUNS) $(HOST)/compare_runs
 	@$(STACK) && tests/command/run $(COMMAND_TESTS)
 	@$(PYTHON_TEST)
@@ -108,8 +111,10 @@ demo: $(PROGRAM) $(HOST)/slots
 picture: $(PROGRAM) $(HOST)/slots
 	@demo/run $^ docs/capture.svg >/dev/null
 
-bench: $(HOST)/bench_words $(HOST)/bench_runs
+bench: $(HOST)/bench_words $(HOST)/bench_passes $(HOST)/bench_runs
 	@$(HOST)/bench_words
+	@echo
+	@$(HOST)/bench_passes
 	@echo
 	@$(HOST)/bench_runs
 
@@ -171,17 +176,20 @@ $(HOST)/archives: FORCE
 	@mkdir -p $(@D)
 	@echo '$(LIBS)' | cmp -s - $@ || echo '$(LIBS)' >$@
 
-# The four calls in plain C.
+# The calls in plain C.
 STANDIN = $(HOST)/standin
-PLAIN_SOURCES = bench/plain_word.c bench/plain_word.h tests/c/plain_run.c
+PLAIN_SOURCES = $(addprefix bench/,plain_word.c plain_word.h plain_pass.c plain_pass.h) \
+    tests/c/plain_run.c
 $(STANDIN)/libmahyrei.a: $(PLAIN_SOURCES) $(HEADER) $(PARTS)
 	@mkdir -p $(@D)
 	@$(COMPILE) $(PLAIN) -fPIC -c bench/plain_word.c -o $(STANDIN)/plain_word.o
 	@$(COMPILE) $(PLAIN) -fPIC -Dplain_word_write=word_write -Dplain_word_read=word_read \
 	    -c bench/plain_word.c -o $(STANDIN)/word.o
+	@$(COMPILE) $(PLAIN) -fPIC -Dplain_pass_write=pass_write -Dplain_pass_read=pass_read \
+	    -c bench/plain_pass.c -o $(STANDIN)/pass.o
 	@$(COMPILE) $(PLAIN) -fPIC -Ibench -c tests/c/plain_run.c -o $(STANDIN)/run.o
 	@rm -f $@
-	@ar rcs $@ $(addprefix $(STANDIN)/,plain_word.o word.o run.o) $(PARTS)
+	@ar rcs $@ $(addprefix $(STANDIN)/,plain_word.o word.o pass.o run.o) $(PARTS)
 
 HOST_SOURCES = $(wildcard host/*.c)
 HOST_FLAGS = -D_XOPEN_SOURCE=700 -DMAHYREI_VERSION='"$(VERSION)"' -pthread
@@ -206,9 +214,10 @@ $(HOST)/sha256_vectors: tests/c/sha256_vectors.c host/sha256.c host/sha256.h
 	@mkdir -p $(@D)
 	@$(COMPILE) $(SANITIZED) -Ihost $< host/sha256.c -o $@
 
-SECOND = $(addprefix tests/second/,lib.rs compare.rs library.rs run.rs word.rs run_cases.rs \
+SECOND = $(addprefix tests/second/,lib.rs compare.rs library.rs pass.rs run.rs word.rs \
+    run_cases.rs \
     $(addprefix run_cases/,calls.rs damages.rs edges.rs headers.rs kinds.rs refusals.rs sample.rs) \
-    word_cases.rs)
+    pass_cases.rs word_cases.rs)
 $(HOST)/second_test: $(SECOND)
 	@mkdir -p $(@D)
 	@$(RUSTC) $(RUSTFLAGS) --test $< -o $@
@@ -229,8 +238,15 @@ $(HOST)/plain_word.o: bench/plain_word.c bench/plain_word.h $(HEADER)
 	@mkdir -p $(@D)
 	@$(COMPILE) $(PLAIN) -c $< -o $@
 
+$(HOST)/plain_pass.o: bench/plain_pass.c bench/plain_pass.h bench/plain_word.h $(HEADER)
+	@mkdir -p $(@D)
+	@$(COMPILE) $(PLAIN) -c $< -o $@
+
 $(HOST)/bench_words: bench/bench_words.c $(HOST)/plain_word.o bench/plain_word.h $(HEADER) $(LINKED)
 	@$(COMPILE) $< $(HOST)/plain_word.o $(LIBS) -o $@
+
+$(HOST)/bench_passes: bench/bench_passes.c $(HEADER) $(LINKED)
+	@$(COMPILE) $< $(LIBS) -o $@
 
 $(HOST)/bench_runs: bench/bench_runs.c $(HOST)/plain_word.o $(HOST)/plain_run.o bench/plain_run.h \
     tests/c/runs.h $(HEADER) $(LINKED)
@@ -247,8 +263,8 @@ fuzz: $(HOST)/fuzz_drive
 	@tests/fuzz/run $(SECONDS) $< $(LIBS)
 
 # The crates of the product that have code.
-CRATES ?= bits answers sizes crc convolution interleaver accumulator randomizer word header plan stream frames \
-    pulses channel slots capture run_writer run_reader calls sheet runsheet
+CRATES ?= bits answers sizes crc convolution interleaver accumulator randomizer word pass header \
+    plan stream frames pulses channel slots capture run_writer run_reader calls sheet runsheet
 COUNT ?= 60
 .PHONY: mutants
 mutants:
@@ -263,7 +279,7 @@ evidence-test: $(HOST)/soak $(HOST)/fuzz_drive
 $(HOST)/soak: tests/second/soak.rs $(HOST)/libsecond.rlib $(LINKED)
 	@$(RUSTC) $(RUSTFLAGS) $< $(LINK_RUST) -o $@
 
-$(HOST)/run_calls: tests/c/runs.h
+$(HOST)/run_calls $(HOST)/pass_calls: tests/c/runs.h
 
 # The fuzz target with a driver in place of libFuzzer, beside the run calls in plain C.
 $(HOST)/plain_run.o: tests/c/plain_run.c bench/plain_word.h $(HEADER)
@@ -271,6 +287,8 @@ $(HOST)/plain_run.o: tests/c/plain_run.c bench/plain_word.h $(HEADER)
 	@$(COMPILE) $(PLAIN) -Ibench -Drun_write=plain_run_write -Drun_read=plain_run_read \
 	    -c $< -o $@
 
-FUZZ_TARGET = tests/fuzz/drive.c tests/fuzz/calls.c $(HOST)/plain_word.o $(HOST)/plain_run.o
-$(HOST)/fuzz_drive: $(FUZZ_TARGET) bench/plain_run.h tests/fuzz/calls.h tests/c/runs.h $(HEADER) $(LINKED)
+FUZZ_TARGET = tests/fuzz/drive.c tests/fuzz/calls.c \
+    $(addprefix $(HOST)/,plain_word.o plain_pass.o plain_run.o)
+$(HOST)/fuzz_drive: $(FUZZ_TARGET) bench/plain_pass.h bench/plain_run.h tests/fuzz/calls.h \
+    tests/c/runs.h $(HEADER) $(LINKED)
 	@$(COMPILE) $(SANITIZED) -Ibench $(FUZZ_TARGET) $(LIBS) -o $@

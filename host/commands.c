@@ -3,25 +3,29 @@
 enum { WRITES = WITH(NO_CLOBBER) | WITH(FORCE) };
 
 const struct command COMMANDS[] = {
-    {"write", "HEADER MARKER FRAMES", NULL, "SLOTS", WRITES, true, write_command,
+    {"write", NULL, "HEADER MARKER FRAMES", NULL, "SLOTS", WRITES, true, write_command,
      "makes the slots of the frames"},
-    {"read", "HEADER MARKER SLOTS", NULL, "FRAMES", WRITES, true, read_command,
+    {"read", NULL, "HEADER MARKER SLOTS", NULL, "FRAMES", WRITES, true, read_command,
      "accepts slots only if some frames make them, and gives those frames back"},
-    {"verify", "HEADER MARKER SLOTS", NULL, NULL, 0, true, verify_command,
+    {"verify", NULL, "HEADER MARKER SLOTS", NULL, NULL, 0, true, verify_command,
      "does what read does, and writes nothing"},
-    {"sheet", "HEADER", NULL, NULL, WITH(LONG) | WITH(JSON), true, sheet_command,
+    {"pass-write", "RATE", "BLOCKS", NULL, "WORDS", WRITES, true, pass_write_command,
+     "makes the words of 1 to 211 blocks"},
+    {"pass-read", "RATE", "WORDS", NULL, "BLOCKS", WRITES, true, pass_read_command,
+     "accepts words only if some blocks make them, and gives those blocks back"},
+    {"sheet", NULL, "HEADER", NULL, NULL, WITH(LONG) | WITH(JSON), true, sheet_command,
      "code rate, M, N, B, F, W, A, blocks, symbols, slots; or `no` and a number"},
-    {"header", NULL, "FIELD=VALUE...", NULL, WRITES | WITH(OUTPUT), false, header_command,
+    {"header", NULL, NULL, "FIELD=VALUE...", NULL, WRITES | WITH(OUTPUT), false, header_command,
      "makes a header: rate=1/2 m=6 N=84 B=120 F=223 W=16 A=2"},
-    {"explain", NULL, "NUMBER", NULL, 0, false, explain_command,
+    {"explain", NULL, NULL, "NUMBER", NULL, 0, false, explain_command,
      "says what the number of a refusal means"},
-    {"inspect", "HEADER MARKER SLOTS", NULL, NULL, WITH(SVG), false, inspect_command,
+    {"inspect", NULL, "HEADER MARKER SLOTS", NULL, NULL, WITH(SVG), false, inspect_command,
      "counts and lists what is wrong in a capture; corrects nothing"},
-    {"show", "HEADER SLOTS", "FROM COUNT", NULL, 0, false, show_command,
+    {"show", NULL, "HEADER SLOTS", "FROM COUNT", NULL, 0, false, show_command,
      "draws symbols of a capture as slots"},
-    {"batch", "LIST", NULL, NULL, WITH(JOBS) | WITH(RESULTS), false, batch_command,
+    {"batch", NULL, "LIST", NULL, NULL, WITH(JOBS) | WITH(RESULTS), false, batch_command,
      "writes or reads the runs of a list, on all cores; skips what is done"},
-    {NULL, NULL, NULL, NULL, 0, false, NULL, NULL}};
+    {NULL, NULL, NULL, NULL, NULL, 0, false, NULL, NULL}};
 
 const struct option_line OPTIONS[OPTION_COUNT] = {
     [LOG] = {"log", '\0', "FILE", "adds the line of the log to this file"},

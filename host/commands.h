@@ -46,11 +46,11 @@ struct line {
     const char *options[OPTION_COUNT]; /* the word, "" for one without, NULL where not given */
 };
 
-/* Names of operands, with blanks between them, or NULL. They stand in this order: inputs, which are
- * files to be read (HEADER and MARKER can be hexadecimal text); words, which are no files, any
- * number of them where the last ends in `...`; the output. */
+/* Names of operands, with blanks between them, or NULL. They stand in this order: `first`, which
+ * are no files; inputs, which are files to be read (HEADER and MARKER can be hexadecimal text);
+ * words, which are no files, any number of them where the last ends in `...`; the output. */
 struct command {
-    const char *name, *inputs, *words, *output;
+    const char *name, *first, *inputs, *words, *output;
     unsigned options; /* the set of those that are not for all */
     bool logged;      /* adds a line to the log */
     enum status (*run)(const struct line *line, struct entry *entry);
@@ -83,6 +83,8 @@ bool ready_as_told(const struct line *line, const char *name);
 enum status write_command(const struct line *line, struct entry *entry);
 enum status read_command(const struct line *line, struct entry *entry);
 enum status verify_command(const struct line *line, struct entry *entry);
+enum status pass_write_command(const struct line *line, struct entry *entry);
+enum status pass_read_command(const struct line *line, struct entry *entry);
 enum status sheet_command(const struct line *line, struct entry *entry);
 enum status header_command(const struct line *line, struct entry *entry);
 enum status explain_command(const struct line *line, struct entry *entry);

@@ -1,11 +1,12 @@
 # Completion of mahyrei in bash. Subcommands and options are those of `mahyrei --help`.
 _mahyrei() {
     local word=${COMP_WORDS[COMP_CWORD]} before=${COMP_WORDS[COMP_CWORD - 1]} help command='' i
+    local operands=0
     help=$("${COMP_WORDS[0]}" --help 2>/dev/null) || return
     for ((i = 1; i < COMP_CWORD; i++)); do
         if [[ ${COMP_WORDS[i]} != -* && ${COMP_WORDS[i - 1]} != --log ]]; then
-            command=${COMP_WORDS[i]}
-            break
+            [[ -z $command ]] || operands=$((operands + 1))
+            command=${command:-${COMP_WORDS[i]}}
         fi
     done
     COMPREPLY=()
@@ -13,10 +14,13 @@ _mahyrei() {
         mapfile -t COMPREPLY < <(compgen -W "$(grep -Eo -- '^ +(-., )?--[a-z-]+' <<<"$help" |
             grep -Eo -- '--[a-z-]+')" -- "$word")
     elif [[ -z $command && $before != --log ]]; then
-        mapfile -t COMPREPLY < <(compgen -W "$(sed -En 's/^  ([a-z]+) +.*/\1/p' <<<"$help")" -- "$word")
+        mapfile -t COMPREPLY < <(compgen -W "$(sed -En 's/^  ([a-z][a-z-]*) +.*/\1/p' <<<"$help")" \
+            -- "$word")
     elif [[ $command == header && $before != -o && $before != --output ]]; then
         mapfile -t COMPREPLY < <(compgen -W 'rate=1/3 rate=1/2 rate=2/3 m= N= B= F= W= A=' -- "$word")
         compopt -o nospace 2>/dev/null
+    elif [[ $command == pass-* && $operands -eq 0 && $before != --log ]]; then
+        mapfile -t COMPREPLY < <(compgen -W '1/3 1/2 2/3' -- "$word")
     else
         mapfile -t COMPREPLY < <(compgen -f -- "$word")
         compopt -o filenames 2>/dev/null

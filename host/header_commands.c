@@ -81,16 +81,6 @@ enum status sheet_command(const struct line *line, struct entry *entry) {
 
 /* ---- header */
 
-static bool read_rate(const char *text, uint64_t *rate) {
-    static const char *const RATES[] = {"1/3", "1/2", "2/3"};
-    for (*rate = 0; *rate < 3; ++*rate) {
-        if (strcmp(text, RATES[*rate]) == 0) {
-            return true;
-        }
-    }
-    return false;
-}
-
 /* One word, NAME=VALUE. What is wrong with it, or NULL. */
 static const char *take_field(const char *word, struct mahyrei_fields *fields,
                               struct mahyrei_fields *given) {

@@ -43,6 +43,22 @@ static void *make_word_call(void *given) {
     return NULL;
 }
 
+/* One call of a pass, and its answer. */
+struct pass_call {
+    const struct pass *pass;
+    bool writing;
+    uint64_t answer;
+};
+
+static void *make_pass_call(void *given) {
+    struct pass_call *const call = given;
+    const struct bytes *const blocks = &call->pass->blocks, *const words = &call->pass->words;
+    call->answer =
+        call->writing ? pass_write(call->pass->rate, blocks->at, blocks->len, words->at, words->len)
+                      : pass_read(call->pass->rate, words->at, words->len, blocks->at, blocks->len);
+    return NULL;
+}
+
 /* Starts a thread that no signal comes to, so that handlers run where the program waits. */
 static int start(pthread_t *thread, void *(*make)(void *), void *call) {
     sigset_t all, before;
@@ -96,6 +112,24 @@ bool library_word_read(uint64_t rate, const uint8_t *word, uint8_t *block, uint6
     }
     *answer = call.answer;
     return true;
+}
+
+static bool ask_pass(struct pass_call *call, uint64_t *answer) {
+    if (!on_its_stack(make_pass_call, call)) {
+        return false;
+    }
+    *answer = call->answer;
+    return true;
+}
+
+bool library_pass_write(const struct pass *pass, uint64_t *answer) {
+    struct pass_call call = {pass, true, 0};
+    return ask_pass(&call, answer);
+}
+
+bool library_pass_read(const struct pass *pass, uint64_t *answer) {
+    struct pass_call call = {pass, false, 0};
+    return ask_pass(&call, answer);
 }
 
 /* With nothing else lent, a good header comes as far as 8: its marker has at least one symbol, and

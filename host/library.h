@@ -1,5 +1,5 @@
 /*
- * The calls of the library. A run call works in less than 1 MiB of stack, and the caller of this
+ * The calls of the library. A call works in less than 1 MiB of stack, and the caller of this
  * program may have allowed less: so the calls get a stack of their own. Where there is none to be
  * had, that is said, and the answer is false.
  */
@@ -21,6 +21,15 @@ bool library_read(const struct lent *lent, uint64_t *answer);
 
 /* A word of MAHYREI_WORD_BYTES, and room for a block of this rate. */
 bool library_word_read(uint64_t rate, const uint8_t *word, uint8_t *block, uint64_t *answer);
+
+/* What a pass call is lent. */
+struct pass {
+    uint64_t rate;
+    struct bytes blocks, words;
+};
+
+bool library_pass_write(const struct pass *pass, uint64_t *answer);
+bool library_pass_read(const struct pass *pass, uint64_t *answer);
 
 /* The answer to a header alone: 0, or a number from 1 to 7, and of 7 only W's range. */
 bool library_header(const struct bytes *header, uint64_t *answer);

@@ -41,6 +41,7 @@ static void print_usage_of(FILE *to, const char *before, const struct command *c
             print_option(to, (enum option)option);
         }
     }
+    print_names(to, command->first);
     print_names(to, command->inputs);
     print_names(to, command->words);
     print_names(to, command->output);
@@ -75,11 +76,11 @@ static void print_help(FILE *to) {
           "back.\n\n",
           to);
     for (const struct command *each = COMMANDS; each->name != NULL; each++) {
-        fprintf(to, "  %-8s %s\n", each->name, each->help);
+        fprintf(to, "  %-10s %s\n", each->name, each->help);
     }
     fputs("\nEach operand is a file, or - for standard input or output. HEADER and MARKER can be\n"
           "hexadecimal text instead, such as 5950F01BE8020000 or hex:050C; a file whose name has\n"
-          "nothing but such digits is given as ./NAME.\n\n",
+          "nothing but such digits is given as ./NAME. RATE is 1/3, 1/2 or 2/3, or its number.\n\n",
           to);
     print_options(to);
     fputs("\nThe log is the file of --log, or the one that MAHYREI_LOG names, or standard error.\n"
@@ -201,8 +202,8 @@ const struct command *find_command(const char *name) {
 /* What is wrong with the number of operands, or NULL. */
 static const char *wrong_count(const struct line *line) {
     const struct command *const command = line->command;
-    const int wanted =
-        count_names(command->inputs) + count_names(command->words) + count_names(command->output);
+    const int wanted = count_names(command->first) + count_names(command->inputs) +
+                       count_names(command->words) + count_names(command->output);
     const bool open = command->words != NULL && strstr(command->words, "...") != NULL;
     if (line->count < wanted) {
         return "another number of operands is needed";
@@ -221,10 +222,17 @@ static const char *foreign_option(const struct line *line) {
     return NULL;
 }
 
+/* The operands that are inputs, and how many they are. */
+static char *const *inputs_of(const struct line *line, int *count) {
+    *count = count_names(line->command->inputs);
+    return line->operands + count_names(line->command->first);
+}
+
 static bool several_dashes(const struct line *line) {
-    int dashes = 0;
-    for (int i = 0; i < count_names(line->command->inputs); i++) {
-        dashes += is_dash(line->operands[i]);
+    int count, dashes = 0;
+    char *const *const inputs = inputs_of(line, &count);
+    for (int i = 0; i < count; i++) {
+        dashes += is_dash(inputs[i]);
     }
     return dashes > 1;
 }
@@ -250,13 +258,14 @@ static bool is_file(const char *name, int standard, const struct stat *file) {
  * be lost with the file that is replaced. */
 static const char *clash(const struct line *line, int log) {
     struct stat file;
-    const int inputs = count_names(line->command->inputs);
+    int count;
+    char *const *const inputs = inputs_of(line, &count);
     if (fstat(log, &file) != 0 || (!S_ISREG(file.st_mode) && !S_ISBLK(file.st_mode))) {
         return NULL;
     }
-    for (int i = 0; i < inputs; i++) {
-        if (is_file(line->operands[i], STDIN_FILENO, &file)) {
-            return line->operands[i];
+    for (int i = 0; i < count; i++) {
+        if (is_file(inputs[i], STDIN_FILENO, &file)) {
+            return inputs[i];
         }
     }
     const char *const last = line->count == 0 ? NULL : line->operands[line->count - 1];

@@ -4,6 +4,7 @@
 #include <stdlib.h>
 #include <string.h>
 
+#include "numbers.h"
 #include "utf8.h"
 
 /*
@@ -204,7 +205,6 @@ static const char PALE[] = " fill=\"" GREY "\"";
 static const char PALE_RIGHT[] = " fill=\"" GREY "\" text-anchor=\"end\"";
 
 static void print_title(FILE *to, const struct scene *scene) {
-    static const char *const RATES[] = {"1/3", "1/2", "2/3"};
     const struct mahyrei_fields *const f = &scene->capture->run.fields;
     const struct mahyrei_sizes *const s = &scene->capture->run.sizes;
     const unsigned number = answer_number(scene->answer);
@@ -222,8 +222,8 @@ static void print_title(FILE *to, const struct scene *scene) {
             "rate %s, M %" PRIu64 ", N %" PRIu64 ", B %" PRIu64 ", F %" PRIu64 ", W %" PRIu64
             ", A %" PRIu64 ": %" PRIu64 " symbols of %" PRIu64 " slots, in %" PRIu64
             " rows of %" PRIu64 " + %" PRIu64 "</text>\n",
-            RATES[f->rate], s->M, f->N, f->B, f->F, f->W, f->A, s->symbols, s->group, s->R, f->W,
-            s->S);
+            rate_name(f->rate), s->M, f->N, f->B, f->F, f->W, f->A, s->symbols, s->group, s->R,
+            f->W, s->S);
 }
 
 /* The first symbol of a line, where the number before is not too near. */

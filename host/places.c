@@ -80,7 +80,7 @@ static void say_sizes(const struct sheet *sheet, const struct lent *run,
     }
 }
 
-/* ---- places: numbers 9 to 18 */
+/* ---- places: numbers 9 and above */
 
 static void say_spare(const struct sheet *sheet, const struct lent *run, const char *about) {
     const size_t last = sheet->sizes.slot_bytes - 1;
@@ -163,5 +163,32 @@ void say_where(uint64_t answer, const struct lent *run, const struct operands *o
         say_spare(&sheet, run, shown(operands->slots));
     } else {
         say_place(number, answer_place(answer), &sheet, shown(operands->slots));
+    }
+}
+
+/* ---- passes */
+
+static void say_count(const struct pass *pass, bool writing, const char *about) {
+    const size_t len = writing ? pass->blocks.len : pass->words.len;
+    const size_t each = writing ? word_block_bytes(pass->rate) : MAHYREI_WORD_BYTES;
+    const size_t limit = writing ? BLOCKS_LIMIT : WORDS_LIMIT;
+    remark(about, "there are %zu byte%s%s; a pass has %zu for each %s, and 1 to %d of them", len,
+           plural(len), len == limit ? " or more" : "", each, writing ? "block" : "word",
+           MAHYREI_PASS_MAX);
+}
+
+void say_where_in_pass(uint64_t answer, const struct pass *pass, bool writing,
+                       const char *operand) {
+    const uint64_t first = answer_place(answer) * MAHYREI_WORD_BYTES;
+    switch (answer_number(answer)) {
+    case MAHYREI_BAD_RATE:
+        remark(NULL, "the rate is %" PRIu64, pass->rate);
+        break;
+    case MAHYREI_BAD_LENGTH:
+        say_count(pass, writing, shown(operand));
+        break;
+    default:
+        remark(shown(operand), "word %" PRIu64 " is bytes %" PRIu64 " to %" PRIu64,
+               answer_place(answer), first, first + MAHYREI_WORD_BYTES - 1);
     }
 }

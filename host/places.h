@@ -2,6 +2,7 @@
 #ifndef PLACES_H
 #define PLACES_H
 
+#include <stdbool.h>
 #include <stdint.h>
 
 #include "library.h"
@@ -14,6 +15,9 @@ struct operands {
 
 /* Says on standard error what more there is to say about this answer. */
 void say_where(uint64_t answer, const struct lent *run, const struct operands *operands);
+
+/* The same for a pass, whose blocks or words were read from this operand. */
+void say_where_in_pass(uint64_t answer, const struct pass *pass, bool writing, const char *operand);
 
 /* The same for a header alone, whose number this is. */
 void say_header(unsigned number, const struct bytes *header, const char *operand);

@@ -11,6 +11,7 @@
 
 #include "descriptors.h"
 #include "mahyrei_plain.h"
+#include "numbers.h"
 #include "progress.h"
 #include "sha256.h"
 
@@ -113,7 +114,7 @@ void say_refusal(uint64_t answer) {
            answer_place(answer), sentence == NULL ? "No call gives this number." : sentence);
 }
 
-/* ---- what the log has of a run */
+/* ---- what the log has of a run or a pass */
 
 void entry_begin(struct entry *entry, const char *what) {
     *entry = (struct entry){.what = what,
@@ -121,7 +122,24 @@ void entry_begin(struct entry *entry, const char *what) {
                             .marker_digits = "-",
                             .marker = NO_SIZE,
                             .frames = {.size = NO_SIZE, .digest = "-"},
-                            .slots = {.size = NO_SIZE, .digest = "-"}};
+                            .slots = {.size = NO_SIZE, .digest = "-"},
+                            .rate = "-",
+                            .blocks = {.size = NO_SIZE, .digest = "-"},
+                            .words = {.size = NO_SIZE, .digest = "-"}};
+}
+
+void entry_pass(struct entry *entry, const char *blocks, const char *words) {
+    entry->pass = true;
+    entry->blocks.name = blocks;
+    entry->words.name = words;
+}
+
+void entry_rate(struct entry *entry, uint64_t rate) {
+    if (rate_name(rate) != NULL) {
+        snprintf(entry->rate, sizeof entry->rate, "%s", rate_name(rate));
+    } else {
+        snprintf(entry->rate, sizeof entry->rate, "%" PRIu64, rate);
+    }
 }
 
 /* Headers and markers have capital letters, as in the specification; digests have small ones, as
@@ -232,14 +250,25 @@ static void print_part(FILE *to, const char *what, const struct entry_part *part
     print_escaped(to, part->name == NULL ? "-" : part->name, true);
 }
 
-static void print_entry(FILE *to, const struct entry *entry, int status) {
-    char now[TIME_TEXT];
-    time_text(now);
-    fprintf(to, "%s %s header=%s", now, entry->what, entry->header);
+static void print_run(FILE *to, const struct entry *entry) {
+    fprintf(to, " header=%s", entry->header);
     print_size(to, "marker", entry->marker);
     fprintf(to, " marker-symbols=%s", entry->marker_digits);
     print_part(to, "frames", &entry->frames);
     print_part(to, "slots", &entry->slots);
+}
+
+static void print_pass(FILE *to, const struct entry *entry) {
+    fprintf(to, " rate=%s", entry->rate);
+    print_part(to, "blocks", &entry->blocks);
+    print_part(to, "words", &entry->words);
+}
+
+static void print_entry(FILE *to, const struct entry *entry, int status) {
+    char now[TIME_TEXT];
+    time_text(now);
+    fprintf(to, "%s %s", now, entry->what);
+    (entry->pass ? print_pass : print_run)(to, entry);
     print_number(to, "answer", entry->answered, answer_number(entry->answer));
     print_number(to, "place", entry->answered, answer_place(entry->answer));
     fprintf(to, " status=%d\n", status);

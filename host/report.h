@@ -28,21 +28,24 @@ void say_refusal(uint64_t answer);
 /* A size that is not known, since nothing was read or written. */
 #define NO_SIZE SIZE_MAX
 
-enum { ENTRY_HEX = 72, ENTRY_DIGEST = 65 };
+enum { ENTRY_HEX = 72, ENTRY_DIGEST = 65, ENTRY_RATE = 24 };
 
-/* Frames or slots of a run, as the log has them. */
+/* Frames or slots of a run, blocks or words of a pass, as the log has them. */
 struct entry_part {
-    const char *name; /* NULL where the run has none */
+    const char *name; /* NULL where there is none */
     size_t size;
     char digest[ENTRY_DIGEST]; /* SHA-256 in hexadecimal digits */
 };
 
-/* One run, as the log has it. */
+/* One run or one pass, as the log has it. */
 struct entry {
     const char *what;
-    char header[ENTRY_HEX], marker_digits[ENTRY_HEX];
+    bool pass;
+    char header[ENTRY_HEX], marker_digits[ENTRY_HEX]; /* a run's, and so the next two lines */
     size_t marker;
     struct entry_part frames, slots;
+    char rate[ENTRY_RATE]; /* a pass's, and so the next line */
+    struct entry_part blocks, words;
     bool answered;
     uint64_t answer;
 };
@@ -50,7 +53,11 @@ struct entry {
 void entry_begin(struct entry *entry, const char *what);
 void entry_header(struct entry *entry, const uint8_t *header, size_t len);
 void entry_marker(struct entry *entry, const uint8_t *marker, size_t len);
+void entry_rate(struct entry *entry, uint64_t rate);
 void entry_answer(struct entry *entry, uint64_t answer);
+
+/* From here on it is a pass's. */
+void entry_pass(struct entry *entry, const char *blocks, const char *words);
 
 /* Bytes that are not the whole file get no digest. */
 void entry_part(struct entry_part *part, const uint8_t *at, size_t len, bool whole);

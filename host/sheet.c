@@ -3,8 +3,7 @@
 #include <inttypes.h>
 
 #include "json.h"
-
-static const char *const RATES[] = {"1/3", "1/2", "2/3"};
+#include "numbers.h"
 
 unsigned sheet_of(const struct bytes *header, struct sheet *sheet) {
     mahyrei_header_fields(header->at, header->len, &sheet->fields);
@@ -21,8 +20,8 @@ void print_sheet(FILE *to, const struct sheet *sheet, unsigned number) {
     fprintf(to,
             "%s %" PRIu64 " %" PRIu64 " %" PRIu64 " %" PRIu64 " %" PRIu64 " %" PRIu64 " %" PRIu64
             " %" PRIu64 " %" PRIu64 "\n",
-            RATES[fields->rate], sizes->M, fields->N, fields->B, fields->F, fields->W, fields->A,
-            sizes->C, sizes->symbols, sizes->slots);
+            rate_name(fields->rate), sizes->M, fields->N, fields->B, fields->F, fields->W,
+            fields->A, sizes->C, sizes->symbols, sizes->slots);
 }
 
 /* ---- by name */
@@ -76,7 +75,8 @@ static void print_digits(FILE *to, const struct bytes *header) {
 }
 
 static const char *rate_text(const struct sheet *sheet) {
-    return sheet->fields.rate < 3 ? RATES[sheet->fields.rate] : "none";
+    const char *const name = rate_name(sheet->fields.rate);
+    return name == NULL ? "none" : name;
 }
 
 void print_sheet_long(FILE *to, const struct bytes *header, const struct sheet *sheet,

@@ -3,7 +3,8 @@
  *
  * A word is the 15,120 bits made from one information block: check, termination, convolutional
  * code, code interleaver, accumulator, randomizer. word_write makes the word of a block;
- * word_read accepts a word only if some block makes it, and gives that block back.
+ * word_read accepts a word only if some block makes it, and gives that block back. pass_write and
+ * pass_read do the same for up to 211 of them in a call.
  *
  * A run is a set of transfer frames turned into slots: frame markers, blocks, their words, PPM
  * symbols, channel interleaver, codeblock markers, slots with guard slots. run_write makes the
@@ -49,6 +50,9 @@ extern "C" {
 #define MAHYREI_BLOCK_BYTES_1_2 941
 #define MAHYREI_BLOCK_BYTES_2_3 1256
 #define MAHYREI_BLOCK_BYTES_MAX 1256
+
+/* The most blocks, and words, of a pass, the same at each rate. */
+#define MAHYREI_PASS_MAX 211
 
 /*
  * The run header, eight bytes:
@@ -105,7 +109,8 @@ enum mahyrei_number {
     /* Run calls: W is not 1 to 32, or one of the lent marker symbols, up to the W-th, is M or
      * more. */
     MAHYREI_BAD_MARKER = 7,
-    /* A slice has another length than the rate or the header implies. */
+    /* A slice has another length than the rate or the header implies. Passes: the slices do not
+     * hold n whole blocks and n words, with n from 1 to MAHYREI_PASS_MAX. */
     MAHYREI_BAD_LENGTH = 8,
 
     /* run_read: a spare bit of the last slot byte is set; there are such bits only where m is 2, 3
@@ -122,8 +127,8 @@ enum mahyrei_number {
     /* Reading: no input to the convolutional code makes this word. In word_read the place is the
      * first wrong coded bit, counted from 0 in the order of the encoder's output (not in the order
      * of the word): the first that differs when the input bits, read from the encoder's second
-     * output alone, are encoded again. In run_read the place is the word, as it is for 14 and
-     * 15, which are asked of one word before 13 is asked of the next. */
+     * output alone, are encoded again. In pass_read and run_read the place is the word, as it is
+     * for 14 and 15, which are asked of one word before 13 is asked of the next. */
     MAHYREI_BAD_CODE = 13,
     /* Reading: the two termination bits are not both zero. */
     MAHYREI_BAD_TERMINATION = 14,
@@ -180,6 +185,33 @@ uint64_t word_write(uint64_t rate, const uint8_t *block, size_t block_len, uint8
  */
 uint64_t word_read(uint64_t rate, const uint8_t *word, size_t word_len, uint8_t *block,
                    size_t block_len);
+
+/*
+ * pass_write: makes the words of up to MAHYREI_PASS_MAX blocks of one rate.
+ *
+ * Reads   blocks, n packed blocks of word_block_bytes(rate) bytes each, back to back, with n from 1
+ *         to MAHYREI_PASS_MAX. The length says what n is.
+ * Writes  words, n * MAHYREI_WORD_BYTES bytes, all of them, whatever they held: the words that
+ *         word_write makes of the blocks one by one, back to back; none on refusal.
+ * Returns 0 on acceptance; otherwise number 2 or 8, place 0 (so the answer is the number).
+ */
+uint64_t pass_write(uint64_t rate, const uint8_t *blocks, size_t blocks_len, uint8_t *words,
+                    size_t words_len);
+
+/*
+ * pass_read: gives back the blocks that make the words of a pass.
+ *
+ * Reads   words, n words of MAHYREI_WORD_BYTES bytes each, back to back, with n from 1 to
+ *         MAHYREI_PASS_MAX. The length says what n is.
+ * Writes  blocks, n * word_block_bytes(rate) bytes, all of them, whatever they held, and only when
+ *         the last word has been judged: the blocks that word_read gives one by one, back to back;
+ *         none on refusal.
+ * Returns 0 on acceptance. Otherwise place * 256 + number, with number 2, 8, 13, 14 or 15; for 13
+ *         to 15 that is the number that word_read gives for the first word it refuses, and the
+ *         place is that word, counted from 0. Take it apart by answer_number and answer_place.
+ */
+uint64_t pass_read(uint64_t rate, const uint8_t *words, size_t words_len, uint8_t *blocks,
+                   size_t blocks_len);
 
 /*
  * run_write: makes the slots of a run.

@@ -15,7 +15,8 @@ static const char *const SENTENCES[] = {
                            "frames.",
     [MAHYREI_BAD_MARKER] = "The marker is out of range: W is not 1 to 32, or a lent marker symbol "
                            "is not below the pulse order.",
-    [MAHYREI_BAD_LENGTH] = "A lent slice is longer or shorter than the rate or the header says.",
+    [MAHYREI_BAD_LENGTH] = "A lent slice is longer or shorter than the rate or the header says; a "
+                           "pass has 1 to 211 blocks, whole, and as many words.",
     [MAHYREI_BAD_SPARE] = "A spare bit behind the last slot is set.",
     [MAHYREI_BAD_PULSE] = "A symbol's slots do not hold exactly one pulse, or it stands in a guard "
                           "slot; the place is that symbol, markers counted.",

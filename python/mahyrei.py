@@ -11,9 +11,9 @@
 
 Everything is `bytes`, in and out; other objects with a buffer, such as bytearray and memoryview,
 are taken too and copied first. A call gives its whole result or raises Refused. What a refusal says
-comes from the library: run_write, run_read, word_write and word_read are proved there; header,
-fields, sizes and sentence are plain C, and tested. This module adds nothing to their answers; it
-only lends them room.
+comes from the library: run_write, run_read, word_write, word_read, pass_write and pass_read are
+proved there; header, fields, sizes and sentence are plain C, and tested. This module adds nothing
+to their answers; it only lends them room.
 
 A call works in less than 1 MiB of stack, so a thread that makes one needs a stack above that (see
 threading.stack_size; 0, the default, is enough on Linux). Calls let other threads run meanwhile.
@@ -33,6 +33,8 @@ __all__ = [
     "Sizes",
     "fields",
     "header",
+    "pass_read",
+    "pass_write",
     "run_read",
     "run_write",
     "sentence",
@@ -47,6 +49,7 @@ _LIBRARY = "libmahyrei.so.0"
 _HEADER_BYTES = 8
 _WORD_BYTES = 1890
 _BLOCK_BYTES = (626, 941, 1256)  # by rate
+_PASS_MOST = 211
 _U64_MOST = 2**64 - 1
 
 
@@ -110,6 +113,8 @@ def _load():
     for name, result, arguments in (
         ("word_write", u64, [u64] + given + room),
         ("word_read", u64, [u64] + given + room),
+        ("pass_write", u64, [u64] + given + room),
+        ("pass_read", u64, [u64] + given + room),
         ("run_write", u64, given * 3 + room),
         ("run_read", u64, given * 3 + room),
         ("mahyrei_header_fields", number, given + [pointer(_CFields)]),
@@ -162,8 +167,36 @@ def word_read(rate, word):
     """The packed block that makes this word at this rate, its two spare bits zero. Refused with 2,
     8, 13, 14 or 15; for 13 the place is the first wrong coded bit."""
     word, rate = _bytes(word), _number(rate)
-    length = _BLOCK_BYTES[rate] if rate < len(_BLOCK_BYTES) else 0
-    return _written(lambda *rest: _library.word_read(rate, *rest), [word], length)
+    return _written(
+        lambda *rest: _library.word_read(rate, *rest), [word], _block_bytes(rate)
+    )
+
+
+def _block_bytes(rate):
+    """The bytes of a packed block; 0 for a rate that there is not: the call itself says so."""
+    return _BLOCK_BYTES[rate] if rate < len(_BLOCK_BYTES) else 0
+
+
+def _count(length, size):
+    """How many blocks or words there are; 0 for more than a pass has, which the call refuses."""
+    return length // size if 0 < length <= _PASS_MOST * size else 0
+
+
+def pass_write(rate, blocks):
+    """The words, back to back, of 1 to 211 packed blocks of this rate, back to back: each as
+    word_write makes it. Refused with 2 or 8."""
+    blocks, rate = _bytes(blocks), _number(rate)
+    length = _count(len(blocks), _block_bytes(rate)) * _WORD_BYTES
+    return _written(lambda *rest: _library.pass_write(rate, *rest), [blocks], length)
+
+
+def pass_read(rate, words):
+    """The packed blocks, back to back, that make these 1 to 211 words at this rate: each as
+    word_read gives it. Refused with 2, 8, 13, 14 or 15; for 13 to 15 the place is the first word
+    that is refused, and no block is given."""
+    words, rate = _bytes(words), _number(rate)
+    length = _count(len(words), _WORD_BYTES) * _block_bytes(rate)
+    return _written(lambda *rest: _library.pass_read(rate, *rest), [words], length)
 
 
 def run_write(header, marker, frames):

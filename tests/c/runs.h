@@ -1,8 +1,11 @@
 /*
- * Runs as the C tests make them: the header's fields, the sizes that follow (mahyrei.h), and bits.
+ * Runs as the C tests make them: the header's fields, the sizes that follow (mahyrei.h), bits, and
+ * damage to a word.
  */
 #ifndef RUNS_H
 #define RUNS_H
+
+#include <stdbool.h>
 
 #include "mahyrei.h"
 
@@ -93,6 +96,40 @@ static inline void flip_coded(uint8_t *word, uint64_t coded) {
     for (; j < MAHYREI_WORD_BITS; j++) {
         flip(word, (size_t)j);
     }
+}
+
+/* Input bits of the code behind the block: check and termination. */
+enum { CODE_TAIL = 34 };
+
+static inline size_t code_inputs(uint64_t rate) {
+    return word_block_bytes(rate) * 8 - 2 + CODE_TAIL;
+}
+
+/* Changes the encoder's outputs at one step: the second, and the first only where it is asked. */
+static inline void flip_outputs(uint64_t rate, uint8_t *word, size_t step, bool first) {
+    if (step >= code_inputs(rate)) {
+        return;
+    }
+    size_t place = rate == MAHYREI_RATE_1_3   ? 3 * step
+                   : rate == MAHYREI_RATE_1_2 ? 2 * step
+                                              : (3 * step + 1) / 2;
+    if (rate != MAHYREI_RATE_2_3 || step % 2 == 0) { /* the first is kept */
+        if (first) {
+            flip_coded(word, place);
+        }
+        place++;
+    }
+    flip_coded(word, place);
+    if (rate == MAHYREI_RATE_1_3) { /* the third is the second again */
+        flip_coded(word, place + 1);
+    }
+}
+
+/* The word as if one input bit of the code had been another: outputs 1 + D^2 and 1 + D + D^2. */
+static inline void flip_code_input(uint64_t rate, uint8_t *word, size_t input) {
+    flip_outputs(rate, word, input, true);
+    flip_outputs(rate, word, input + 1, false);
+    flip_outputs(rate, word, input + 2, true);
 }
 
 #endif

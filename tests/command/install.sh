@@ -8,7 +8,8 @@ once_numbers() {
     same 'numbers of the man page' "$(numbers | xargs)" \
         "$(sed -n 's/^\.IP \([0-9]*\) 4$/\1/p' "$root/host/mahyrei.1" | xargs)"
     same 'numbers of the header' "$(numbers | xargs)" \
-        "$(gcc -E -P "$root/include/mahyrei.h" | tr -d '\n' | sed 's/.*enum mahyrei_number {\([^}]*\)}.*/\1/' |
+        "$(gcc -E -P "$root/include/mahyrei.h" | tr -d '\n' |
+            sed 's/.*enum mahyrei_number {\([^}]*\)}.*/\1/' |
             grep -Eo '= *[0-9]+' | tr -d '= ' | xargs)"
     for ((number = 0; number < 256; number++)); do
         ! "$mahyrei" explain "$number" >"$said/out" 2>&1 || sentences+=" $number"
@@ -27,8 +28,8 @@ once_manual() {
     local version word
     version=$("$mahyrei" --version)
     has 'version and date of the man page' "\"$version\"" "$(grep '^\.TH' "$root/host/mahyrei.1")"
-    for word in $("$mahyrei" --help | sed -En 's/^  ([a-z]+) +.*/\1/p'); do
-        has "the man page on $word" ".B $word" "$(<"$root/host/mahyrei.1")"
+    for word in $("$mahyrei" --help | sed -En 's/^  ([a-z][a-z-]*) +.*/\1/p'); do
+        has "the man page on $word" ".B ${word//-/\\-}"$'\n' "$(<"$root/host/mahyrei.1")"
     done
     for word in $("$mahyrei" --help | grep -Eo -- '^ +(-., )?--[a-z-]+' | grep -Eo -- '--[a-z-]+'); do
         has "the man page on $word" "${word//-/\\-}" "$(<"$root/host/mahyrei.1")"
@@ -55,8 +56,8 @@ once_install() {
     same 'files of make install' "$files share/man/man1/mahyrei.1 share/man/man3/mahyrei.3" \
         "$(cd "$prefix_folder" && find . ! -type d -printf '%P\n' | sort | xargs)"
     nm -g --defined-only "$prefix_folder/lib/libmahyrei.a" >"$said/out"
-    same 'calls of the library' 'run_read run_write word_read word_write' \
-        "$(grep -Eo ' T (run|word)_(read|write)$' "$said/out" | cut -c 4- | sort | xargs)"
+    same 'calls of the library' 'pass_read pass_write run_read run_write word_read word_write' \
+        "$(grep -Eo ' T (pass|run|word)_(read|write)$' "$said/out" | cut -c 4- | sort | xargs)"
     awk '/^```c$/ { on = 1; next } /^```$/ { on = 0 } on' "$root/README.md" >program.c
     flags="'-I$prefix_folder/include' '-L$prefix_folder/lib' -lmahyrei"
     if command -v pkg-config >"$said/out"; then
@@ -114,10 +115,12 @@ once_completion() {
             COMP_CWORD=$(($# - 1)); _mahyrei 2>/dev/null; echo "${COMPREPLY[*]}"' bash "$root" "$@"
     }
     same 'a subcommand' verify "$(completed mahyrei ver)"
-    same 'subcommands' "$("$mahyrei" --help | sed -n 's/^ *\(usage:\)* mahyrei \([a-z]*\) .*/\2/p' |
+    same 'subcommands' "$("$mahyrei" --help | sed -n 's/^ *\(usage:\)* mahyrei \([a-z][a-z-]*\) .*/\2/p' |
         sort | xargs)" "$(completed mahyrei '' | xargs -n 1 | sort | xargs)"
     same 'an option' --no-clobber "$(completed mahyrei write --no)"
     same 'a field' 'rate=1/3 rate=1/2 rate=2/3' "$(completed mahyrei header rate)"
+    same 'a rate' '1/3 1/2' "$(completed mahyrei pass-write 1)"
+    same 'a file behind the rate' frames "$(completed mahyrei pass-read -n 1/3 fra)"
     same 'a file' frames "$(completed mahyrei write "$header" "$marker" fra)"
     same 'the file of the log' frames "$(completed mahyrei --log fra)"
     same 'a subcommand behind the log' verify "$(completed mahyrei --log log ver)"

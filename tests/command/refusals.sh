@@ -50,14 +50,6 @@ test_refusals() {
     refused 18 0 read "$(header 1 4 5 189 500 5 2)" "$m" slots out
 }
 
-# says TEXT WORD...: the refusal says this too, in a line of its own
-says() {
-    local text=$1
-    shift
-    run 1 "$@"
-    has "where mahyrei $* is refused" "mahyrei: $text"$'\n' "$err"$'\n'
-}
-
 # Which field, which file and its size, which slots and bytes.
 test_refusal_says_where() {
     begin

@@ -1,14 +1,15 @@
 /*
- * Fuzz target over the four calls: an input is read as a call with its arguments, never as slots
- * alone, since no fuzzer would find a run or a word by itself. A word or a run to be read is
- * written by the library first, then damaged as the input says: slots, symbols, coded bits, input
- * bits of the code, bits of the stream under a right check. Or it is the rest of the input itself.
+ * Fuzz target over all calls: an input is read as a call with its arguments, never as slots
+ * alone, since no fuzzer would find a run or a word by itself. A word, a pass or a run to be read
+ * is written by the library first, then damaged as the input says: slots, symbols, coded bits,
+ * input bits of the code, bits of the stream under a right check. Or it is the rest of the input
+ * itself.
  *
  * What is demanded of each call: the answer and every byte of the written slice are those of the
- * plain C version (tests/c/plain_run.c, bench/plain_word.c), which is built into the fuzzer and
- * guides it, the library being closed to it; a refused call changes no lent byte; what is accepted
- * goes back to where it came from, bit for bit but for a block's spare bits; number and place are
- * ones that the call can give.
+ * plain C version (tests/c/plain_run.c, bench/plain_word.c and plain_pass.c), which is built into
+ * the fuzzer and guides it, the library being closed to it; a refused call changes no lent byte;
+ * what is accepted goes back to where it came from, bit for bit but for a block's spare bits;
+ * number and place are ones that the call can give.
  *
  * The sanitizers do not see into the library either. So each slice is lent from pages of its own,
  * right before or right behind a page that may not be touched, with a margin of bytes on its other
@@ -26,6 +27,7 @@
 #include "../c/runs.h"
 #include "calls.h"
 #include "mahyrei.h"
+#include "plain_pass.h"
 #include "plain_run.h"
 #include "plain_word.h"
 
@@ -34,19 +36,21 @@ enum {
     MARGIN = 64,
     SLOTS_MOST = 1 << 20, /* slot bytes; runs up to the largest of 182 MB are too slow to fuzz */
     AREA = SLOTS_MOST + PAGE,
-    MARKER_ROOM = 64, /* W has six bits */
-    CODE_TAIL = 34    /* input bits of the code behind the block: check and termination */
+    MARKER_ROOM = 64 /* W has six bits */
 };
 
 /* Bits of the header's fields, in order; the last are the zeros at its end. */
 static const size_t WIDTHS[8] = {2, 4, 8, 9, 12, 6, 7, 16};
 
-static const char *const CALL_NAMES[CALLS] = {"word_write", "word_read", "run_write", "run_read"};
+static const char *const CALL_NAMES[CALLS] = {"word_write", "word_read", "pass_write",
+                                              "pass_read",  "run_write", "run_read"};
 
 /* The numbers that a call can answer, a bit each. */
 static const uint32_t CAN_ANSWER[CALLS] = {
     [WORD_WRITE] = 1U << 0 | 1U << 2 | 1U << 8,
     [WORD_READ] = 1U << 0 | 1U << 2 | 1U << 8 | 1U << 13 | 1U << 14 | 1U << 15,
+    [PASS_WRITE] = 1U << 0 | 1U << 2 | 1U << 8,
+    [PASS_READ] = 1U << 0 | 1U << 2 | 1U << 8 | 1U << 13 | 1U << 14 | 1U << 15,
     [RUN_WRITE] = 0x1FF,
     [RUN_READ] = 0x1FFFF | 1U << 18,
 };
@@ -233,6 +237,10 @@ static uint64_t put_library(enum call call, uint64_t rate) {
         return word_write(rate, from->slice, from->len, to->slice, to->len);
     case WORD_READ:
         return word_read(rate, from->slice, from->len, to->slice, to->len);
+    case PASS_WRITE:
+        return pass_write(rate, from->slice, from->len, to->slice, to->len);
+    case PASS_READ:
+        return pass_read(rate, from->slice, from->len, to->slice, to->len);
     case RUN_WRITE:
         return run_write(h->slice, h->len, m->slice, m->len, from->slice, from->len, to->slice,
                          to->len);
@@ -250,6 +258,10 @@ static uint64_t put_plain(enum call call, uint64_t rate, uint8_t *to, size_t to_
         return plain_word_write(rate, from->slice, from->len, to, to_len);
     case WORD_READ:
         return plain_word_read(rate, from->slice, from->len, to, to_len);
+    case PASS_WRITE:
+        return plain_pass_write(rate, from->slice, from->len, to, to_len);
+    case PASS_READ:
+        return plain_pass_read(rate, from->slice, from->len, to, to_len);
     case RUN_WRITE:
         return plain_run_write(h->slice, h->len, m->slice, m->len, from->slice, from->len, to,
                                to_len);
@@ -263,6 +275,9 @@ static uint64_t put_plain(enum call call, uint64_t rate, uint8_t *to, size_t to_
 static uint64_t place_limit(enum call call, unsigned number) {
     if (call == WORD_READ && number == MAHYREI_BAD_CODE) {
         return MAHYREI_WORD_BITS;
+    }
+    if (call == PASS_READ && number >= MAHYREI_BAD_CODE) {
+        return lent[FROM].len / MAHYREI_WORD_BYTES;
     }
     if (call != RUN_READ || number < MAHYREI_BAD_PULSE || number > MAHYREI_BAD_FRAME_MARKER) {
         return 1;
@@ -318,18 +333,20 @@ static uint64_t put(enum call call, uint64_t rate) {
 /* Puts a call and, where it is accepted, the call that goes the other way. */
 static void put_and_back(enum call call, uint64_t rate) {
     static uint8_t came[AREA], went[AREA];
-    const enum call back = call == WORD_WRITE  ? WORD_READ
-                           : call == WORD_READ ? WORD_WRITE
-                           : call == RUN_WRITE ? RUN_READ
-                                               : RUN_WRITE;
+    static const enum call BACK[CALLS] = {WORD_READ,  WORD_WRITE, PASS_READ,
+                                          PASS_WRITE, RUN_READ,   RUN_WRITE};
+    const enum call back = BACK[call];
     if (put(call, rate) != MAHYREI_ACCEPTED) {
         return;
     }
     const size_t from_len = lent[FROM].len, to_len = lent[TO].len;
     memcpy(came, lent[FROM].slice, from_len);
     memcpy(went, lent[TO].slice, to_len);
-    if (call == WORD_WRITE) { /* the spare bits do not come back */
-        came[from_len - 1] &= 0xFC;
+    if (call == WORD_WRITE || call == PASS_WRITE) { /* the spare bits do not come back */
+        const size_t each = word_block_bytes(rate);
+        for (size_t last = each - 1; last < from_len; last += each) {
+            came[last] &= 0xFC;
+        }
     }
     lend(FROM, to_len, went, to_len);
     lend_to(from_len);
@@ -340,37 +357,6 @@ static void put_and_back(enum call call, uint64_t rate) {
 /* ---- words */
 
 static uint8_t given[AREA]; /* what is lent to be read */
-
-static size_t code_inputs(uint64_t rate) {
-    return word_block_bytes(rate) * 8 - 2 + CODE_TAIL;
-}
-
-/* Changes the encoder's outputs at one step: the second, and the first only where it is asked. */
-static void flip_outputs(uint8_t *word, uint64_t rate, size_t step, bool first) {
-    if (step >= code_inputs(rate)) {
-        return;
-    }
-    size_t place = rate == MAHYREI_RATE_1_3   ? 3 * step
-                   : rate == MAHYREI_RATE_1_2 ? 2 * step
-                                              : (3 * step + 1) / 2;
-    if (rate != MAHYREI_RATE_2_3 || step % 2 == 0) { /* the first is kept */
-        if (first) {
-            flip_coded(word, place);
-        }
-        place++;
-    }
-    flip_coded(word, place);
-    if (rate == MAHYREI_RATE_1_3) { /* the third is the second again */
-        flip_coded(word, place + 1);
-    }
-}
-
-/* The word as if one input bit of the code had been another: outputs 1 + D^2 and 1 + D + D^2. */
-static void flip_code_input(uint8_t *word, uint64_t rate, size_t input) {
-    flip_outputs(word, rate, input, true);
-    flip_outputs(word, rate, input + 1, false);
-    flip_outputs(word, rate, input + 2, true);
-}
 
 static void damage_word(struct input *in, uint64_t rate, uint8_t *word) {
     const size_t inputs = code_inputs(rate);
@@ -387,13 +373,13 @@ static void damage_word(struct input *in, uint64_t rate, uint8_t *word) {
             flip_coded(word, MAHYREI_WORD_BITS - 1 - place % 6);
             break;
         case 3: /* check and termination */
-            flip_code_input(word, rate, inputs - 1 - place % CODE_TAIL);
+            flip_code_input(rate, word, inputs - 1 - place % CODE_TAIL);
             break;
         case 4: /* termination */
-            flip_code_input(word, rate, inputs - 1 - place % 2);
+            flip_code_input(rate, word, inputs - 1 - place % 2);
             break;
         default:
-            flip_code_input(word, rate, place % inputs);
+            flip_code_input(rate, word, place % inputs);
         }
     }
 }
@@ -410,9 +396,16 @@ static void make_word(struct input *in, uint64_t rate) {
     damage_word(in, rate, given);
 }
 
+/* Mostly a rate that there is; `known` is one in any case, to make something by. */
+static uint64_t take_rate(struct input *in, uint64_t *known) {
+    const uint64_t choice = take(in, 1);
+    *known = choice % 3;
+    return choice < 240 ? *known : take(in, 8);
+}
+
 static void put_word(struct input *in, enum call call) {
-    const uint64_t choice = take(in, 1), known = choice % 3;
-    const uint64_t rate = choice < 240 ? known : take(in, 8);
+    uint64_t known;
+    const uint64_t rate = take_rate(in, &known);
     const size_t block_len = choose_len(in, word_block_bytes(known));
     const size_t word_len = choose_len(in, MAHYREI_WORD_BYTES);
     if (call == WORD_WRITE) {
@@ -423,6 +416,47 @@ static void put_word(struct input *in, enum call call) {
         make_word(in, known);
         lend(FROM, word_len, given, MAHYREI_WORD_BYTES);
         lend_to(block_len);
+    }
+    put_and_back(call, rate);
+}
+
+/* ---- passes */
+
+/* How many blocks or words are lent: mostly few, which is fast, and now and then about the most. */
+static size_t take_count(struct input *in) {
+    const size_t choice = take_below(in, 1, 128);
+    return choice < 124 ? choice % 6 : MAHYREI_PASS_MAX - 2 + choice % 4;
+}
+
+/* The words of n blocks, and a few of them damaged; in most passes one. */
+static void make_words(struct input *in, uint64_t rate, size_t n) {
+    static uint8_t blocks[AREA];
+    const size_t len = word_block_bytes(rate);
+    fill(in, blocks, n * len);
+    for (size_t i = 0; i < n; i++) {
+        require(word_write(rate, blocks + i * len, len, given + i * MAHYREI_WORD_BYTES,
+                           MAHYREI_WORD_BYTES) == 0,
+                WORD_WRITE, "refused a block");
+    }
+    for (size_t left = n > 0 ? take_few(in) : 0; left > 0; left--) {
+        damage_word(in, rate, given + take_below(in, 1, n) * MAHYREI_WORD_BYTES);
+    }
+}
+
+static void put_pass(struct input *in, enum call call) {
+    uint64_t known;
+    const uint64_t rate = take_rate(in, &known);
+    const size_t n = take_count(in), other = take_below(in, 1, 16) == 15 ? take_count(in) : n;
+    const size_t blocks_len = choose_len(in, n * word_block_bytes(known));
+    const size_t words_len = choose_len(in, other * MAHYREI_WORD_BYTES);
+    if (call == PASS_WRITE) {
+        fill(in, given, blocks_len);
+        lend(FROM, blocks_len, given, blocks_len);
+        lend_to(words_len);
+    } else {
+        make_words(in, known, other);
+        lend(FROM, words_len, given, other * MAHYREI_WORD_BYTES);
+        lend_to(blocks_len);
     }
     put_and_back(call, rate);
 }
@@ -701,6 +735,8 @@ int LLVMFuzzerTestOneInput(const uint8_t *data, size_t size) {
     counts->inputs++;
     if (is_run(call)) {
         put_run(&in, call);
+    } else if (call == PASS_WRITE || call == PASS_READ) {
+        put_pass(&in, call);
     } else {
         put_word(&in, call);
     }

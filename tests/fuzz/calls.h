@@ -1,5 +1,5 @@
 /*
- * The fuzz target over the four calls, as libFuzzer knows it, and what it counts.
+ * The fuzz target over all calls, as libFuzzer knows it, and what it counts.
  */
 #ifndef CALLS_H
 #define CALLS_H
@@ -7,7 +7,8 @@
 #include <stddef.h>
 #include <stdint.h>
 
-enum call { WORD_WRITE, WORD_READ, RUN_WRITE, RUN_READ, CALLS };
+/* The run calls come last. */
+enum call { WORD_WRITE, WORD_READ, PASS_WRITE, PASS_READ, RUN_WRITE, RUN_READ, CALLS };
 
 enum { NUMBERS = 19 };
 

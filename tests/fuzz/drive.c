@@ -15,8 +15,8 @@
 #include "calls.h"
 
 enum {
-    PAIRS = 3 + 6 + 9 + 18, /* of call and number, as calls.c has them */
-    LEAST_INPUTS = 1000,
+    PAIRS = 3 + 6 + 3 + 6 + 9 + 18, /* of call and number, as calls.c has them */
+    LEAST_INPUTS = 1500,
     MOST_INPUTS = 20000,
     RANDOM_LEN = 96,
     INPUT_MOST = 16384

@@ -87,32 +87,43 @@ impl Lent {
     }
 }
 
-/// The four calls.
+/// The calls.
 #[derive(Clone, Copy)]
 pub enum Call {
     WordWrite,
     WordRead,
+    PassWrite,
+    PassRead,
     RunWrite,
     RunRead,
 }
 
 impl Call {
-    pub const ALL: [Call; 4] = [
+    pub const ALL: [Call; 6] = [
         Call::WordWrite,
         Call::WordRead,
+        Call::PassWrite,
+        Call::PassRead,
         Call::RunWrite,
         Call::RunRead,
     ];
 
     pub fn name(self) -> &'static str {
-        ["word_write", "word_read", "run_write", "run_read"][self as usize]
+        match self {
+            Call::WordWrite => "word_write",
+            Call::WordRead => "word_read",
+            Call::PassWrite => "pass_write",
+            Call::PassRead => "pass_read",
+            Call::RunWrite => "run_write",
+            Call::RunRead => "run_read",
+        }
     }
 
     /// The numbers that the call can answer.
     pub fn numbers(self) -> &'static [u8] {
         match self {
-            Call::WordWrite => &[0, 2, 8],
-            Call::WordRead => &[0, 2, 8, 13, 14, 15],
+            Call::WordWrite | Call::PassWrite => &[0, 2, 8],
+            Call::WordRead | Call::PassRead => &[0, 2, 8, 13, 14, 15],
             Call::RunWrite => &[0, 1, 2, 3, 4, 5, 6, 7, 8],
             Call::RunRead => &[0, 1, 2, 3, 4, 5, 6, 7, 8, 9, 10, 11, 12, 13, 14, 15, 16, 18],
         }
@@ -131,6 +142,13 @@ impl Way {
         match self {
             Way::Write => Call::WordWrite,
             Way::Read => Call::WordRead,
+        }
+    }
+
+    pub fn of_passes(self) -> Call {
+        match self {
+            Way::Write => Call::PassWrite,
+            Way::Read => Call::PassRead,
         }
     }
 
@@ -209,7 +227,7 @@ impl Counts {
 /// What has been compared, and what came of it.
 pub struct Tally {
     started: Instant,
-    counts: [Counts; 4],
+    counts: [Counts; Call::ALL.len()],
 }
 
 impl Default for Tally {

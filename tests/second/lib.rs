@@ -3,6 +3,9 @@
 pub mod compare;
 #[cfg(not(test))] // the tests of the second implementation are linked with no library
 pub mod library;
+pub mod pass;
+#[cfg(not(test))]
+pub mod pass_cases;
 pub mod run;
 #[cfg(not(test))]
 pub mod run_cases;

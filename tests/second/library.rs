@@ -16,6 +16,20 @@ mod c {
             block: *mut u8,
             block_len: usize,
         ) -> u64;
+        pub fn pass_write(
+            rate: u64,
+            blocks: *const u8,
+            blocks_len: usize,
+            words: *mut u8,
+            words_len: usize,
+        ) -> u64;
+        pub fn pass_read(
+            rate: u64,
+            words: *const u8,
+            words_len: usize,
+            blocks: *mut u8,
+            blocks_len: usize,
+        ) -> u64;
         pub fn run_write(
             header: *const u8,
             header_len: usize,
@@ -39,7 +53,7 @@ mod c {
     }
 }
 
-// SAFETY, of all four: each pointer is valid for the length beside it, and the slice that is
+// SAFETY, of all: each pointer is valid for the length beside it, and the slice that is
 // written overlaps no other, since it is borrowed alone.
 
 pub fn word_write(rate: u64, block: &[u8], word: &mut [u8]) -> u64 {
@@ -50,6 +64,16 @@ pub fn word_write(rate: u64, block: &[u8], word: &mut [u8]) -> u64 {
 pub fn word_read(rate: u64, word: &[u8], block: &mut [u8]) -> u64 {
     let (block, block_len) = (block.as_mut_ptr(), block.len());
     unsafe { c::word_read(rate, word.as_ptr(), word.len(), block, block_len) }
+}
+
+pub fn pass_write(rate: u64, blocks: &[u8], words: &mut [u8]) -> u64 {
+    let (words, words_len) = (words.as_mut_ptr(), words.len());
+    unsafe { c::pass_write(rate, blocks.as_ptr(), blocks.len(), words, words_len) }
+}
+
+pub fn pass_read(rate: u64, words: &[u8], blocks: &mut [u8]) -> u64 {
+    let (blocks, blocks_len) = (blocks.as_mut_ptr(), blocks.len());
+    unsafe { c::pass_read(rate, words.as_ptr(), words.len(), blocks, blocks_len) }
 }
 
 pub fn run_write(header: &[u8], marker: &[u8], frames: &[u8], slots: &mut [u8]) -> u64 {

@@ -1,4 +1,4 @@
-//! Compares all four calls with the second implementation, on all cores and for a given time:
+//! Compares all calls with the second implementation, on all cores and for a given time:
 //! `soak [SECONDS]`.
 //!
 //! The cases of one SEED are numbered, and each depends on the seed and its number alone, not on
@@ -7,6 +7,7 @@
 //! the same SEED comes to it again.
 
 use second::compare::{argument, optional_argument, verdict, Call, Rng, Tally, MANY_DIFFERENCES};
+use second::pass_cases::compare_pass;
 use second::run_cases::{compare_any, compare_run, edges, Sizes};
 use second::word_cases::compare_word;
 use std::fs::File;
@@ -40,14 +41,15 @@ fn fresh_seed() -> Result<u64, String> {
     Ok(u64::from_be_bytes(bytes))
 }
 
-/// Puts one case. Of 32, 20 are words, 11 are runs, one is a run with any header, of which some are
-/// large; the specification's edges come first.
+/// Puts one case. Of 32, 17 are words, 3 are passes, 11 are runs, one is a run with any header, of
+/// which some are large; the specification's edges come first.
 fn put_case(tally: &mut Tally, soak: &Soak, case: u64) {
     let rng = &mut Rng::of_index(soak.seed, case);
     let (round, seat) = (case / 32, case % 32);
     match seat {
         _ if case == 0 => edges(tally, rng),
-        0..=19 => compare_word(tally, rng, 20 * round + seat),
+        0..=16 => compare_word(tally, rng, 17 * round + seat),
+        17..=19 => compare_pass(tally, rng, 3 * round + seat - 17),
         20..=30 => drop(compare_run(tally, rng, &soak.sizes, 11 * round + seat - 20)),
         _ => compare_any(tally, rng, &soak.sizes, round),
     }

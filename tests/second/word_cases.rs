@@ -199,7 +199,7 @@ const DAMAGES: [Damage; 16] = [
     },
 ];
 
-fn rate_of(number: u64) -> &'static Rate {
+pub(crate) fn rate_of(number: u64) -> &'static Rate {
     Rate::of(number).expect("a rate below 3")
 }
 
@@ -257,9 +257,15 @@ fn compare(
     });
 }
 
+/// A rate that there is not; one of them is a rate in its low 32 bits.
+pub(crate) fn wrong_rate(rng: &mut Rng) -> u64 {
+    let (wide, any) = ((1 << 32) + rng.next() % 3, rng.next() | 4);
+    rng.pick(&[3, 4, 255, 256, 258, 1 << 63, u64::MAX, wide, any])
+}
+
 /// A call with wrong arguments, one way of being wrong for each bit of `wrong`.
 fn refused_call(tally: &mut Tally, rng: &mut Rng, rate: u64, wrong: u64, what: &str) {
-    let wrong_rate = wrong & 1 != 0;
+    let no_rate = wrong & 1 != 0;
     let wrong_input = wrong & 2 != 0;
     let wrong_output = wrong & 4 != 0;
     let way = if wrong & 8 != 0 {
@@ -283,14 +289,11 @@ fn refused_call(tally: &mut Tally, rng: &mut Rng, rate: u64, wrong: u64, what: &
             *len = rng.pick(&[0, 1, right - 1, right + 1, 626, 941, 1256, 1890, any]);
         }
     }
-    // `wide` is a rate in its low 32 bits
-    let (wide, any) = ((1 << 32) + rng.next() % 3, rng.next() | 4);
-    let far = [3, 4, 255, 256, 258, 1 << 63, u64::MAX, wide, any];
-    let rate = if wrong_rate { rng.pick(&far) } else { rate };
+    let rate = if no_rate { wrong_rate(rng) } else { rate };
 
     let input = rng.bytes(input_len);
     let number = match way {
-        _ if wrong_rate => 2,
+        _ if no_rate => 2,
         _ if wrong_input || wrong_output => 8,
         Way::Write => 0,
         Way::Read => 13,

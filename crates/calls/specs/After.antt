@@ -4,6 +4,7 @@ use Prim.Native.Nat.{ℕ}
 use lib.ListN.{length}
 use Rattle.answers.specs.Answer.{after}
 use Rattle.word.specs.Word as words
+use Rattle.pass.specs.Pass as passes
 use Rattle.run.specs.Run as runs
 
 abbrev pub wordAfter : ℕ → List ℕ → List ℕ → List ℕ
@@ -11,6 +12,12 @@ wordAfter rate block old = after (words.writeSays rate block (length old)) (word
 
 abbrev pub blockAfter : ℕ → List ℕ → List ℕ → List ℕ
 blockAfter rate word old = after (words.readSays rate word (length old)) (words.blockIn rate word) old
+
+abbrev pub wordsAfter : ℕ → List ℕ → List ℕ → List ℕ
+wordsAfter rate blocks old = after (passes.writeSays rate blocks (length old)) (passes.wordsOf rate blocks) old
+
+abbrev pub blocksAfter : ℕ → List ℕ → List ℕ → List ℕ
+blocksAfter rate words old = after (passes.readSays rate words (length old)) (passes.blocksOf rate words) old
 
 abbrev pub slotsAfter : List ℕ → List ℕ → List ℕ → List ℕ → List ℕ
 slotsAfter header marker frames old = after (runs.writeSays header marker frames (length old)) (runs.runOf header marker frames) old

@@ -4,8 +4,9 @@ ghost use mathlib.Core.Path.{_≡_};
 ghost use lib.ListN.{length};
 ghost use Rattle.answers.specs.Answer.{codeOf};
 ghost use Rattle.word.specs.Word as words;
+ghost use Rattle.pass.specs.Pass as passes;
 ghost use Rattle.run.specs.Run as runs;
-ghost use Rattle.calls.specs.After.{wordAfter, blockAfter, slotsAfter, framesAfter};
+ghost use Rattle.calls.specs.After.{wordAfter, blockAfter, wordsAfter, blocksAfter, slotsAfter, framesAfter};
 
 // A packed block to its word (steps 2 to 7).
 #[no_mangle]
@@ -23,6 +24,24 @@ pub extern "C" fn word_read(rate: u64, word: &[u8], block: &mut [u8]) -> u64
     ensures { λ _. ⌜ now (block .exit) ≡ blockAfter rate (now (word .entry)) (now (block .entry)) ⌝ }
 {
     answers::code(word::read(rate, word, block))
+}
+
+// Packed blocks, back to back, to their words.
+#[no_mangle]
+pub extern "C" fn pass_write(rate: u64, blocks: &[u8], words: &mut [u8]) -> u64
+    ensures { λ r. ⌜ r ≡ codeOf (passes.writeSays rate (now (blocks .entry)) (length (now (words .entry)))) ⌝ }
+    ensures { λ _. ⌜ now (words .exit) ≡ wordsAfter rate (now (blocks .entry)) (now (words .entry)) ⌝ }
+{
+    answers::code(pass::write(rate, blocks, words))
+}
+
+// Words, back to back, to their blocks, if some blocks make them.
+#[no_mangle]
+pub extern "C" fn pass_read(rate: u64, words: &[u8], blocks: &mut [u8]) -> u64
+    ensures { λ r. ⌜ r ≡ codeOf (passes.readSays rate (now (words .entry)) (length (now (blocks .entry)))) ⌝ }
+    ensures { λ _. ⌜ now (blocks .exit) ≡ blocksAfter rate (now (words .entry)) (now (blocks .entry)) ⌝ }
+{
+    answers::code(pass::read(rate, words, blocks))
 }
 
 // Frames to slots (steps 1 to 10).

@@ -35,4 +35,4 @@ reader-numbers = word-laws.read-numbers
 
 -- "The word reader still writes them as zero", of any word.
 pub reader-zeros : (rate : ℕ) (word : List ℕ) → SpareZero rate (blockIn rate word)
-reader-zeros = word-laws.read-spare
+reader-zeros rate word = word-laws.block-packed rate word .spare

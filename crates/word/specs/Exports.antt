@@ -9,7 +9,7 @@ use Rattle.answers.specs.Answer.{numberOf, Fits}
 use Rattle.answers.specs.Numbers.{among}
 use Rattle.sizes.specs.Rate.{blockBytes}
 use Rattle.sizes.specs.Sizes.{wordBytes}
-use Rattle.word.specs.Word.{SameBits, SpareZero, Packed, checkedBlock, wordOf, carriedOn, blockIn, writeSays, readSays}
+use Rattle.word.specs.Word.{SameBits, Packed, checkedBlock, wordOf, carriedOn, blockIn, writeSays, readSays}
 use Rattle.word.specs.Word.Laws as Laws
 use Rattle.word.specs.Word.Answers as Answers
 use Rattle.word.specs.Return.{written-read, whole-back, read-written}
@@ -49,9 +49,9 @@ pub read-packed : (rate : ℕ) (word : List ℕ) (n : ℕ) → Bytes word → re
     → Packed rate (blockIn rate word) × (wordOf rate (blockIn rate word) ≡ word)
 read-packed rate word n b e = (Laws.block-packed rate word, read-written rate word n b e .1)
 
--- a block that is read has spare bits of 0
-pub read-spare : (rate : ℕ) (word : List ℕ) → SpareZero rate (blockIn rate word)
-read-spare rate word = Laws.block-packed rate word .spare
+-- a block that is read from any word has the rate's length and spare bits of 0
+pub block-packed : (rate : ℕ) (word : List ℕ) → Packed rate (blockIn rate word)
+block-packed = Laws.block-packed
 
 -- the numbers that the two calls can answer
 pub write-numbers : (rate : ℕ) (block : List ℕ) (n : ℕ) → among (0 ∷ 2 ∷ 8 ∷ []) (numberOf (writeSays rate block n)) ≡ true

@@ -1,0 +1,122 @@
+/*
+ * A pass beside the word calls put one by one: microseconds for all of it, on the same blocks, in
+ * one run. The two take turns, and the best turn of each counts, so a busy machine harms both alike
+ * and little.
+ */
+#define _POSIX_C_SOURCE 199309L /* clock_gettime */
+#include <stdio.h>
+#include <stdlib.h>
+#include <string.h>
+#include <time.h>
+
+#include "mahyrei.h"
+
+enum { RATES = 3, MOST = MAHYREI_PASS_MAX, WORD = MAHYREI_WORD_BYTES, WARM_UP = 3 };
+
+static uint8_t blocks[MOST * MAHYREI_BLOCK_BYTES_MAX], back[MOST * MAHYREI_BLOCK_BYTES_MAX];
+static uint8_t words[MOST * WORD], written[MOST * WORD];
+
+static void require(int right, const char *what) {
+    if (!right) {
+        fprintf(stderr, "bench: %s\n", what);
+        exit(1);
+    }
+}
+
+static void fill_blocks(void) {
+    static uint64_t state = 1;
+    for (size_t i = 0; i < sizeof blocks; i++) {
+        state = state * UINT64_C(6364136223846793005) + UINT64_C(1442695040888963407);
+        blocks[i] = (uint8_t)(state >> 56);
+    }
+}
+
+/* ---- what is timed, each for a pass of n */
+
+typedef uint64_t timed(uint64_t rate, size_t n);
+
+static uint64_t write_pass(uint64_t rate, size_t n) {
+    return pass_write(rate, blocks, n * word_block_bytes(rate), written, n * WORD);
+}
+
+static uint64_t write_singly(uint64_t rate, size_t n) {
+    const size_t len = word_block_bytes(rate);
+    uint64_t answers = 0;
+    for (size_t i = 0; i < n; i++) {
+        answers |= word_write(rate, blocks + i * len, len, written + i * WORD, WORD);
+    }
+    return answers;
+}
+
+static uint64_t read_pass(uint64_t rate, size_t n) {
+    return pass_read(rate, words, n * WORD, back, n * word_block_bytes(rate));
+}
+
+static uint64_t read_singly(uint64_t rate, size_t n) {
+    const size_t len = word_block_bytes(rate);
+    uint64_t answers = 0;
+    for (size_t i = 0; i < n; i++) {
+        answers |= word_read(rate, words + i * WORD, WORD, back + i * len, len);
+    }
+    return answers;
+}
+
+/* Nothing is timed that is not right: both write the same words and read the same blocks. */
+static void compare(uint64_t rate, size_t n) {
+    static uint8_t singly[sizeof back];
+    const size_t len = word_block_bytes(rate);
+    require(write_singly(rate, n) == 0, "a block is refused");
+    memcpy(words, written, n * WORD);
+    memset(written, 0, sizeof written);
+    require(write_pass(rate, n) == 0 && memcmp(words, written, n * WORD) == 0,
+            "a pass is written in another way than its blocks");
+    require(read_singly(rate, n) == 0, "a word is refused");
+    memcpy(singly, back, n * len);
+    memset(back, 0xFF, sizeof back);
+    require(read_pass(rate, n) == 0 && memcmp(singly, back, n * len) == 0,
+            "a pass is read in another way than its words");
+}
+
+static double now(void) {
+    struct timespec t;
+    clock_gettime(CLOCK_MONOTONIC, &t);
+    return (double)t.tv_sec * 1e6 + (double)t.tv_nsec / 1e3;
+}
+
+static double once(timed *call, uint64_t rate, size_t n, size_t times) {
+    const double start = now();
+    for (size_t i = 0; i < times; i++) {
+        require(call(rate, n) == 0, "a call refused while it was timed");
+    }
+    return (now() - start) / (double)times;
+}
+
+/* A pass of one is over in microseconds: a turn has many of them. */
+static void row(const char *name, timed *pass, timed *singly, uint64_t rate, size_t n) {
+    static const char *const RATE_NAMES[RATES] = {"1/3", "1/2", "2/3"};
+    const size_t times = n == 1 ? 200 : 1;
+    double best[2] = {1e9, 1e9};
+    for (int turn = -WARM_UP; turn < 60; turn++) {
+        const double took[2] = {once(pass, rate, n, times), once(singly, rate, n, times)};
+        for (int i = 0; turn >= 0 && i < 2; i++) {
+            best[i] = took[i] < best[i] ? took[i] : best[i];
+        }
+    }
+    printf("%-5s %-11s %6zu %10.1f %10.1f %15.3f\n", RATE_NAMES[rate], name, n, best[0], best[1],
+           best[0] / best[1]);
+}
+
+int main(void) {
+    printf("microseconds a pass, and the same words by the word calls, the best turn of each\n");
+    printf("%-5s %-11s %6s %10s %10s %15s\n", "rate", "call", "blocks", "pass", "one by one",
+           "pass/one by one");
+    fill_blocks();
+    for (uint64_t rate = 0; rate < RATES; rate++) {
+        compare(rate, MOST);
+        row("pass_write", write_pass, write_singly, rate, MOST);
+        row("pass_read", read_pass, read_singly, rate, MOST);
+        row("pass_write", write_pass, write_singly, rate, 1);
+        row("pass_read", read_pass, read_singly, rate, 1);
+    }
+    return 0;
+}

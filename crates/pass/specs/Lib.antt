@@ -1,0 +1,5 @@
+pub mod Pass
+pub mod Row
+pub mod Needs
+pub mod Answers
+pub mod Return

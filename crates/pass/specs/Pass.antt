@@ -1,0 +1,67 @@
+-- A pass: 1 to 211 packed blocks of one rate, back to back, and their words, back to back. What is said of each block or word, and what is made of
+-- it, are those of crate `word`; its definitions are not opened here.
+use mathlib.Core.Bool.{Bool}
+use mathlib.Core.List.{List, [], _++_}
+use Prim.Native.Nat.{ℕ, zero, suc, _*_, _/_}
+use lib.Dec.{ltb, leb, eqb}
+use lib.ListN.{length}
+use Rattle.bits.specs.Table.{both}
+use Rattle.bits.specs.Pieces.{piece}
+use Rattle.answers.specs.declared.Answer.{Answer}
+use Rattle.answers.specs.Answer.{ask, then}
+use Rattle.answers.specs.InOrder.{inOrder}
+use Rattle.sizes.specs.Rate.{blockBytes}
+use Rattle.sizes.specs.Sizes.{wordBytes}
+use Rattle.word.specs.Word.{wordOf, blockIn}
+use Rattle.word.specs.Word.{writeSays as wordWrites, readSays as wordReads}
+
+-- the most blocks of a pass, at every rate
+abbrev pub passMost : ℕ
+passMost = 211
+
+-- n pieces back to back
+unfoldable pub inRow : ℕ → (ℕ → List ℕ) → List ℕ
+inRow zero F = []
+inRow (suc n) F = inRow n F ++ F n
+
+-- the lent length gives the count: of the blocks to write, of the words to read
+abbrev pub blocksIn : ℕ → List ℕ → ℕ
+blocksIn rate blocks = length blocks / blockBytes rate
+
+abbrev pub wordsIn : List ℕ → ℕ
+wordsIn words = length words / wordBytes
+
+-- ---- what the calls give
+
+unfoldable pub wordsOf : ℕ → List ℕ → List ℕ
+wordsOf rate blocks = inRow (blocksIn rate blocks) (λ j. wordOf rate (piece (blockBytes rate) blocks j))
+
+unfoldable pub blocksOf : ℕ → List ℕ → List ℕ
+blocksOf rate words = inRow (wordsIn words) (λ j. blockIn rate (piece wordBytes words j))
+
+-- ---- the questions
+
+-- 8: 1 to 211, whole blocks, and as many whole words
+unfoldable pub lengthsRight : ℕ → ℕ → ℕ → ℕ → Bool
+lengthsRight n size blocksLength wordsLength =
+    both (leb 1 n) (both (leb n passMost) (both (eqb blocksLength (n * size)) (eqb wordsLength (n * wordBytes))))
+
+-- what the word writer says of block j, and the word reader of word j
+abbrev pub blockSays : ℕ → List ℕ → ℕ → Answer
+blockSays rate blocks j = wordWrites rate (piece (blockBytes rate) blocks j) wordBytes
+
+abbrev pub wordSays : ℕ → List ℕ → ℕ → Answer
+wordSays rate words j = wordReads rate (piece wordBytes words j) (blockBytes rate)
+
+-- the two calls: 2, 8, and then one block or word after another; the first that is refused gives its number, and its index is the place
+unfoldable pub writeSays : ℕ → List ℕ → ℕ → Answer
+writeSays rate blocks wordsLength =
+    then (ask (ltb rate 3) 2 0)
+    (then (ask (lengthsRight (blocksIn rate blocks) (blockBytes rate) (length blocks) wordsLength) 8 0)
+    (inOrder (blocksIn rate blocks) (blockSays rate blocks)))
+
+unfoldable pub readSays : ℕ → List ℕ → ℕ → Answer
+readSays rate words blocksLength =
+    then (ask (ltb rate 3) 2 0)
+    (then (ask (lengthsRight (wordsIn words) (blockBytes rate) blocksLength (length words)) 8 0)
+    (inOrder (wordsIn words) (wordSays rate words)))
