@@ -454,6 +454,44 @@ static void test_wrong_inputs(uint64_t rate) {
     }
 }
 
+/* Flips the first and the last bit of a window of block and check, and any between; it is cut where
+ * the check ends. */
+static void flip_window(uint64_t rate, uint8_t *word, size_t start, size_t width) {
+    const size_t end = input_bits(rate) - 2,
+                 last = start + width < end ? start + width - 1 : end - 1;
+    for (size_t i = start; i <= last; i++) {
+        if (i == start || i == last || random_below(2) == 1) {
+            flip_input(rate, word, i);
+        }
+    }
+}
+
+/* Flips before step 3 within 32 consecutive bits, in the block, in its check or across, get 15. Six
+ * flips over 33 bits, which are the check's polynomial, make the word of another block. */
+static void test_check_windows(uint64_t rate) {
+    static const size_t POLYNOMIAL[] = {0, 3, 14, 18, 29, 32}, WIDTHS[] = {1, 2, 32};
+    const size_t k = word_block_bytes(rate) * 8 - 2;
+    const size_t starts[] = {0,     1, k - 33, k - 32, k - 31, k - 16,         k - 2,
+                             k - 1, k, k + 1,  k + 16, k + 31, random_below(k)};
+    uint8_t block[MAHYREI_BLOCK_BYTES_MAX], word[MAHYREI_WORD_BYTES];
+    fill_random(block, word_block_bytes(rate));
+    for (size_t i = 0; i < sizeof starts / sizeof starts[0]; i++) {
+        for (size_t j = 0; j < sizeof WIDTHS / sizeof WIDTHS[0]; j++) {
+            write_word(rate, block, word);
+            flip_window(rate, word, starts[i], WIDTHS[j]);
+            CHECK(rate, read_word(rate, word) == MAHYREI_BAD_CHECK);
+        }
+    }
+    for (size_t start = 0; start < k; start += k - 1) {
+        write_word(rate, block, word);
+        for (size_t i = 0; i < sizeof POLYNOMIAL / sizeof POLYNOMIAL[0]; i++) {
+            flip_input(rate, word, start + POLYNOMIAL[i]);
+        }
+        CHECK(rate, read_word(rate, word) == MAHYREI_ACCEPTED);
+        CHECK(rate, !block_is(block));
+    }
+}
+
 static void test_other_rate(uint64_t rate) {
     uint8_t block[MAHYREI_BLOCK_BYTES_MAX], word[MAHYREI_WORD_BYTES];
     fill_random(block, word_block_bytes(rate));
@@ -566,6 +604,7 @@ int main(void) {
         test_flips(rate);
         test_coded_flips(rate);
         test_wrong_inputs(rate);
+        test_check_windows(rate);
         test_other_rate(rate);
         test_refused_lengths(rate);
         test_spare_bits(rate);

@@ -1,8 +1,9 @@
 //! Compares the two word calls with the second implementation: `compare_words [WORDS [SEED]]`.
-//! Compared are the answer and every lent byte, with a margin around each slice.
+//! Compared are the answer and every lent byte, with a margin around each slice. What the check
+//! finds comes first.
 
 use second::compare::{argument, verdict, Call, Rng, Tally, MANY_DIFFERENCES};
-use second::word_cases::{compare_word, LEAST_WORDS};
+use second::word_cases::{compare_windows, compare_word, LEAST_WORDS};
 use std::process::ExitCode;
 
 const WORDS: u64 = 24_000;
@@ -15,6 +16,7 @@ fn run() -> Result<(), String> {
     }
     println!("word calls against the second implementation: {words} words, SEED={seed}");
     let mut tally = Tally::default();
+    compare_windows(&mut tally, &mut Rng::of_index(seed, words));
     for index in 0..words {
         compare_word(&mut tally, &mut Rng::of_index(seed, index), index);
         if tally.differences() > MANY_DIFFERENCES {

@@ -340,6 +340,35 @@ mod tests {
         }
     }
 
+    /// Blocks that differ within 32 consecutive bits have different checks; those that differ by the
+    /// polynomial itself, 33 bits, have the same.
+    #[test]
+    fn check_of_blocks_that_differ_in_a_window() {
+        let mut state = 1u64;
+        let mut below = |limit: usize| {
+            state = state
+                .wrapping_mul(6364136223846793005)
+                .wrapping_add(1442695040888963407);
+            (state >> 33) as usize % limit
+        };
+        for (_, rate) in rates() {
+            let block = unpack(&sample(rate))[..rate.block_bits].to_vec();
+            for _ in 0..10_000 {
+                let mut other = block.clone();
+                let start = below(block.len());
+                let width = (1 + below(32)).min(block.len() - start);
+                other[start] ^= true;
+                (start + 1..start + width).for_each(|i| other[i] ^= below(2) == 1);
+                assert_ne!(check(&other), check(&block));
+            }
+            let mut other = block.clone();
+            for i in [0, 3, 14, 18, 29, 32] {
+                other[777 + i] ^= true;
+            }
+            assert_eq!(check(&other), check(&block));
+        }
+    }
+
     #[test]
     fn sequence_is_the_recurrence_of_period_255() {
         let s: Vec<bool> = sequence().take(WORD_BITS).collect();

@@ -48,7 +48,7 @@ const NONE: Damage = Damage {
     word: |_, rate, block| sound(rate, block),
 };
 
-const DAMAGES: [Damage; 16] = [
+const DAMAGES: [Damage; 17] = [
     Damage {
         name: "one bit",
         numbers: &[13, 14],
@@ -157,6 +157,16 @@ const DAMAGES: [Damage; 16] = [
         },
     },
     Damage {
+        name: "32 consecutive bits of block and check",
+        numbers: &[15],
+        word: |rng, rate, block| {
+            with_inputs(rate, block, |inputs, at| {
+                let start = rng.below(at + word::CHECK_BITS);
+                flip_window(rng, &mut inputs[..at + word::CHECK_BITS], start, 32);
+            })
+        },
+    },
+    Damage {
         name: "randomizer left running",
         numbers: &[13],
         word: |_, rate, block| {
@@ -219,6 +229,95 @@ fn with_inputs(rate: u64, block: &[bool], change: impl FnOnce(&mut [bool], usize
     let mut inputs = word::terminated(block);
     change(&mut inputs, block.len());
     word::word_of_inputs(rate_of(rate), &inputs)
+}
+
+/// Flips the first and the last bit of a window, and any of those between. One that hangs over the
+/// end is cut there.
+fn flip_window(rng: &mut Rng, bits: &mut [bool], start: usize, width: usize) {
+    let last = (start + width).min(bits.len()) - 1;
+    bits[start] ^= true;
+    if last > start {
+        bits[last] ^= true;
+        bits[start + 1..last]
+            .iter_mut()
+            .for_each(|bit| *bit ^= rng.below(2) == 1);
+    }
+}
+
+/// Flips the places of the check's polynomial, from its highest term on: 33 bits, and the narrowest
+/// that the check does not find.
+fn flip_polynomial(bits: &mut [bool], start: usize) {
+    for i in [0, 3, 14, 18, 29, 32] {
+        bits[start + i] ^= true;
+    }
+}
+
+/// What the check finds and what it does not: flips of block and check before step 3. Within 32
+/// consecutive bits, wherever these begin, each gets 15; the polynomial's 33 make the word of
+/// another block.
+pub fn compare_windows(tally: &mut Tally, rng: &mut Rng) {
+    for number in 0..3 {
+        let rate = rate_of(number);
+        let (k, len) = (rate.block_bits, rate.block_bytes());
+        let block = rng.bits(k);
+        let starts = [
+            0,
+            1,
+            k - 33,
+            k - 32,
+            k - 31,
+            k - 16,
+            k - 2,
+            k - 1,
+            k,
+            k + 1,
+            k + 16,
+            k + 31,
+        ];
+        for (start, width) in starts.iter().flat_map(|&s| [1, 2, 32].map(|w| (s, w))) {
+            let word = with_inputs(number, &block, |inputs, check| {
+                flip_window(rng, &mut inputs[..check + word::CHECK_BITS], start, width);
+            });
+            let what = format!("{width} bits from bit {start} of block and check");
+            compare(tally, rng, Way::Read, number, &word, len, &[15], &what);
+        }
+        for start in [0, k - 1] {
+            let word = with_inputs(number, &block, |inputs, _| {
+                flip_polynomial(inputs, start);
+            });
+            let what = format!("the polynomial from bit {start} of block and check");
+            compare(tally, rng, Way::Read, number, &word, len, &[0], &what);
+            let other = word::read(number, &word, len).expect("a word");
+            assert_ne!(other, word::pack(&block));
+        }
+        compare_check_fields(number, rng);
+    }
+}
+
+/// The check field in a word that the library writes.
+fn check_field(number: u64, block: &[bool]) -> Vec<bool> {
+    let (rate, mut word) = (rate_of(number), vec![0; WORD_BYTES]);
+    assert_eq!(
+        library::word_write(number, &word::pack(block), &mut word),
+        0
+    );
+    let inputs = word::decode(rate, &word::coded_of_word(&word));
+    inputs[rate.block_bits..][..word::CHECK_BITS].to_vec()
+}
+
+/// Two blocks that differ, and only within 32 consecutive bits, have different check fields.
+fn compare_check_fields(number: u64, rng: &mut Rng) {
+    let k = rate_of(number).block_bits;
+    for _ in 0..300 {
+        let block = rng.bits(k);
+        let (mut other, start, width) = (block.clone(), rng.below(k), 1 + rng.below(32));
+        flip_window(rng, &mut other, start, width);
+        assert_ne!(check_field(number, &block), check_field(number, &other));
+    }
+    let block = rng.bits(k);
+    let mut other = block.clone();
+    flip_polynomial(&mut other, 100);
+    assert_eq!(check_field(number, &block), check_field(number, &other));
 }
 
 /// Sets one of the termination bits or both.

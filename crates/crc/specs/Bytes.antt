@@ -32,17 +32,17 @@ pub record Changes (table : List ℕ) : Type 0 where
 
 -- ---- laws
 
-advances-lt : (r : ℕ) (x : ℕ → ℕ) → r < 2 ^ 32 → Bits x → (n : ℕ) → advances r x n < 2 ^ 32
+pub advances-lt : (r : ℕ) (x : ℕ → ℕ) → r < 2 ^ 32 → Bits x → (n : ℕ) → advances r x n < 2 ^ 32
 unfolding advances
 advances-lt r x hr hx zero = hr
 advances-lt r x hr hx (suc n) = advance-lt (advances r x n) (x n) (advances-lt r x hr hx n) (hx n)
 
-advances-same : (r : ℕ) (x y : ℕ → ℕ) (n : ℕ) → ((i : ℕ) → i < n → x i ≡ y i) → advances r x n ≡ advances r y n
+pub advances-same : (r : ℕ) (x y : ℕ → ℕ) (n : ℕ) → ((i : ℕ) → i < n → x i ≡ y i) → advances r x n ≡ advances r y n
 unfolding advances
 advances-same r x y zero h = refl
 advances-same r x y (suc n) h = ap₂ advance (advances-same r x y n (λ i l. h i (omega arith))) (h n (omega arith))
 
-advances-plus : (r s : ℕ) (x y : ℕ → ℕ) → r < 2 ^ 32 → s < 2 ^ 32 → Bits x → Bits y → (n : ℕ)
+pub advances-plus : (r s : ℕ) (x y : ℕ → ℕ) → r < 2 ^ 32 → s < 2 ^ 32 → Bits x → Bits y → (n : ℕ)
     → advances (bitXor r s) (λ i. bitXor (x i) (y i)) n ≡ bitXor (advances r x n) (advances s y n)
 unfolding advances
 advances-plus r s x y hr hs hx hy zero = refl
@@ -51,11 +51,23 @@ advances-plus r s x y hr hs hx hy (suc n) =
     ∙ advance-plus (advances r x n) (advances s y n) (x n) (y n) (advances-lt r x hr hx n) (advances-lt s y hs hy n) (hx n) (hy n)
 
 -- n bits more
-register-on : (x : ℕ → ℕ) (m n : ℕ) → register x (m + n) ≡ advances (register x m) (λ i. x (m + i)) n
+pub advances-on : (r : ℕ) (x : ℕ → ℕ) (m n : ℕ) → advances r x (m + n) ≡ advances (advances r x m) (λ i. x (m + i)) n
+unfolding advances
+advances-on r x m zero = ap (advances r x) (add-zero m)
+advances-on r x m (suc n) =
+    ap (advances r x) (add-suc m n) ∙ ap (λ (s : ℕ). advance s (x (m + n))) (advances-on r x m n)
+
+-- the register of step 2 begins as all ones
+pub register-is : (x : ℕ → ℕ) (n : ℕ) → register x n ≡ advances 0xFFFFFFFF x n
 unfolding register advances
-register-on x m zero = ap (register x) (add-zero m)
-register-on x m (suc n) =
-    ap (register x) (add-suc m n) ∙ ap (λ (r : ℕ). advance r (x (m + n))) (register-on x m n)
+register-is x zero = refl
+register-is x (suc n) = ap (λ (r : ℕ). advance r (x n)) (register-is x n)
+
+pub register-on : (x : ℕ → ℕ) (m n : ℕ) → register x (m + n) ≡ advances (register x m) (λ i. x (m + i)) n
+register-on x m n =
+    register-is x (m + n)
+    ∙ advances-on 0xFFFFFFFF x m n
+    ∙ ap (λ (r : ℕ). advances r (λ i. x (m + i)) n) (sym (register-is x m))
 
 byte-bits : (v : ℕ) → Bits (byteBit v)
 byte-bits v t = omega arith

@@ -5,3 +5,4 @@ pub mod Card2
 pub mod Card4
 pub mod Card7
 pub mod Card9
+pub mod Card12

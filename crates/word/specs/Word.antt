@@ -22,6 +22,7 @@ pub mod Laws
 pub mod Lists
 pub mod Answers
 pub mod Judging
+pub mod Checks
 
 -- ---- from a block to its word
 
@@ -32,6 +33,10 @@ takenIn block = bitAt block
 -- step 2: the k bits of the block, and their check behind them
 pub checkedBlock : ℕ → List ℕ → ℕ → ℕ
 checkedBlock rate block = checked (infoBits rate) (takenIn block)
+
+-- that check, as a number
+pub checkField : ℕ → List ℕ → ℕ
+checkField rate block = register (takenIn block) (infoBits rate)
 
 -- step 3: and two zero termination bits
 pub inputOf : ℕ → List ℕ → ℕ → ℕ

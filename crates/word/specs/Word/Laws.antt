@@ -17,7 +17,7 @@ use Rattle.bits.specs.Pack.{val, bitAt, bytesOf, cut, Bytes, Bits, bit-lt, bit-
 use Rattle.sizes.specs.Rate.{infoBits, inputBits, blockBytes, block-size}
 use Rattle.sizes.specs.Sizes.{wordBits, wordBytes}
 use Rattle.crc.specs.Check.{register, register-same, register-lt, checkBit, checked, checked-block, checked-check, checked-bits, checked-same, checked-sum3}
-use Rattle.convolution.specs.Code.{encode, encode-bits, encode-same, encode-plus, decode-bits, decode-same, decode-encode}
+use Rattle.convolution.specs.Code.{terminated, encode, encode-bits, encode-same, encode-plus, decode-bits, decode-same, decode-encode}
 use Rattle.interleaver.specs.Interleaver.{place, interleave, deinterleave, interleave-bits, deinterleave-bits, interleave-same, deinterleave-same, deinterleave-interleave, interleave-deinterleave, interleave-plus, deinterleave-plus}
 use Rattle.accumulator.specs.Accumulator.{accumulate, differentiate, accumulate-bits, differentiate-bits, accumulate-same, differentiate-same, accumulate-plus, differentiate-plus, differentiate-accumulate, accumulate-differentiate}
 use Rattle.randomizer.specs.Randomizer.{sequence, window, next, randomize, randomize-bits, randomize-same, randomize-twice, randomize-plus, randomize-sum3}
@@ -36,10 +36,17 @@ order-example-5 = refl
 
 -- ---- bits all the way
 
+pub taken-bits : (block : List ℕ) → Bits (takenIn block)
+unfolding takenIn
+taken-bits block = bit-lt block
+
+pub checked-block-bits : (rate : ℕ) (block : List ℕ) → Bits (checkedBlock rate block)
+unfolding checkedBlock
+checked-block-bits rate block = checked-bits (infoBits rate) (takenIn block) (taken-bits block)
+
 pub input-bits : (rate : ℕ) (block : List ℕ) → Bits (inputOf rate block)
-unfolding inputOf checkedBlock takenIn
-input-bits rate block =
-    cut-bits (infoBits rate + 32) (checked (infoBits rate) (bitAt block)) (checked-bits (infoBits rate) (bitAt block) (bit-lt block))
+unfolding inputOf
+input-bits rate block = cut-bits (infoBits rate + 32) (checkedBlock rate block) (checked-block-bits rate block)
 
 pub coded-bits : (rate : ℕ) (block : List ℕ) → Bits (codedOf rate block)
 unfolding codedOf
@@ -186,12 +193,49 @@ pub input-end : (rate : ℕ) (block : List ℕ) (i : ℕ) → infoBits rate + 32
 unfolding inputOf checkedBlock takenIn
 input-end rate block i l = cut-past (infoBits rate + 32) (checked (infoBits rate) (bitAt block)) i l
 
+-- ---- any k + 32 bits, carried on from step 3: the input bits come back, and questions 13 and 14 are passed
+
+module _ (rate : ℕ) (x : ℕ → ℕ) (b : Bits x) (h : rate < 3) where
+  carried-coded : (j : ℕ) → j < wordBits → codedIn (carriedOn rate x) j ≡ encode rate (terminated (infoBits rate + 32) x) j
+  unfolding carriedOn
+  carried-coded = coded-back (encode rate (terminated (infoBits rate + 32) x)) (encode-bits rate (terminated (infoBits rate + 32) x) (cut-bits (infoBits rate + 32) x b))
+
+  pub carried-input : (i : ℕ) → i < inputBits rate → inputIn rate (carriedOn rate x) i ≡ terminated (infoBits rate + 32) x i
+  unfolding inputIn
+  carried-input i l =
+      decode-same rate (codedIn (carriedOn rate x)) (encode rate (terminated (infoBits rate + 32) x)) h carried-coded i l
+      ∙ decode-encode rate (terminated (infoBits rate + 32) x) h i
+
+  pub carried-13 : firstWrong rate (codedIn (carriedOn rate x)) (inputIn rate (carriedOn rate x)) ≡ wordBits
+  unfolding firstWrong agrees
+  carried-13 =
+      all-pass (agrees rate (codedIn (carriedOn rate x)) (inputIn rate (carriedOn rate x))) wordBits (λ j l.
+      eq-eqb (codedIn (carriedOn rate x) j) (encode rate (inputIn rate (carriedOn rate x)) j)
+      (carried-coded j l
+      ∙ sym (encode-same rate (inputIn rate (carriedOn rate x)) (terminated (infoBits rate + 32) x) h carried-input j l)))
+
+  pub carried-14 : endsInZeros rate (inputIn rate (carriedOn rate x)) ≡ true
+  unfolding endsInZeros inputBits
+  carried-14 =
+      let k : ℕ = infoBits rate in
+      let e : inputIn rate (carriedOn rate x) (k + 32) ≡ 0 = carried-input (k + 32) (omega arith) ∙ cut-past (k + 32) x (k + 32) (omega arith) in
+      let f : inputIn rate (carriedOn rate x) (k + 33) ≡ 0 = carried-input (k + 33) (omega arith) ∙ cut-past (k + 32) x (k + 33) (omega arith) in
+      rw (e, f) refl
+
+pub carried-length : (rate : ℕ) (x : ℕ → ℕ) → length (carriedOn rate x) ≡ wordBytes
+unfolding carriedOn
+carried-length rate x = length-bytes wordBytes (shuffled (encode rate (terminated (infoBits rate + 32) x)))
+
+-- a word is its block with the check behind it, carried on from step 3
+pub word-carried : (rate : ℕ) (block : List ℕ) → wordOf rate block ≡ carriedOn rate (checkedBlock rate block)
+unfolding wordOf codedOf inputOf carriedOn
+word-carried rate block = refl
+
 -- the input bits that a written word gives are those that made it
 pub input-back : (rate : ℕ) (block : List ℕ) → rate < 3 → (i : ℕ) → i < inputBits rate → inputIn rate (wordOf rate block) i ≡ inputOf rate block i
-unfolding inputIn wordOf codedOf
+unfolding inputOf
 input-back rate block h i l =
-    decode-same rate (codedIn (wordOf rate block)) (encode rate (inputOf rate block)) h (coded-back (codedOf rate block) (coded-bits rate block)) i l
-    ∙ decode-encode rate (inputOf rate block) h i
+    ap (λ (w : List ℕ). inputIn rate w i) (word-carried rate block) ∙ carried-input rate (checkedBlock rate block) (checked-block-bits rate block) h i l
 
 -- the k bits of the block that is read from a word
 pub block-bit : (rate : ℕ) (word : List ℕ) → rate < 3 → (i : ℕ) → i < infoBits rate → bitAt (blockIn rate word) i ≡ inputIn rate word i
@@ -204,21 +248,10 @@ block-bit rate word h i l =
 -- ---- a written word passes each question
 
 pub passes-13 : (rate : ℕ) (block : List ℕ) → rate < 3 → firstWrong rate (codedIn (wordOf rate block)) (inputIn rate (wordOf rate block)) ≡ wordBits
-unfolding firstWrong agrees wordOf codedOf
-passes-13 rate block h =
-    all-pass (agrees rate (codedIn (wordOf rate block)) (inputIn rate (wordOf rate block))) wordBits (λ j l.
-    eq-eqb (codedIn (wordOf rate block) j) (encode rate (inputIn rate (wordOf rate block)) j)
-    (coded-back (codedOf rate block) (coded-bits rate block) j l
-    ∙ sym (encode-same rate (inputIn rate (wordOf rate block)) (inputOf rate block) h (input-back rate block h) j l)))
+passes-13 rate block h = rw (word-carried rate block) (carried-13 rate (checkedBlock rate block) (checked-block-bits rate block) h)
 
 pub passes-14 : (rate : ℕ) (block : List ℕ) → rate < 3 → endsInZeros rate (inputIn rate (wordOf rate block)) ≡ true
-unfolding endsInZeros inputBits
-passes-14 rate block h =
-    let e : inputIn rate (wordOf rate block) (infoBits rate + 32) ≡ 0 =
-    input-back rate block h (infoBits rate + 32) (omega arith) ∙ input-end rate block (infoBits rate + 32) (omega arith) in
-    let f : inputIn rate (wordOf rate block) (infoBits rate + 33) ≡ 0 =
-    input-back rate block h (infoBits rate + 33) (omega arith) ∙ input-end rate block (infoBits rate + 33) (omega arith) in
-    rw (e, f) refl
+passes-14 rate block h = rw (word-carried rate block) (carried-14 rate (checkedBlock rate block) (checked-block-bits rate block) h)
 
 pub passes-15 : (rate : ℕ) (block : List ℕ) → rate < 3 → checkRight rate (inputIn rate (wordOf rate block)) ≡ true
 unfolding checkRight inputBits checkBit
@@ -340,11 +373,6 @@ word-bit rate block j l = bit-bytes wordBytes (shuffled (codedOf rate block)) (s
 pub coded-written : (rate : ℕ) (block : List ℕ) (x : ℕ) → x < wordBits → codedIn (wordOf rate block) x ≡ encode rate (inputOf rate block) x
 unfolding wordOf codedOf
 coded-written rate block x l = coded-back (codedOf rate block) (coded-bits rate block) x l
-
--- a word is its block with the check behind it, carried on from step 3
-pub word-carried : (rate : ℕ) (block : List ℕ) → wordOf rate block ≡ carriedOn rate (checkedBlock rate block)
-unfolding wordOf codedOf inputOf carriedOn
-word-carried rate block = refl
 
 -- two packings of the same k bits give one word
 pub word-same : (rate : ℕ) (a b : List ℕ) → rate < 3 → SameBits rate a b → wordOf rate a ≡ wordOf rate b
