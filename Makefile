@@ -85,19 +85,22 @@ test:
 PYTHON_TEST = if ! command -v python3 >/dev/null; then \
     echo 'python: no python3 here; the module is not tried'; \
     else MAHYREI_LIBRARY=$(abspath $(SHARED)) tests/python/module $(PROGRAM) $(HOST)/slots; fi
-HOST_TESTS = $(SHARED) $(addprefix $(HOST)/,mahyrei_lying word_calls pass_calls run_calls \
-    plain_calls sha256_vectors second_test compare_words compare_passes compare_runs) \
+HOST_TESTS = $(SHARED) $(addprefix $(HOST)/,mahyrei_lying word_calls pass_calls spread_calls \
+    run_calls plain_calls sha256_vectors second_test compare_words compare_passes compare_spreads \
+    compare_runs) \
     $(COMMAND_TESTS)
 host-test: $(HOST_TESTS)
 	@echo '#include "mahyrei_plain.h"' | $(CXX) -x c++ $(WARNINGS) -Iinclude -fsyntax-only -
 	@$(STACK) && ASAN_OPTIONS=detect_leaks=0 $(HOST)/word_calls
 	@$(STACK) && ASAN_OPTIONS=detect_leaks=0 $(HOST)/pass_calls
+	@$(STACK) && ASAN_OPTIONS=detect_leaks=0 $(HOST)/spread_calls
 	@$(STACK) && ASAN_OPTIONS=detect_leaks=0 $(HOST)/run_calls
 	@$(STACK) && ASAN_OPTIONS=detect_leaks=0 $(HOST)/plain_calls
 	@ASAN_OPTIONS=detect_leaks=0 $(HOST)/sha256_vectors
 	@$(STACK) && $(HOST)/second_test --quiet
 	@$(STACK) && SEED=$(SEED) WORDS=$(WORDS) $(HOST)/compare_words
 	@$(STACK) && SEED=$(SEED) PASSES=$(PASSES) $(HOST)/compare_passes
+	@$(STACK) && SEED=$(SEED) $(HOST)/compare_spreads
 	@$(STACK) && SEED=$(SEED) RUNS=$(RUNS) $(HOST)/compare_runs
 	@$(STACK) && tests/command/run $(COMMAND_TESTS)
 	@$(PYTHON_TEST)
@@ -184,7 +187,7 @@ $(STANDIN)/libmahyrei.a: $(PLAIN_SOURCES) $(HEADER) $(PARTS)
 	@mkdir -p $(@D)
 	@$(COMPILE) $(PLAIN) -fPIC -c bench/plain_word.c -o $(STANDIN)/plain_word.o
 	@$(COMPILE) $(PLAIN) -fPIC -Dplain_word_write=word_write -Dplain_word_read=word_read \
-	    -c bench/plain_word.c -o $(STANDIN)/word.o
+	    -Dplain_bit_spread=bit_spread -c bench/plain_word.c -o $(STANDIN)/word.o
 	@$(COMPILE) $(PLAIN) -fPIC -Dplain_pass_write=pass_write -Dplain_pass_read=pass_read \
 	    -c bench/plain_pass.c -o $(STANDIN)/pass.o
 	@$(COMPILE) $(PLAIN) -fPIC -Ibench -c tests/c/plain_run.c -o $(STANDIN)/run.o
@@ -214,10 +217,10 @@ $(HOST)/sha256_vectors: tests/c/sha256_vectors.c host/sha256.c host/sha256.h
 	@mkdir -p $(@D)
 	@$(COMPILE) $(SANITIZED) -Ihost $< host/sha256.c -o $@
 
-SECOND = $(addprefix tests/second/,lib.rs compare.rs library.rs pass.rs run.rs word.rs \
+SECOND = $(addprefix tests/second/,lib.rs compare.rs library.rs pass.rs run.rs spread.rs word.rs \
     run_cases.rs \
     $(addprefix run_cases/,calls.rs damages.rs edges.rs headers.rs kinds.rs refusals.rs sample.rs) \
-    pass_cases.rs word_cases.rs)
+    pass_cases.rs spread_cases.rs word_cases.rs)
 $(HOST)/second_test: $(SECOND)
 	@mkdir -p $(@D)
 	@$(RUSTC) $(RUSTFLAGS) --test $< -o $@
@@ -263,8 +266,9 @@ fuzz: $(HOST)/fuzz_drive
 	@tests/fuzz/run $(SECONDS) $< $(LIBS)
 
 # The crates of the product that have code.
-CRATES ?= bits answers sizes crc convolution interleaver accumulator randomizer word pass header \
-    plan stream frames pulses channel slots capture run_writer run_reader calls sheet runsheet
+CRATES ?= bits answers sizes crc convolution interleaver accumulator randomizer word pass spread \
+    header plan stream frames pulses channel slots capture run_writer run_reader calls sheet \
+    runsheet
 COUNT ?= 60
 .PHONY: mutants
 mutants:
@@ -279,7 +283,7 @@ evidence-test: $(HOST)/soak $(HOST)/fuzz_drive
 $(HOST)/soak: tests/second/soak.rs $(HOST)/libsecond.rlib $(LINKED)
 	@$(RUSTC) $(RUSTFLAGS) $< $(LINK_RUST) -o $@
 
-$(HOST)/run_calls $(HOST)/pass_calls: tests/c/runs.h
+$(addprefix $(HOST)/,run_calls pass_calls spread_calls): tests/c/runs.h
 
 # The fuzz target with a driver in place of libFuzzer, beside the run calls in plain C.
 $(HOST)/plain_run.o: tests/c/plain_run.c bench/plain_word.h $(HEADER)

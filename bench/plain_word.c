@@ -1,6 +1,6 @@
 /*
- * Plain C version of the word calls: one loop per step, a bit to a byte between the steps. Steps
- * are numbered as in docs/SPECIFICATION.md.
+ * Plain C version of the word calls and of bit_spread: one loop per step, a bit to a byte between
+ * the steps. Steps are numbered as in docs/SPECIFICATION.md.
  */
 #include "plain_word.h"
 #include "mahyrei.h"
@@ -64,6 +64,19 @@ static void encode(uint64_t rate, const uint8_t *inputs, size_t count, uint8_t *
     }
 }
 
+/* Steps 2 to 4: the coded bits of a block, behind which there is room for the rest of the input. */
+static void encode_block(uint64_t rate, uint8_t inputs[INPUTS_MAX], uint8_t coded[CODED]) {
+    const size_t k = block_bits(rate);
+    const uint32_t reg = check(inputs, k);
+    for (size_t i = 0; i < CHECK_BITS; i++) {
+        inputs[k + i] = (uint8_t)(reg >> (31 - i) & 1);
+    }
+    for (size_t i = 0; i < TERMINATION_BITS; i++) { /* step 3 */
+        inputs[k + CHECK_BITS + i] = 0;
+    }
+    encode(rate, inputs, k + CHECK_BITS + TERMINATION_BITS, coded);
+}
+
 /* Step 5: the coded bit that output place j takes. */
 static size_t interleaved_place(size_t j) {
     uint64_t wide = j;
@@ -105,16 +118,8 @@ uint64_t plain_word_write(uint64_t rate, const uint8_t *block, size_t block_len,
     }
 
     uint8_t inputs[INPUTS_MAX], coded[CODED], bits[CODED];
-    const size_t k = block_bits(rate);
-    unpack(block, inputs, k);
-    const uint32_t reg = check(inputs, k);
-    for (size_t i = 0; i < CHECK_BITS; i++) {
-        inputs[k + i] = (uint8_t)(reg >> (31 - i) & 1);
-    }
-    for (size_t i = 0; i < TERMINATION_BITS; i++) { /* step 3 */
-        inputs[k + CHECK_BITS + i] = 0;
-    }
-    encode(rate, inputs, k + CHECK_BITS + TERMINATION_BITS, coded);
+    unpack(block, inputs, block_bits(rate));
+    encode_block(rate, inputs, coded);
     for (size_t j = 0; j < CODED; j++) { /* step 5 */
         bits[j] = coded[interleaved_place(j)];
     }
@@ -170,5 +175,27 @@ uint64_t plain_word_read(uint64_t rate, const uint8_t *word, size_t word_len, ui
         }
     }
     pack(inputs, k, block);
+    return MAHYREI_ACCEPTED;
+}
+
+/* The coded bits of a block of zeros, and of the same with one bit set. */
+uint64_t plain_bit_spread(uint64_t rate, uint64_t bit, uint8_t *places, size_t places_len) {
+    if (rate > MAHYREI_RATE_2_3) {
+        return MAHYREI_BAD_RATE;
+    }
+    if (places_len != MAHYREI_WORD_BYTES) {
+        return MAHYREI_BAD_LENGTH;
+    }
+    if (bit >= block_bits(rate)) {
+        return MAHYREI_BAD_BIT;
+    }
+    uint8_t inputs[INPUTS_MAX] = {0}, before[CODED], after[CODED];
+    encode_block(rate, inputs, before);
+    inputs[bit] = 1;
+    encode_block(rate, inputs, after);
+    for (size_t j = 0; j < CODED; j++) {
+        after[j] ^= before[j];
+    }
+    pack(after, CODED, places);
     return MAHYREI_ACCEPTED;
 }

@@ -13,6 +13,8 @@ const struct command COMMANDS[] = {
      "makes the words of 1 to 211 blocks"},
     {"pass-read", "RATE", "WORDS", NULL, "BLOCKS", WRITES, true, pass_read_command,
      "accepts words only if some blocks make them, and gives those blocks back"},
+    {"spread", "RATE BIT", NULL, NULL, NULL, 0, true, spread_command,
+     "how many coded bits change with one bit of a block, and which"},
     {"sheet", NULL, "HEADER", NULL, NULL, WITH(LONG) | WITH(JSON), true, sheet_command,
      "code rate, M, N, B, F, W, A, blocks, symbols, slots; or `no` and a number"},
     {"header", NULL, NULL, "FIELD=VALUE...", NULL, WRITES | WITH(OUTPUT), false, header_command,

@@ -19,7 +19,7 @@ _mahyrei() {
     elif [[ $command == header && $before != -o && $before != --output ]]; then
         mapfile -t COMPREPLY < <(compgen -W 'rate=1/3 rate=1/2 rate=2/3 m= N= B= F= W= A=' -- "$word")
         compopt -o nospace 2>/dev/null
-    elif [[ $command == pass-* && $operands -eq 0 && $before != --log ]]; then
+    elif [[ $command == @(pass-*|spread) && $operands -eq 0 && $before != --log ]]; then
         mapfile -t COMPREPLY < <(compgen -W '1/3 1/2 2/3' -- "$word")
     else
         mapfile -t COMPREPLY < <(compgen -f -- "$word")

@@ -59,6 +59,19 @@ static void *make_pass_call(void *given) {
     return NULL;
 }
 
+/* A bit whose spread is asked for. */
+struct spread_call {
+    uint64_t rate, bit;
+    uint8_t *places;
+    uint64_t answer;
+};
+
+static void *make_spread_call(void *given) {
+    struct spread_call *const call = given;
+    call->answer = bit_spread(call->rate, call->bit, call->places, MAHYREI_WORD_BYTES);
+    return NULL;
+}
+
 /* Starts a thread that no signal comes to, so that handlers run where the program waits. */
 static int start(pthread_t *thread, void *(*make)(void *), void *call) {
     sigset_t all, before;
@@ -130,6 +143,15 @@ bool library_pass_write(const struct pass *pass, uint64_t *answer) {
 bool library_pass_read(const struct pass *pass, uint64_t *answer) {
     struct pass_call call = {pass, false, 0};
     return ask_pass(&call, answer);
+}
+
+bool library_spread(uint64_t rate, uint64_t bit, uint8_t *places, uint64_t *answer) {
+    struct spread_call call = {rate, bit, places, 0};
+    if (!on_its_stack(make_spread_call, &call)) {
+        return false;
+    }
+    *answer = call.answer;
+    return true;
 }
 
 /* With nothing else lent, a good header comes as far as 8: its marker has at least one symbol, and

@@ -31,6 +31,9 @@ struct pass {
 bool library_pass_write(const struct pass *pass, uint64_t *answer);
 bool library_pass_read(const struct pass *pass, uint64_t *answer);
 
+/* Room for MAHYREI_WORD_BYTES bytes of places. */
+bool library_spread(uint64_t rate, uint64_t bit, uint8_t *places, uint64_t *answer);
+
 /* The answer to a header alone: 0, or a number from 1 to 7, and of 7 only W's range. */
 bool library_header(const struct bytes *header, uint64_t *answer);
 

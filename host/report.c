@@ -114,7 +114,7 @@ void say_refusal(uint64_t answer) {
            answer_place(answer), sentence == NULL ? "No call gives this number." : sentence);
 }
 
-/* ---- what the log has of a run or a pass */
+/* ---- what the log has of a call */
 
 void entry_begin(struct entry *entry, const char *what) {
     *entry = (struct entry){.what = what,
@@ -125,13 +125,22 @@ void entry_begin(struct entry *entry, const char *what) {
                             .slots = {.size = NO_SIZE, .digest = "-"},
                             .rate = "-",
                             .blocks = {.size = NO_SIZE, .digest = "-"},
-                            .words = {.size = NO_SIZE, .digest = "-"}};
+                            .words = {.size = NO_SIZE, .digest = "-"},
+                            .bit = "-"};
 }
 
 void entry_pass(struct entry *entry, const char *blocks, const char *words) {
-    entry->pass = true;
+    entry->kind = PASS_ENTRY;
     entry->blocks.name = blocks;
     entry->words.name = words;
+}
+
+void entry_spread(struct entry *entry) {
+    entry->kind = SPREAD_ENTRY;
+}
+
+void entry_bit(struct entry *entry, uint64_t bit) {
+    snprintf(entry->bit, sizeof entry->bit, "%" PRIu64, bit);
 }
 
 void entry_rate(struct entry *entry, uint64_t rate) {
@@ -264,11 +273,17 @@ static void print_pass(FILE *to, const struct entry *entry) {
     print_part(to, "words", &entry->words);
 }
 
+static void print_spread(FILE *to, const struct entry *entry) {
+    fprintf(to, " rate=%s bit=%s", entry->rate, entry->bit);
+}
+
 static void print_entry(FILE *to, const struct entry *entry, int status) {
+    static void (*const PRINT[])(FILE *, const struct entry *) = {
+        [RUN_ENTRY] = print_run, [PASS_ENTRY] = print_pass, [SPREAD_ENTRY] = print_spread};
     char now[TIME_TEXT];
     time_text(now);
     fprintf(to, "%s %s", now, entry->what);
-    (entry->pass ? print_pass : print_run)(to, entry);
+    PRINT[entry->kind](to, entry);
     print_number(to, "answer", entry->answered, answer_number(entry->answer));
     print_number(to, "place", entry->answered, answer_place(entry->answer));
     fprintf(to, " status=%d\n", status);

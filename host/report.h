@@ -28,7 +28,10 @@ void say_refusal(uint64_t answer);
 /* A size that is not known, since nothing was read or written. */
 #define NO_SIZE SIZE_MAX
 
-enum { ENTRY_HEX = 72, ENTRY_DIGEST = 65, ENTRY_RATE = 24 };
+enum { ENTRY_HEX = 72, ENTRY_DIGEST = 65, ENTRY_NUMBER = 24 };
+
+/* What a line of the log is about, and so what stands in it. */
+enum entry_kind { RUN_ENTRY, PASS_ENTRY, SPREAD_ENTRY };
 
 /* Frames or slots of a run, blocks or words of a pass, as the log has them. */
 struct entry_part {
@@ -37,15 +40,16 @@ struct entry_part {
     char digest[ENTRY_DIGEST]; /* SHA-256 in hexadecimal digits */
 };
 
-/* One run or one pass, as the log has it. */
+/* One call, as the log has it. */
 struct entry {
     const char *what;
-    bool pass;
+    enum entry_kind kind;
     char header[ENTRY_HEX], marker_digits[ENTRY_HEX]; /* a run's, and so the next two lines */
     size_t marker;
     struct entry_part frames, slots;
-    char rate[ENTRY_RATE]; /* a pass's, and so the next line */
-    struct entry_part blocks, words;
+    char rate[ENTRY_NUMBER];
+    struct entry_part blocks, words; /* a pass's */
+    char bit[ENTRY_NUMBER];          /* a spread's */
     bool answered;
     uint64_t answer;
 };
@@ -56,8 +60,10 @@ void entry_marker(struct entry *entry, const uint8_t *marker, size_t len);
 void entry_rate(struct entry *entry, uint64_t rate);
 void entry_answer(struct entry *entry, uint64_t answer);
 
-/* From here on it is a pass's. */
+/* It is about a pass, or about a bit's spread. */
 void entry_pass(struct entry *entry, const char *blocks, const char *words);
+void entry_spread(struct entry *entry);
+void entry_bit(struct entry *entry, uint64_t bit);
 
 /* Bytes that are not the whole file get no digest. */
 void entry_part(struct entry_part *part, const uint8_t *at, size_t len, bool whole);

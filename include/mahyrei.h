@@ -4,7 +4,8 @@
  * A word is the 15,120 bits made from one information block: check, termination, convolutional
  * code, code interleaver, accumulator, randomizer. word_write makes the word of a block;
  * word_read accepts a word only if some block makes it, and gives that block back. pass_write and
- * pass_read do the same for up to 211 of them in a call.
+ * pass_read do the same for up to 211 of them in a call. bit_spread says which coded bits change
+ * with one bit of a block.
  *
  * A run is a set of transfer frames turned into slots: frame markers, blocks, their words, PPM
  * symbols, channel interleaver, codeblock markers, slots with guard slots. run_write makes the
@@ -86,8 +87,8 @@ extern "C" {
 
 /*
  * The number in an answer: 0, or the number of the first question whose answer is no. The
- * questions are put in the order of their numbers; a call skips those it has no input for. Those
- * from 9 on are about the contents of what is read.
+ * questions are put in the order of their numbers, but that 27 comes after 8; a call skips those it
+ * has no input for. 9 to 18 are about the contents of what is read.
  */
 enum mahyrei_number {
     /* Accepted: every byte of the written slice has been set. */
@@ -141,7 +142,11 @@ enum mahyrei_number {
     /* There is no 17, and there will be none: the header fixes the number of blocks, so that fewer
      * than k bits are ever fill. */
     /* run_read: a fill bit after the last frame is set. */
-    MAHYREI_BAD_FILL = 18
+    MAHYREI_BAD_FILL = 18,
+
+    /* bit_spread: a block has no bit of this number: it has 5006, 7526 or 10046, counted from 0,
+     * and the two spare bits do not count. */
+    MAHYREI_BAD_BIT = 27
 };
 
 /* The number in an answer, one of enum mahyrei_number. */
@@ -212,6 +217,17 @@ uint64_t pass_write(uint64_t rate, const uint8_t *blocks, size_t blocks_len, uin
  */
 uint64_t pass_read(uint64_t rate, const uint8_t *words, size_t words_len, uint8_t *blocks,
                    size_t blocks_len);
+
+/*
+ * bit_spread: marks the coded bits that change with one bit of a block, whatever the block holds.
+ *
+ * Reads   nothing: bit is the number of the block's bit, counted from 0, first bit highest.
+ * Writes  places, MAHYREI_WORD_BYTES bytes, all of them, whatever they held: bit j of these 15,120
+ *         is 1 if coded bit j (in the order of the encoder's output) changes with that bit, and
+ *         otherwise 0. At most 110 are 1 at rate 1/3, 73 at 1/2 and 56 at 2/3. None on refusal.
+ * Returns 0 on acceptance; otherwise number 2, 8 or 27, place 0 (so the answer is the number).
+ */
+uint64_t bit_spread(uint64_t rate, uint64_t bit, uint8_t *places, size_t places_len);
 
 /*
  * run_write: makes the slots of a run.

@@ -34,6 +34,7 @@ static const char *const SENTENCES[] = {
                                  "place is that frame.",
     [MAHYREI_BAD_FILL] = "A fill bit behind the last frame is set; the run may hold more than the "
                          "header says.",
+    [MAHYREI_BAD_BIT] = "There is no such block bit; a block has 5006, 7526 or 10046.",
 };
 
 const char *mahyrei_sentence(unsigned number) {

@@ -11,9 +11,9 @@
 
 Everything is `bytes`, in and out; other objects with a buffer, such as bytearray and memoryview,
 are taken too and copied first. A call gives its whole result or raises Refused. What a refusal says
-comes from the library: run_write, run_read, word_write, word_read, pass_write and pass_read are
-proved there; header, fields, sizes and sentence are plain C, and tested. This module adds nothing
-to their answers; it only lends them room.
+comes from the library: run_write, run_read, word_write, word_read, pass_write, pass_read and
+bit_spread are proved there; header, fields, sizes and sentence are plain C, and tested. This module
+adds nothing to their answers; it only lends them room.
 
 A call works in less than 1 MiB of stack, so a thread that makes one needs a stack above that (see
 threading.stack_size; 0, the default, is enough on Linux). Calls let other threads run meanwhile.
@@ -31,6 +31,7 @@ __all__ = [
     "Fields",
     "Refused",
     "Sizes",
+    "bit_spread",
     "fields",
     "header",
     "pass_read",
@@ -115,6 +116,7 @@ def _load():
         ("word_read", u64, [u64] + given + room),
         ("pass_write", u64, [u64] + given + room),
         ("pass_read", u64, [u64] + given + room),
+        ("bit_spread", u64, [u64, u64] + room),
         ("run_write", u64, given * 3 + room),
         ("run_read", u64, given * 3 + room),
         ("mahyrei_header_fields", number, given + [pointer(_CFields)]),
@@ -197,6 +199,14 @@ def pass_read(rate, words):
     words, rate = _bytes(words), _number(rate)
     length = _count(len(words), _WORD_BYTES) * _block_bytes(rate)
     return _written(lambda *rest: _library.pass_read(rate, *rest), [words], length)
+
+
+def bit_spread(rate, bit):
+    """The coded bits that change with one bit of a block, whatever the block holds: 1,890 bytes,
+    15,120 bits, first bit highest, with a 1 for each that changes. At most 110 do at rate 0 (1/3),
+    73 at 1 (1/2) and 56 at 2 (2/3). Refused with 2 or 27."""
+    rate, bit = _number(rate), _number(bit)
+    return _written(lambda *room: _library.bit_spread(rate, bit, *room), [], _WORD_BYTES)
 
 
 def run_write(header, marker, frames):

@@ -4,7 +4,7 @@
 # README, the man page, the C header and the sentences have the same numbers, and none has a 17.
 once_numbers() {
     local number sentences=''
-    same 'numbers of README' "$(seq -s ' ' 0 16) 18" "$(numbers | xargs)"
+    same 'numbers of README' "$(seq -s ' ' 0 16) 18 27" "$(numbers | xargs)"
     same 'numbers of the man page' "$(numbers | xargs)" \
         "$(sed -n 's/^\.IP \([0-9]*\) 4$/\1/p' "$root/host/mahyrei.1" | xargs)"
     same 'numbers of the header' "$(numbers | xargs)" \
@@ -56,8 +56,9 @@ once_install() {
     same 'files of make install' "$files share/man/man1/mahyrei.1 share/man/man3/mahyrei.3" \
         "$(cd "$prefix_folder" && find . ! -type d -printf '%P\n' | sort | xargs)"
     nm -g --defined-only "$prefix_folder/lib/libmahyrei.a" >"$said/out"
-    same 'calls of the library' 'pass_read pass_write run_read run_write word_read word_write' \
-        "$(grep -Eo ' T (pass|run|word)_(read|write)$' "$said/out" | cut -c 4- | sort | xargs)"
+    same 'calls of the library' \
+        'bit_spread pass_read pass_write run_read run_write word_read word_write' \
+        "$(grep -Eo ' T ((pass|run|word)_(read|write)|bit_spread)$' "$said/out" | cut -c 4- | sort | xargs)"
     awk '/^```c$/ { on = 1; next } /^```$/ { on = 0 } on' "$root/README.md" >program.c
     flags="'-I$prefix_folder/include' '-L$prefix_folder/lib' -lmahyrei"
     if command -v pkg-config >"$said/out"; then
@@ -120,6 +121,7 @@ once_completion() {
     same 'an option' --no-clobber "$(completed mahyrei write --no)"
     same 'a field' 'rate=1/3 rate=1/2 rate=2/3' "$(completed mahyrei header rate)"
     same 'a rate' '1/3 1/2' "$(completed mahyrei pass-write 1)"
+    same 'a rate of spread' 2/3 "$(completed mahyrei spread 2)"
     same 'a file behind the rate' frames "$(completed mahyrei pass-read -n 1/3 fra)"
     same 'a file' frames "$(completed mahyrei write "$header" "$marker" fra)"
     same 'the file of the log' frames "$(completed mahyrei --log fra)"

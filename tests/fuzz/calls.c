@@ -42,8 +42,8 @@ enum {
 /* Bits of the header's fields, in order; the last are the zeros at its end. */
 static const size_t WIDTHS[8] = {2, 4, 8, 9, 12, 6, 7, 16};
 
-static const char *const CALL_NAMES[CALLS] = {"word_write", "word_read", "pass_write",
-                                              "pass_read",  "run_write", "run_read"};
+static const char *const CALL_NAMES[CALLS] = {"word_write", "word_read", "pass_write", "pass_read",
+                                              "bit_spread", "run_write", "run_read"};
 
 /* The numbers that a call can answer, a bit each. */
 static const uint32_t CAN_ANSWER[CALLS] = {
@@ -51,6 +51,7 @@ static const uint32_t CAN_ANSWER[CALLS] = {
     [WORD_READ] = 1U << 0 | 1U << 2 | 1U << 8 | 1U << 13 | 1U << 14 | 1U << 15,
     [PASS_WRITE] = 1U << 0 | 1U << 2 | 1U << 8,
     [PASS_READ] = 1U << 0 | 1U << 2 | 1U << 8 | 1U << 13 | 1U << 14 | 1U << 15,
+    [BIT_SPREAD] = 1U << 0 | 1U << 2 | 1U << 8 | 1U << 27,
     [RUN_WRITE] = 0x1FF,
     [RUN_READ] = 0x1FFFF | 1U << 18,
 };
@@ -148,7 +149,8 @@ struct lent {
 enum { HEADER, MARKER, FROM, TO, SLICES };
 
 static struct lent lent[SLICES];
-static uint8_t placement; /* a bit for each slice, and one for NULL in place of an empty slice */
+static uint64_t block_bit; /* that bit_spread is asked about */
+static uint8_t placement;  /* a bit for each slice, and one for NULL in place of an empty slice */
 
 static void map_area(struct lent *slice) {
     uint8_t *pages =
@@ -241,6 +243,8 @@ static uint64_t put_library(enum call call, uint64_t rate) {
         return pass_write(rate, from->slice, from->len, to->slice, to->len);
     case PASS_READ:
         return pass_read(rate, from->slice, from->len, to->slice, to->len);
+    case BIT_SPREAD:
+        return bit_spread(rate, block_bit, to->slice, to->len);
     case RUN_WRITE:
         return run_write(h->slice, h->len, m->slice, m->len, from->slice, from->len, to->slice,
                          to->len);
@@ -262,6 +266,8 @@ static uint64_t put_plain(enum call call, uint64_t rate, uint8_t *to, size_t to_
         return plain_pass_write(rate, from->slice, from->len, to, to_len);
     case PASS_READ:
         return plain_pass_read(rate, from->slice, from->len, to, to_len);
+    case BIT_SPREAD:
+        return plain_bit_spread(rate, block_bit, to, to_len);
     case RUN_WRITE:
         return plain_run_write(h->slice, h->len, m->slice, m->len, from->slice, from->len, to,
                                to_len);
@@ -333,8 +339,9 @@ static uint64_t put(enum call call, uint64_t rate) {
 /* Puts a call and, where it is accepted, the call that goes the other way. */
 static void put_and_back(enum call call, uint64_t rate) {
     static uint8_t came[AREA], went[AREA];
-    static const enum call BACK[CALLS] = {WORD_READ,  WORD_WRITE, PASS_READ,
-                                          PASS_WRITE, RUN_READ,   RUN_WRITE};
+    static const enum call BACK[CALLS] = {
+        [WORD_WRITE] = WORD_READ, [WORD_READ] = WORD_WRITE, [PASS_WRITE] = PASS_READ,
+        [PASS_READ] = PASS_WRITE, [RUN_WRITE] = RUN_READ,   [RUN_READ] = RUN_WRITE};
     const enum call back = BACK[call];
     if (put(call, rate) != MAHYREI_ACCEPTED) {
         return;
@@ -459,6 +466,27 @@ static void put_pass(struct input *in, enum call call) {
         lend_to(blocks_len);
     }
     put_and_back(call, rate);
+}
+
+/* ---- the spread of a bit */
+
+static void put_spread(struct input *in) {
+    static const unsigned LIMITS[3] = {110, 73, 56};
+    uint64_t known;
+    const uint64_t rate = take_rate(in, &known), bits = word_block_bytes(known) * 8 - 2;
+    const size_t choice = take_below(in, 1, 8);
+    block_bit = choice < 6    ? take(in, 2) % bits
+                : choice == 6 ? bits + take(in, 1) % 4
+                              : take(in, 8);
+    lend(FROM, 0, given, 0); /* it reads nothing */
+    lend_to(choose_len(in, MAHYREI_WORD_BYTES));
+    if (put(BIT_SPREAD, rate) == MAHYREI_ACCEPTED) {
+        unsigned ones = 0;
+        for (size_t j = 0; j < MAHYREI_WORD_BITS; j++) {
+            ones += (unsigned)get_bit(lent[TO].slice, j);
+        }
+        require(ones > 0 && ones <= LIMITS[rate], BIT_SPREAD, "more places than can change");
+    }
 }
 
 /* ---- runs */
@@ -737,6 +765,8 @@ int LLVMFuzzerTestOneInput(const uint8_t *data, size_t size) {
         put_run(&in, call);
     } else if (call == PASS_WRITE || call == PASS_READ) {
         put_pass(&in, call);
+    } else if (call == BIT_SPREAD) {
+        put_spread(&in);
     } else {
         put_word(&in, call);
     }

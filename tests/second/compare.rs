@@ -94,16 +94,18 @@ pub enum Call {
     WordRead,
     PassWrite,
     PassRead,
+    BitSpread,
     RunWrite,
     RunRead,
 }
 
 impl Call {
-    pub const ALL: [Call; 6] = [
+    pub const ALL: [Call; 7] = [
         Call::WordWrite,
         Call::WordRead,
         Call::PassWrite,
         Call::PassRead,
+        Call::BitSpread,
         Call::RunWrite,
         Call::RunRead,
     ];
@@ -114,6 +116,7 @@ impl Call {
             Call::WordRead => "word_read",
             Call::PassWrite => "pass_write",
             Call::PassRead => "pass_read",
+            Call::BitSpread => "bit_spread",
             Call::RunWrite => "run_write",
             Call::RunRead => "run_read",
         }
@@ -124,6 +127,7 @@ impl Call {
         match self {
             Call::WordWrite | Call::PassWrite => &[0, 2, 8],
             Call::WordRead | Call::PassRead => &[0, 2, 8, 13, 14, 15],
+            Call::BitSpread => &[0, 2, 8, 27],
             Call::RunWrite => &[0, 1, 2, 3, 4, 5, 6, 7, 8],
             Call::RunRead => &[0, 1, 2, 3, 4, 5, 6, 7, 8, 9, 10, 11, 12, 13, 14, 15, 16, 18],
         }
@@ -161,7 +165,7 @@ impl Way {
 }
 
 /// What each number says. No call answers any other.
-const NUMBERS: [(u8, &str); 18] = [
+const NUMBERS: [(u8, &str); 19] = [
     (0, "accepted"),
     (1, "header"),
     (2, "rate"),
@@ -180,6 +184,7 @@ const NUMBERS: [(u8, &str); 18] = [
     (15, "check"),
     (16, "frame marker"),
     (18, "fill bits"),
+    (27, "block bit"),
 ];
 
 /// One call to be put to the library, with what the second implementation says of it.

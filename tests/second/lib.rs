@@ -9,6 +9,9 @@ pub mod pass_cases;
 pub mod run;
 #[cfg(not(test))]
 pub mod run_cases;
+pub mod spread;
+#[cfg(not(test))]
+pub mod spread_cases;
 pub mod word;
 #[cfg(not(test))]
 pub mod word_cases;

@@ -30,6 +30,7 @@ mod c {
             blocks: *mut u8,
             blocks_len: usize,
         ) -> u64;
+        pub fn bit_spread(rate: u64, bit: u64, places: *mut u8, places_len: usize) -> u64;
         pub fn run_write(
             header: *const u8,
             header_len: usize,
@@ -74,6 +75,10 @@ pub fn pass_write(rate: u64, blocks: &[u8], words: &mut [u8]) -> u64 {
 pub fn pass_read(rate: u64, words: &[u8], blocks: &mut [u8]) -> u64 {
     let (blocks, blocks_len) = (blocks.as_mut_ptr(), blocks.len());
     unsafe { c::pass_read(rate, words.as_ptr(), words.len(), blocks, blocks_len) }
+}
+
+pub fn bit_spread(rate: u64, bit: u64, places: &mut [u8]) -> u64 {
+    unsafe { c::bit_spread(rate, bit, places.as_mut_ptr(), places.len()) }
 }
 
 pub fn run_write(header: &[u8], marker: &[u8], frames: &[u8], slots: &mut [u8]) -> u64 {

@@ -13,14 +13,15 @@ use lib.Seq.{getD-set-same, getD-set-other}
 use Rattle.bits.specs.Choice.{lt-or-le, eq-or-ne}
 use Rattle.bits.specs.Pack.{val, bitAt, Bits, val-lt}
 
--- the first n of the w bits of b stand at `at` and behind it; what stood before is as it was
+-- the first n of the w bits of b stand at `at` and behind it; what stood before them and behind them is as it was
 pub record Spread (before : List ℕ) (at w b n : ℕ) (after : List ℕ) : Type 0 where
   pub long : length after ≡ length before
   pub earlier : (k : ℕ) → k < at → getD after k 0 ≡ getD before k 0
   pub here : (t : ℕ) → t < n → getD after (at + t) 0 ≡ b / 2 ^ (w - 1 - t) % 2
+  pub later : (k : ℕ) → at + n ≤ k → getD after k 0 ≡ getD before k 0
 
 pub spread-none : (before : List ℕ) (at w b : ℕ) → Spread before at w b 0 before
-spread-none before at w b = record { long = refl; earlier = λ k l. refl; here = λ t l. absurd (omega arith) }
+spread-none before at w b = record { long = refl; earlier = λ k l. refl; here = λ t l. absurd (omega arith); later = λ k l. refl }
 
 pub spread-more : (before after : List ℕ) (at w b t v : ℕ) → at + t < length after → v ≡ b / 2 ^ (w - 1 - t) % 2 → Spread before at w b t after → Spread before at w b (t + 1) (set after (at + t) v)
 spread-more before after at w b t v l e s =
@@ -31,6 +32,7 @@ spread-more before after at w b t v l e s =
           (λ (q : u ≡ t). ap (λ (i : ℕ). getD (set after (at + t) v) (at + i) 0) q ∙ getD-set-same after (at + t) v 0 l ∙ e ∙ ap (λ (i : ℕ). b / 2 ^ (w - 1 - i) % 2) (sym q))
           (λ (q : u ≡ t → ⊥). getD-set-other after (at + t) (at + u) v 0 (λ r. q (omega arith)) ∙ s .here u (omega arith))
           (eq-or-ne u t);
+      later = λ k m. getD-set-other after (at + t) k v 0 (λ q. omega arith) ∙ s .later k (omega arith);
     }
 
 -- one byte more is unpacked

@@ -1,8 +1,9 @@
 -- How many places differ, and how many ones there are.
-use mathlib.Core.Path.{_≡_, refl, sym, ap₂}
+use mathlib.Core.Path.{_≡_, refl, sym, ap, ap₂, _∙_}
 use mathlib.Core.Logic.{⊎-elim}
-use Prim.Native.Nat.{ℕ, zero, suc, _+_, _-_, _<_}
+use Prim.Native.Nat.{ℕ, zero, suc, _+_, _-_, _≤_, _<_}
 use native.Mathlib.Omega.{arith}
+use native.Mathlib.Nat.{add-zero, add-suc}
 use native.Mathlib.Numerals.{add-one, add-two, add-three}
 use lib.Bits.{bitXor}
 use lib.Dec.{eqb}
@@ -57,3 +58,24 @@ weight-two f n = rw (add-two n, add-one n) (omega arith)
 pub weight-three : (f : ℕ → ℕ) (n : ℕ) → weight f (n + 3) ≡ weight f n + (f n + f (n + 1) + f (n + 2))
 unfolding weight
 weight-three f n = rw (add-three n, add-two n, add-one n) (omega arith)
+
+-- n places more: as many ones at the most, and none where all are 0
+weight-more : (f : ℕ → ℕ) → Bits f → (a n : ℕ) → weight f (a + n) ≤ weight f a + n
+unfolding weight
+weight-more f h a zero = rw (add-zero a) (omega arith)
+weight-more f h a (suc n) = rw (add-suc a n) (omega (arith, weight-more f h a n, h (a + n)))
+
+weight-still : (f : ℕ → ℕ) (a n : ℕ) → ((i : ℕ) → a ≤ i → i < a + n → f i ≡ 0) → weight f (a + n) ≡ weight f a
+unfolding weight
+weight-still f a zero h = ap (weight f) (add-zero a)
+weight-still f a (suc n) h =
+    rw (add-suc a n) (omega (arith, weight-still f a n (λ i l u. h i l (omega arith)), h (a + n) (omega arith) (omega arith)))
+
+-- so a bound grows by the places behind a stretch of zeros alone
+pub weight-past : (f : ℕ → ℕ) → Bits f → (a b n w : ℕ) → a ≤ b → b ≤ n → weight f a ≤ w → ((i : ℕ) → a ≤ i → i < b → f i ≡ 0) → weight f n ≤ w + (n - b)
+weight-past f h a b n w ab bn bound none =
+    let eb : a + (b - a) ≡ b = omega arith in
+    let en : b + (n - b) ≡ n = omega arith in
+    let still : weight f b ≡ weight f a = ap (weight f) (sym eb) ∙ weight-still f a (b - a) (λ i l u. none i l (omega arith)) in
+    let more : weight f (b + (n - b)) ≤ weight f b + (n - b) = weight-more f h b (n - b) in
+    rw (← en) (omega arith)

@@ -5,6 +5,7 @@ use lib.ListN.{length}
 use Rattle.answers.specs.Answer.{after}
 use Rattle.word.specs.Word as words
 use Rattle.pass.specs.Pass as passes
+use Rattle.spread.specs.Spread as spreads
 use Rattle.run.specs.Run as runs
 
 abbrev pub wordAfter : ℕ → List ℕ → List ℕ → List ℕ
@@ -18,6 +19,9 @@ wordsAfter rate blocks old = after (passes.writeSays rate blocks (length old)) (
 
 abbrev pub blocksAfter : ℕ → List ℕ → List ℕ → List ℕ
 blocksAfter rate words old = after (passes.readSays rate words (length old)) (passes.blocksOf rate words) old
+
+abbrev pub placesAfter : ℕ → ℕ → List ℕ → List ℕ
+placesAfter rate bit old = after (spreads.spreadSays rate bit (length old)) (spreads.spreadOf rate bit) old
 
 abbrev pub slotsAfter : List ℕ → List ℕ → List ℕ → List ℕ → List ℕ
 slotsAfter header marker frames old = after (runs.writeSays header marker frames (length old)) (runs.runOf header marker frames) old

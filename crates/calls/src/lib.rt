@@ -5,8 +5,9 @@ ghost use lib.ListN.{length};
 ghost use Rattle.answers.specs.Answer.{codeOf};
 ghost use Rattle.word.specs.Word as words;
 ghost use Rattle.pass.specs.Pass as passes;
+ghost use Rattle.spread.specs.Spread as spreads;
 ghost use Rattle.run.specs.Run as runs;
-ghost use Rattle.calls.specs.After.{wordAfter, blockAfter, wordsAfter, blocksAfter, slotsAfter, framesAfter};
+ghost use Rattle.calls.specs.After.{wordAfter, blockAfter, wordsAfter, blocksAfter, placesAfter, slotsAfter, framesAfter};
 
 // A packed block to its word (steps 2 to 7).
 #[no_mangle]
@@ -42,6 +43,15 @@ pub extern "C" fn pass_read(rate: u64, words: &[u8], blocks: &mut [u8]) -> u64
     ensures { λ _. ⌜ now (blocks .exit) ≡ blocksAfter rate (now (words .entry)) (now (blocks .entry)) ⌝ }
 {
     answers::code(pass::read(rate, words, blocks))
+}
+
+// The coded bits that change with one bit of a block, whatever the block: a 1 at each, packed.
+#[no_mangle]
+pub extern "C" fn bit_spread(rate: u64, bit: u64, places: &mut [u8]) -> u64
+    ensures { λ r. ⌜ r ≡ codeOf (spreads.spreadSays rate bit (length (now (places .entry)))) ⌝ }
+    ensures { λ _. ⌜ now (places .exit) ≡ placesAfter rate bit (now (places .entry)) ⌝ }
+{
+    answers::code(spread::mark(rate, bit, places))
 }
 
 // Frames to slots (steps 1 to 10).

@@ -130,7 +130,7 @@ checked-same k x y h i =
     (λ (l : k ≤ i). checked-check k x i l ∙ ap (λ (r : ℕ). checkBit r (i - k)) (register-same x y k h) ∙ sym (checked-check k y i l))
     (lt-or-le i k)
 
-check-plus : (r s i : ℕ) → checkBit (bitXor r s) i ≡ bitXor (checkBit r i) (checkBit s i)
+pub check-plus : (r s i : ℕ) → checkBit (bitXor r s) i ≡ bitXor (checkBit r i) (checkBit s i)
 unfolding checkBit
 check-plus r s i = xor-digit r s (31 - i)
 

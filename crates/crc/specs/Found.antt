@@ -8,13 +8,14 @@ use mathlib.Core.Logic.{⊎-elim}
 use Prim.Native.Nat.{ℕ, zero, suc, _+_, _-_, _*_, _/_, _%_, _^_, _≤_, _<_}
 use native.Mathlib.Omega.{arith}
 use native.Mathlib.Nat.{pow-suc, mul-assoc, mul-div-mul-right, zero-div}
-use lib.Bits.{bitXor, xor-zero-r, xor-self, xor-mod}
+use lib.Bits.{bitXor, xor-zero-r, xor-mod}
 use lib.Pow.{pow-add, pow-pos}
 use Rattle.bits.specs.Choice.{bit-cases, lt-or-le}
 use Rattle.bits.specs.Sum.{xor-bit, xor-same, same-xor}
 use Rattle.bits.specs.Pack.{Bits, val, cut, val-lt, bit-val, cut-in, cut-past, cut-bits}
 use Rattle.crc.specs.Check.{polynomial, advance, register, checkBit, register-lt, check-bit}
-use Rattle.crc.specs.Bytes.{advances, advances-lt, advances-same, advances-plus, advances-on, register-is, register-on}
+use Rattle.crc.specs.Bytes.{advances, advances-lt, advances-same, advances-plus, advances-on, register-on}
+use Rattle.crc.specs.Difference.{registers-plus}
 
 -- the bits of x and y below n differ only within the 32 places from `start` on
 abbrev pub DifferWithin : (ℕ → ℕ) → (ℕ → ℕ) → ℕ → ℕ → Type 0
@@ -131,13 +132,6 @@ burst-found δ h n start within i l one e =
     omega arith
 
 -- ---- the check register
-
--- the registers of two sequences differ by what zeros make of the sum of their bits
-registers-plus : (x y : ℕ → ℕ) → Bits x → Bits y → (n : ℕ) → bitXor (register x n) (register y n) ≡ advances 0 (λ i. bitXor (x i) (y i)) n
-registers-plus x y hx hy n =
-    ap₂ bitXor (register-is x n) (register-is y n)
-    ∙ sym (advances-plus 0xFFFFFFFF 0xFFFFFFFF x y (omega arith) (omega arith) hx hy n)
-    ∙ ap (λ (r : ℕ). advances r (λ i. bitXor (x i) (y i)) n) (xor-self 0xFFFFFFFF)
 
 -- bits that differ, and only within 32 places, have different registers
 pub registers-differ : (x y : ℕ → ℕ) → Bits x → Bits y → (n start : ℕ) → DifferWithin x y n start

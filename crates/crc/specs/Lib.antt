@@ -1,3 +1,4 @@
 pub mod Check
 pub mod Bytes
+pub mod Difference
 pub mod Found

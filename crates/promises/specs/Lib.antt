@@ -6,3 +6,4 @@ pub mod Card4
 pub mod Card7
 pub mod Card9
 pub mod Card12
+pub mod Card13

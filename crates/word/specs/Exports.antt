@@ -2,14 +2,17 @@
 use mathlib.Core.Path.{_≡_, sym, ap, _∙_}
 use mathlib.Core.Bool.{true}
 use mathlib.Core.List.{List, [], _∷_}
-use Prim.Native.Nat.{ℕ, _<_}
+use Prim.Native.Nat.{ℕ, _+_, _<_}
+use lib.Bits.{bitXor}
 use lib.ListN.{length}
-use Rattle.bits.specs.Pack.{Bytes}
+use Rattle.bits.specs.Pack.{Bytes, Bits, bitAt}
 use Rattle.answers.specs.Answer.{numberOf, Fits}
 use Rattle.answers.specs.Numbers.{among}
-use Rattle.sizes.specs.Rate.{blockBytes}
-use Rattle.sizes.specs.Sizes.{wordBytes}
-use Rattle.word.specs.Word.{SameBits, Packed, checkedBlock, wordOf, carriedOn, blockIn, writeSays, readSays}
+use Rattle.sizes.specs.Rate.{infoBits, blockBytes}
+use Rattle.sizes.specs.Sizes.{wordBits, wordBytes}
+use Rattle.crc.specs.Difference.{checkedChange}
+use Rattle.convolution.specs.Code.{terminated, encode}
+use Rattle.word.specs.Word.{SameBits, Packed, checkedBlock, codedOf, wordOf, carriedOn, codedIn, blockIn, writeSays, readSays}
 use Rattle.word.specs.Word.Laws as Laws
 use Rattle.word.specs.Word.Answers as Answers
 use Rattle.word.specs.Return.{written-read, whole-back, read-written}
@@ -25,6 +28,18 @@ word-bytes = Laws.word-bytes
 -- it is the block with its check behind it, carried on from step 3
 pub word-carried : (rate : ℕ) (block : List ℕ) → wordOf rate block ≡ carriedOn rate (checkedBlock rate block)
 word-carried = Laws.word-carried
+
+-- its coded bits are those that come back out of it, and are bits
+pub coded-out : (rate : ℕ) (block : List ℕ) (j : ℕ) → j < wordBits → codedIn (wordOf rate block) j ≡ codedOf rate block j
+coded-out = Laws.coded-out
+
+pub coded-bits : (rate : ℕ) (block : List ℕ) → Bits (codedOf rate block)
+coded-bits = Laws.coded-bits
+
+-- where two blocks differ by d, their coded bits differ by what d and the check of d make
+pub coded-change : (rate : ℕ) (a b : List ℕ) (d : ℕ → ℕ) → rate < 3 → ((i : ℕ) → i < infoBits rate → bitXor (bitAt a i) (bitAt b i) ≡ d i)
+    → (j : ℕ) → j < wordBits → bitXor (codedOf rate a j) (codedOf rate b j) ≡ encode rate (terminated (infoBits rate + 32) (checkedChange (infoBits rate) d)) j
+coded-change = Laws.coded-change
 
 -- two packings of the same k bits give one word
 pub word-same : (rate : ℕ) (a b : List ℕ) → rate < 3 → SameBits rate a b → wordOf rate a ≡ wordOf rate b

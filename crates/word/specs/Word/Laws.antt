@@ -1,5 +1,5 @@
 -- What holds of words. Only this file and those beside it open the definitions of `Word`.
-use mathlib.Core.Path.{_≡_, refl, sym, ap, _∙_}
+use mathlib.Core.Path.{_≡_, refl, sym, ap, ap₂, _∙_}
 use mathlib.Core.Bool.{true}
 use mathlib.Core.List.{List}
 use mathlib.Core.Logic.{⊎-elim}
@@ -17,6 +17,7 @@ use Rattle.bits.specs.Pack.{val, bitAt, bytesOf, cut, Bytes, Bits, bit-lt, bit-
 use Rattle.sizes.specs.Rate.{infoBits, inputBits, blockBytes, block-size}
 use Rattle.sizes.specs.Sizes.{wordBits, wordBytes}
 use Rattle.crc.specs.Check.{register, register-same, register-lt, checkBit, checked, checked-block, checked-check, checked-bits, checked-same, checked-sum3}
+use Rattle.crc.specs.Difference.{checkedChange, checked-plus, change-same}
 use Rattle.convolution.specs.Code.{terminated, encode, encode-bits, encode-same, encode-plus, decode-bits, decode-same, decode-encode}
 use Rattle.interleaver.specs.Interleaver.{place, interleave, deinterleave, interleave-bits, deinterleave-bits, interleave-same, deinterleave-same, deinterleave-interleave, interleave-deinterleave, interleave-plus, deinterleave-plus}
 use Rattle.accumulator.specs.Accumulator.{accumulate, differentiate, accumulate-bits, differentiate-bits, accumulate-same, differentiate-same, accumulate-plus, differentiate-plus, differentiate-accumulate, accumulate-differentiate}
@@ -192,6 +193,34 @@ input-check rate block i l =
 pub input-end : (rate : ℕ) (block : List ℕ) (i : ℕ) → infoBits rate + 32 ≤ i → inputOf rate block i ≡ 0
 unfolding inputOf checkedBlock takenIn
 input-end rate block i l = cut-past (infoBits rate + 32) (checked (infoBits rate) (bitAt block)) i l
+
+-- where two blocks differ, their input bits differ by what the difference of their k bits makes, and so do their coded bits
+input-plus : (rate : ℕ) (a b : List ℕ) (i : ℕ)
+    → bitXor (inputOf rate a i) (inputOf rate b i) ≡ terminated (infoBits rate + 32) (checkedChange (infoBits rate) (λ i. bitXor (bitAt a i) (bitAt b i))) i
+unfolding inputOf checkedBlock takenIn
+input-plus rate a b i =
+    let k : ℕ = infoBits rate in
+    let d : ℕ → ℕ = checkedChange k (λ i. bitXor (bitAt a i) (bitAt b i)) in
+    ⊎-elim
+    (λ (l : i < k + 32).
+    ap₂ bitXor (cut-in (k + 32) (checked k (bitAt a)) i l) (cut-in (k + 32) (checked k (bitAt b)) i l)
+    ∙ checked-plus k (bitAt a) (bitAt b) (bit-lt a) (bit-lt b) i
+    ∙ sym (cut-in (k + 32) d i l))
+    (λ (l : k + 32 ≤ i).
+    ap₂ bitXor (cut-past (k + 32) (checked k (bitAt a)) i l) (cut-past (k + 32) (checked k (bitAt b)) i l)
+    ∙ sym (cut-past (k + 32) d i l))
+    (lt-or-le i (k + 32))
+
+pub coded-change : (rate : ℕ) (a b : List ℕ) (d : ℕ → ℕ) → rate < 3 → ((i : ℕ) → i < infoBits rate → bitXor (bitAt a i) (bitAt b i) ≡ d i)
+    → (j : ℕ) → j < wordBits → bitXor (codedOf rate a j) (codedOf rate b j) ≡ encode rate (terminated (infoBits rate + 32) (checkedChange (infoBits rate) d)) j
+unfolding codedOf
+coded-change rate a b d h e j l =
+    let k : ℕ = infoBits rate in
+    let x : ℕ → ℕ = λ i. bitXor (bitAt a i) (bitAt b i) in
+    sym (encode-plus rate (inputOf rate a) (inputOf rate b) j)
+    ∙ encode-same rate (λ i. bitXor (inputOf rate a i) (inputOf rate b i)) (terminated (k + 32) (checkedChange k d)) h (λ i u.
+    input-plus rate a b i
+    ∙ cut-same (k + 32) (checkedChange k x) (checkedChange k d) (λ i v. change-same k x d e i) i) j l
 
 -- ---- any k + 32 bits, carried on from step 3: the input bits come back, and questions 13 and 14 are passed
 
@@ -369,10 +398,14 @@ pub word-bit : (rate : ℕ) (block : List ℕ) (j : ℕ) → j < wordBits → bi
 unfolding wordOf
 word-bit rate block j l = bit-bytes wordBytes (shuffled (codedOf rate block)) (shuffled-bits (codedOf rate block) (coded-bits rate block)) j (omega arith)
 
--- the coded bits taken out of a written word are the code of its input bits
+-- the coded bits taken out of a written word are those that made it, the code of its input bits
+pub coded-out : (rate : ℕ) (block : List ℕ) (x : ℕ) → x < wordBits → codedIn (wordOf rate block) x ≡ codedOf rate block x
+unfolding wordOf
+coded-out rate block x l = coded-back (codedOf rate block) (coded-bits rate block) x l
+
 pub coded-written : (rate : ℕ) (block : List ℕ) (x : ℕ) → x < wordBits → codedIn (wordOf rate block) x ≡ encode rate (inputOf rate block) x
-unfolding wordOf codedOf
-coded-written rate block x l = coded-back (codedOf rate block) (coded-bits rate block) x l
+unfolding codedOf
+coded-written rate block x l = coded-out rate block x l
 
 -- two packings of the same k bits give one word
 pub word-same : (rate : ℕ) (a b : List ℕ) → rate < 3 → SameBits rate a b → wordOf rate a ≡ wordOf rate b

@@ -1,0 +1,5 @@
+pub mod Spread
+pub mod Few
+pub mod Theorems
+pub mod Answers
+pub mod Needs

@@ -1,0 +1,30 @@
+-- How far one wrong bit spreads: the coded bits (step 4) that change with one bit of a block, and the questions that the call puts.
+use mathlib.Core.List.{List}
+use Prim.Native.Nat.{ℕ}
+use lib.Bits.{bitXor}
+use lib.Dec.{ltb, eqb}
+use Rattle.bits.specs.Pack.{bytesOf}
+use Rattle.bits.specs.Change.{flipBit}
+use Rattle.answers.specs.declared.Answer.{Answer}
+use Rattle.answers.specs.Answer.{ask, then}
+use Rattle.sizes.specs.Rate.{infoBits, blockBytes}
+use Rattle.sizes.specs.Sizes.{wordBytes}
+use Rattle.word.specs.Word.{codedOf}
+
+-- 1 where coded bit j changes with bit b of a block
+unfoldable pub changes : ℕ → List ℕ → ℕ → ℕ → ℕ
+changes rate block b j = bitXor (codedOf rate block j) (codedOf rate (flipBit block b) j)
+
+-- a block of zeros, and the coded bits that change with its bit b, packed. They are those of every block: `every-block` of `Theorems`
+unfoldable pub zeroBlock : ℕ → List ℕ
+zeroBlock rate = bytesOf (blockBytes rate) (λ _. 0)
+
+unfoldable pub spreadOf : ℕ → ℕ → List ℕ
+spreadOf rate b = bytesOf wordBytes (changes rate (zeroBlock rate) b)
+
+-- the questions: 2, 8 and 27, whether the block has such a bit
+unfoldable pub spreadSays : ℕ → ℕ → ℕ → Answer
+spreadSays rate b placesLength =
+    then (ask (ltb rate 3) 2 0)
+    (then (ask (eqb placesLength wordBytes) 8 0)
+    (ask (ltb b (infoBits rate)) 27 0))

@@ -1,0 +1,79 @@
+// How far one wrong bit spreads: the coded bits that change with one bit of a block, whatever the
+// block holds.
+use answers::Answer;
+ghost use mathlib.Core.Path.{_≡_};
+ghost use Prim.Native.Nat.{ℕ, _<_};
+ghost use lib.ListN.{length, getD};
+ghost use Rattle.bits.specs.Table.{tab};
+ghost use Rattle.sizes.specs.Rate.{inputBits};
+ghost use Rattle.sizes.specs.Sizes.{wordBits};
+ghost use Rattle.convolution.specs.Code as code;
+ghost use Rattle.answers.specs.Answer.{after};
+ghost use Rattle.spread.specs.Spread.{spreadOf, spreadSays};
+ghost use Rattle.spread.specs.Theorems.{inputChange};
+ghost use Rattle.spread.specs.Needs.{Marks, Changes, Codes};
+
+// Questions 2, 8 and 27.
+fn judge(rate: u64, bit: u64, places_length: usize) -> Answer
+    ensures { λ r. ⌜ r ≡ spreadSays rate bit «places_length» ⌝ }
+{
+    if 2 < rate {
+        return Answer::No(2, 0);
+    }
+    if places_length != sizes::WORD_BYTES {
+        return Answer::No(8, 0);
+    }
+    let k = sizes::info_bits(rate) as u64;
+    if k <= bit {
+        return Answer::No(27, 0);
+    }
+    Answer::Done
+}
+
+// The input bits that change: the bit itself, and what it makes of the check. Any block shows that.
+fn change_input(rate: u64, bit: usize, block: &mut [u8], room: &mut [u8])
+    requires { ⌜ Changes rate bit (now block) (now room) ⌝ }
+    ensures { λ _. ⌜ ((i : ℕ) → i < inputBits rate → getD (now (room .exit)) i 0 ≡ inputChange rate bit i) ⌝ }
+{
+    let k = sizes::info_bits(rate);
+    let before = crc::check(block, k);
+    bits::change::flip(block, bit);
+    let after = crc::check(block, k);
+    room[bit] = 1;
+    bits::packing::put_number(room, k, 32, (before as u64) ^ (after as u64));
+}
+
+// Step 4: the coded bits that change. `room` is for the input bits.
+fn change_coded(rate: u64, bit: usize, block: &mut [u8], room: &mut [u8], coded: &mut [u8])
+    requires { ⌜ Codes rate bit (now block) (now room) (now coded) ⌝ }
+    ensures { λ _. ⌜ now (coded .exit) ≡ tab wordBits (code.encode rate (inputChange rate bit)) ⌝ }
+{
+    let n = sizes::input_bits(rate);
+    change_input(rate, bit, block, room);
+    convolution::encode(rate, &room[..n], coded);
+}
+
+// The places, packed, for a rate, a bit and a length that are right.
+fn fill(rate: u64, bit: usize, places: &mut [u8])
+    requires { ⌜ Marks rate bit (length (now places)) ⌝ }
+    ensures { λ _. ⌜ now (places .exit) ≡ spreadOf rate bit ⌝ }
+{
+    let mut block = [0u8; 1256];
+    let mut input = [0u8; 10080];
+    let mut coded = [0u8; 15120];
+    change_coded(rate, bit, &mut block, &mut input, &mut coded);
+    bits::packing::pack(&coded, places);
+}
+
+// Marks the coded bits that change with a block bit.
+pub fn mark(rate: u64, bit: u64, places: &mut [u8]) -> Answer
+    ensures { λ r. ⌜ r ≡ spreadSays rate bit (length (now (places .entry))) ⌝ }
+    ensures { λ r. ⌜ now (places .exit) ≡ after r (spreadOf rate bit) (now (places .entry)) ⌝ }
+{
+    let answer = judge(rate, bit, places.len());
+    let Answer::Done = answer else {
+        return answer;
+    };
+    fill(rate, bit as usize, places);
+    answer
+}
