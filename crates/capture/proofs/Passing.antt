@@ -1,83 +1,156 @@
 -- What is known of question 12, from nothing to all of it.
-use mathlib.Core.Path.{_≡_, sym, ap, _∙_}
-use mathlib.Core.Bool.{true}
+use mathlib.Core.Path.{_≡_, refl, sym, ap, _∙_}
+use mathlib.Core.Bool.{Bool}
 use mathlib.Core.List.{List}
 use mathlib.Core.Logic.{⊎-elim}
-use Prim.Native.Nat.{ℕ, _+_, _-_, _*_, _/_, _≤_, _<_}
+use Prim.Native.Nat.{ℕ, _+_, _-_, _*_, _/_, _%_, _≤_, _<_}
 use native.Mathlib.Omega.{arith}
-use native.Mathlib.Nat.{le-refl, mul-le-mul}
+use native.Mathlib.Nat.{le-refl, mul-le-mul, mod-lt, div-add-mod', div-lt-iff-lt-mul, le-div-iff-mul-le}
+use lib.Dec.{ltb}
+use lib.ListN.{length}
+use borrow.Author.Tests.{lt-ltb}
 use Rattle.bits.specs.Choice.{lt-or-le}
 use Rattle.bits.specs.First.{upTo, first-skip, first-end, part-fails, part-passes}
 use Rattle.sizes.specs.Sizes.{wordBits}
-use Rattle.pulses.specs.Zeros.{whole-groups}
+use Rattle.pulses.specs.Pulses as pulses
+use Rattle.pulses.specs.Pulses.{grouped}
+use Rattle.pulses.specs.Zeros.{Zeros, Same, whole-groups, some-groups, forty-at, forty-zeros}
+use Rattle.pulses.specs.Needs.{sizes}
 use Rattle.slots.specs.Bounds.{bounds, shape}
 use Rattle.plan.specs.declared.Plan.{Plan}
-use Rattle.plan.specs.Plan.{Fine, unit, symbolCount}
-use Rattle.capture.specs.Capture.{restZero, firstBadRest}
+use Rattle.plan.specs.Plan.{Fine, unit, total, symbolCount, slotBytes}
+use Rattle.channel.specs.Markers.{rest-zero}
+use Rattle.capture.specs.Capture.{symbolIn, restZero, firstBadGroup, firstBadRest}
 use Rattle.capture.specs.Pass.{Known}
+use Rattle.capture.specs.Taking.{Took}
+use Rattle.capture.proofs.Taken.{took-zeros}
 
-module _ (p : Plan) (b : List ℕ) where
-  pub known-start : (s : ℕ) → s ≡ 0 → Known p b s (symbolCount p)
-  known-start s e =
-      record { order = omega arith; most = omega arith; ahead = λ q. ap (λ (x : ℕ). upTo (restZero p b) x (symbolCount p)) e; here = λ l. absurd (omega arith) }
+module _ (p : Plan) (fine : Fine p) (b : List ℕ) where
+  pub known-start : (words : List ℕ) → Took p b 0 words → Known p b 0 (symbolCount p) words
+  known-start words t = record { order = omega arith; most = omega arith; ahead = λ q. refl; here = λ l. absurd (omega arith); took = λ q. t }
 
-  module _ (from to rest : ℕ) (known : Known p b from rest) (order : from ≤ to) (most : to ≤ symbolCount p) where
-    -- these symbols are right, too
-    pub known-pass : ((k : ℕ) → from ≤ k → k < to → restZero p b k ≡ true) → Known p b to rest
-    known-pass h =
+  module _ (from to rest : ℕ) (words : List ℕ) (known : Known p b from rest words) (order : from ≤ to) (most : to ≤ symbolCount p) where
+    -- these symbols are 0
+    pub known-zeros : ((k : ℕ) → from ≤ k → k < to → symbolIn p b k ≡ 0) → Known p b to rest words
+    known-zeros h =
         let s : from + (to - from) ≡ to = omega arith in
         record {
           order = most;
           most = known .most;
           ahead = λ q. ap (λ (x : ℕ). upTo (restZero p b) x (symbolCount p)) (sym s)
-              ∙ first-skip (restZero p b) (to - from) (symbolCount p) from (omega arith) (λ k a l. h k a (omega arith)) ∙ known .ahead q;
+              ∙ first-skip (restZero p b) (to - from) (symbolCount p) from (omega arith)
+              (λ k a l. rest-zero (p .rows) (p .step) (total p) (p .symbols) (p .count) (symbolIn p b) k (h k a (omega arith)))
+              ∙ known .ahead q;
           here = known .here;
+          took = λ q. took-zeros p fine b words from to order h (known .took q);
         }
 
     -- they do not matter, since one before them is wrong
-    pub known-stay : rest < symbolCount p → Known p b to rest
-    known-stay l = record { order = most; most = known .most; ahead = λ q. absurd (omega arith); here = known .here }
+    pub known-stay : rest < symbolCount p → Known p b to rest words
+    known-stay l = record { order = most; most = known .most; ahead = λ q. absurd (omega arith); here = known .here; took = λ q. absurd (omega arith) }
 
-    module _ (none : rest ≡ symbolCount p) (r : ℕ) (e : r ≡ upTo (restZero p b) from to) where
+    module _ (none : rest ≡ symbolCount p) (r : ℕ) (e : r ≡ upTo (restZero p b) from to) (after : List ℕ) where
       -- one of them is wrong, and is the first
-      pub known-wrong : r < to → Known p b to r
+      pub known-wrong : r < to → Known p b to r after
       known-wrong l =
           record {
             order = most;
             most = omega arith;
             ahead = λ q. absurd (omega arith);
             here = λ q. part-fails (restZero p b) from to (symbolCount p) r order most e l ∙ known .ahead none;
+            took = λ q. absurd (omega arith);
           }
 
       -- none of them is
-      pub known-right : to ≤ r → Known p b to (symbolCount p)
-      known-right l =
+      pub known-right : to ≤ r → Took p b to after → Known p b to (symbolCount p) after
+      known-right l t =
           record {
             order = most;
             most = omega arith;
             ahead = λ q. part-passes (restZero p b) from to (symbolCount p) r order most e l ∙ known .ahead none;
             here = λ q. absurd (omega arith);
+            took = λ q. t;
           }
 
-  pub known-end : (s rest : ℕ) → s ≡ symbolCount p → Known p b s rest → rest ≡ firstBadRest p b
+  pub known-end : (rest : ℕ) (words : List ℕ) → Known p b (symbolCount p) rest words → rest ≡ firstBadRest p b
   unfolding firstBadRest
-  known-end s rest e k =
+  known-end rest words k =
       ⊎-elim
       (λ (l : rest < symbolCount p). k .here l)
       (λ (l : symbolCount p ≤ rest).
       let m = k .most in
       let q : rest ≡ symbolCount p = omega arith in
-      q ∙ sym (first-end (restZero p b) (symbolCount p) s (omega arith) (omega arith)) ∙ k .ahead q)
+      q ∙ sym (first-end (restZero p b) (symbolCount p) (symbolCount p) (omega arith) (omega arith)) ∙ k .ahead q)
       (lt-or-le rest (symbolCount p))
 
--- the groups in forty bytes are no more than a line
-pub few-groups : (p : Plan) → Fine p → 320 / p .group ≤ unit p
+-- ---- both questions
+
+-- all groups before s are good, and this is known of question 12
+pub record Upto (p : Plan) (b : List ℕ) (s rest : ℕ) (words : List ℕ) : Type 0 where
+  pub groups : upTo (grouped (p .order) (p .group) b) s (symbolCount p) ≡ upTo (grouped (p .order) (p .group) b) 0 (symbolCount p)
+  pub known : Known p b s rest words
+
+module _ (p : Plan) (fine : Fine p) (b : List ℕ) where
+  abbrev good : ℕ → Bool
+  good = grouped (p .order) (p .group) b
+
+  pub upto-start : (words : List ℕ) → Took p b 0 words → Upto p b 0 (symbolCount p) words
+  upto-start words t = record { groups = refl; known = known-start p fine b words t }
+
+  module _ (from to rest : ℕ) (words : List ℕ) (u : Upto p b from rest words) (order : from ≤ to) (most : to ≤ symbolCount p) where
+    pub upto-zeros : ((k : ℕ) → from ≤ k → k < to → symbolIn p b k ≡ 0) → Upto p b to rest words
+    upto-zeros h =
+        let s : from + (to - from) ≡ to = omega arith in
+        let one : 0 < p .order = let k = bounds p fine .order-least in omega arith in
+        record {
+          groups = ap (λ (x : ℕ). upTo good x (symbolCount p)) (sym s)
+              ∙ first-skip good (to - from) (symbolCount p) from (omega arith) (λ k a l. ap (λ (v : ℕ). ltb v (p .order)) (h k a (omega arith)) ∙ lt-ltb 0 (p .order) one)
+              ∙ u .groups;
+          known = known-zeros p fine b from to rest words (u .known) order most h;
+        }
+
+    module _ (r : ℕ) (e : r ≡ upTo good from to) where
+      pub upto-bad : r < to → r ≡ firstBadGroup p b
+      unfolding pulses.firstBadGroup
+      upto-bad l = part-fails good from to (symbolCount p) r order most e l ∙ u .groups
+
+      pub upto-good : to ≤ r → (found : ℕ) (after : List ℕ) → Known p b to found after → Upto p b to found after
+      upto-good l found after k = record { groups = part-passes good from to (symbolCount p) r order most e l ∙ u .groups; known = k }
+
+  pub upto-end : (s rest : ℕ) (words : List ℕ) → s ≡ symbolCount p → Upto p b s rest words → (symbolCount p ≡ firstBadGroup p b) × Known p b (symbolCount p) rest words
+  unfolding pulses.firstBadGroup
+  upto-end s rest words e u =
+      (sym (first-end good (symbolCount p) s (omega arith) (omega arith)) ∙ u .groups, rw e at (u .known))
+
+  -- the groups in forties of bytes that are zeros'
+  pub forties-zero : (given : List ℕ) → Zeros (p .group) given → (c e : ℕ) → ((k : ℕ) → c ≤ k → k < e → Same b (40 * k) given 40)
+      → (k : ℕ) → c * (320 / p .group) ≤ k → k < e * (320 / p .group) → symbolIn p b k ≡ 0
+  forties-zero given zeros c e same k a l =
+      let n : ℕ = 320 / p .group in
+      let pos : 0 < n = some-groups (p .order) (p .group) (shape p fine) in
+      let d = div-add-mod' k n in
+      let m : k % n < n = mod-lt k pos in
+      forty-zeros (p .order) (p .group) (shape p fine) (k / n) b given zeros (same (k / n) (le-div-iff-mul-le pos .1 a) (div-lt-iff-lt-mul pos .1 l)) k (omega arith) (omega arith)
+
+  -- they lie within the slots
+  pub forties-in : length b ≡ slotBytes p → 40 * (symbolCount p / (320 / p .group)) ≤ length b
+  forties-in long =
+      let n : ℕ = 320 / p .group in
+      let c : ℕ = symbolCount p / n in
+      let d = div-add-mod' (symbolCount p) n in
+      let at = forty-at (p .order) (p .group) (shape p fine) c 0 in
+      let some : c * n + 0 ≤ symbolCount p = omega arith in
+      let all : (c * n + 0) * p .group ≤ symbolCount p * p .group = mul-le-mul some (le-refl (p .group)) in
+      omega arith
+
+-- the groups in sixteen forties of bytes are no more than a line
+pub few-groups : (p : Plan) → Fine p → 16 * (320 / p .group) ≤ unit p
 few-groups p fine =
-    let k = bounds p fine in
+    let o = sizes (p .order) (p .group) (shape p fine) .order-least in
     let g = fine .group-is in
     let w : 320 / p .group * p .group ≡ 320 = whole-groups (p .order) (p .group) (shape p fine) in
-    let one : 1 ≤ p .group = omega arith in
-    let few : 320 / p .group * 1 ≤ 320 / p .group * p .group = mul-le-mul (le-refl (320 / p .group)) one in
+    let five : 5 ≤ p .group = omega arith in
+    let few : 320 / p .group * 5 ≤ 320 / p .group * p .group = mul-le-mul (le-refl (320 / p .group)) five in
     let size : p .symbols * p .bits ≡ wordBits = fine .symbols-are in
     let wide : p .symbols * p .bits ≤ p .symbols * 8 = mul-le-mul (le-refl (p .symbols)) (fine .bits-most) in
     omega arith

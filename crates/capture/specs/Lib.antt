@@ -2,5 +2,5 @@ pub mod Capture
 pub mod Answer
 pub mod Return
 pub mod Needs
-pub mod Pass
 pub mod Taking
+pub mod Pass

@@ -1,14 +1,12 @@
 -- What the calls ask of the slots that they are lent.
 use mathlib.Core.Path.{_≡_}
 use mathlib.Core.List.{List}
-use Prim.Native.Nat.{ℕ, _+_, _≤_, _<_}
-use lib.ListN.{length}
+use Prim.Native.Nat.{ℕ, _+_, _*_, _≤_, _<_}
+use lib.ListN.{length, getD}
 use Rattle.sizes.specs.Sizes.{wordBytes}
 use Rattle.pulses.specs.Groups.{Passed}
 use Rattle.plan.specs.declared.Plan.{Plan}
 use Rattle.plan.specs.Plan.{Fine, unit, symbolCount, slotBytes}
-use Rattle.answers.specs.declared.Answer.the-variants.{Done}
-use Rattle.capture.specs.Answer.{slotsSay}
 use Rattle.capture.specs.Capture.{symbolIn}
 
 -- slots of the length that the plan implies
@@ -30,9 +28,7 @@ pub record Stretch (p : Plan) (b : List ℕ) (from to : ℕ) : Type 0 where
   pub near : to ≤ from + unit p
   pub passed : (s : ℕ) → from ≤ s → s < to → symbolIn p b s < p .order
 
--- all four questions are answered yes, and there is room for word j
-pub record Taken (p : Plan) (b : List ℕ) (j : ℕ) (word : List ℕ) : Type 0 where
-  pub captured : Captured p b
-  pub good : slotsSay p b ≡ Done
-  pub one : j < p .words
-  pub room : length word ≡ wordBytes
+-- room for the words, and a byte behind them, all 0
+pub record Cleared (p : Plan) (words : List ℕ) : Type 0 where
+  pub room : p .words * wordBytes < length words
+  pub empty : (k : ℕ) → getD words k 0 ≡ 0

@@ -4,3 +4,4 @@ pub mod Markers
 pub mod Symbols
 pub mod Return
 pub mod Needs
+pub mod Putting

@@ -5,14 +5,13 @@ use mathlib.Core.List.{List}
 use mathlib.Core.Logic.{⊎-elim}
 use Prim.Native.Nat.{ℕ, _+_, _-_, _*_, _/_, _%_, _≤_, _<_}
 use native.Mathlib.Omega.{arith}
-use native.Mathlib.Nat.{le-refl, mul-le-mul, mod-lt, div-add-mod', div-lt-iff-lt-mul, le-div-iff-mul-le}
+use native.Mathlib.Nat.{le-refl, mul-le-mul, mod-lt, div-add-mod', div-lt-iff-lt-mul}
 use lib.Arith.{digits-lt, digits-div, digits-mod}
 use lib.Dec.{ltb, eqb}
 use lib.ListN.{getD}
 use borrow.Author.Tests.{lt-ltb, le-ltb}
 use Rattle.bits.specs.Choice.{pick, lt-or-le}
 use Rattle.channel.specs.Channel.{hitBy, placeAt, symbolOf, marked, markRight, restZero}
-use Rattle.channel.specs.Places.{delay, hit-middle}
 
 -- ---- places and symbols
 
@@ -52,27 +51,6 @@ module _ (symbols count : ℕ) (least : 1 ≤ symbols) where
   sym-lt lines x h =
       let q : x / symbols < lines = div-lt-iff-lt-mul least .1 h in
       digits-lt q (low x)
-
-  -- n places further on, in the same line or in the next
-  pub on-same : (x n : ℕ) → x % symbols + n < symbols → ((x + n) % symbols ≡ x % symbols + n) × (symbolOf symbols count (x + n) ≡ symbolOf symbols count x + n)
-  unfolding symbolOf
-  on-same x n h =
-      let d = div-add-mod' x symbols in
-      let e : x + n ≡ x / symbols * symbols + (x % symbols + n) = omega arith in
-      let q : (x + n) / symbols ≡ x / symbols = ap (λ (y : ℕ). y / symbols) e ∙ digits-div (x / symbols) h in
-      let r : (x + n) % symbols ≡ x % symbols + n = ap (λ (y : ℕ). y % symbols) e ∙ digits-mod (x / symbols) h in
-      (r, ap₂ (λ (a b : ℕ). a * (symbols + count) + (count + b)) q r ∙ omega arith)
-
-  pub on-next : (x n : ℕ) → symbols ≤ x % symbols + n → n ≤ symbols → ((x + n) % symbols ≡ x % symbols + n - symbols) × (symbolOf symbols count (x + n) ≡ symbolOf symbols count x + (n + count))
-  unfolding symbolOf
-  on-next x n h l =
-      let m : x % symbols < symbols = mod-lt x least in
-      let d = div-add-mod' x symbols in
-      let small : x % symbols + n - symbols < symbols = omega arith in
-      let e : x + n ≡ (x / symbols + 1) * symbols + (x % symbols + n - symbols) = omega arith in
-      let q : (x + n) / symbols ≡ x / symbols + 1 = ap (λ (y : ℕ). y / symbols) e ∙ digits-div (x / symbols + 1) small in
-      let r : (x + n) % symbols ≡ x % symbols + n - symbols = ap (λ (y : ℕ). y % symbols) e ∙ digits-mod (x / symbols + 1) small in
-      (r, ap₂ (λ (a b : ℕ). a * (symbols + count) + (count + b)) q r ∙ omega arith)
 
 -- ---- what stands there
 
@@ -127,8 +105,8 @@ line-in size lines line l = let k : line + 1 ≤ lines = omega arith in omega (a
 -- ---- questions 11 and 12 by lines
 
 module _ (symbols count line : ℕ) where
-  split : (k : ℕ) → line * (symbols + count) ≤ k → k < line * (symbols + count) + (symbols + count) → k % (symbols + count) ≡ k - line * (symbols + count)
-  split k a l =
+  pub in-line : (k : ℕ) → line * (symbols + count) ≤ k → k < line * (symbols + count) + (symbols + count) → k % (symbols + count) ≡ k - line * (symbols + count)
+  in-line k a l =
       let r : k - line * (symbols + count) < symbols + count = omega arith in
       let e : line * (symbols + count) + (k - line * (symbols + count)) ≡ k = omega arith in
       ap (λ (i : ℕ). i % (symbols + count)) (sym e) ∙ digits-mod line r
@@ -144,7 +122,7 @@ module _ (symbols count line : ℕ) where
     pub mark-else : (k : ℕ) → line * (symbols + count) + count ≤ k → k < line * (symbols + count) + (symbols + count) → markRight symbols count marks read k ≡ true
     unfolding markRight
     mark-else k a l =
-        let e : k % (symbols + count) ≡ k - line * (symbols + count) = split k (omega arith) l in
+        let e : k % (symbols + count) ≡ k - line * (symbols + count) = in-line k (omega arith) l in
         rw (le-ltb (k % (symbols + count)) count (omega arith)) refl
 
   module _ (rows step total : ℕ) (read : ℕ → ℕ) where
@@ -168,28 +146,8 @@ module _ (symbols count line : ℕ) where
     pub rest-else : (k : ℕ) → line * (symbols + count) ≤ k → k < line * (symbols + count) + count → restZero rows step total symbols count read k ≡ true
     unfolding restZero
     rest-else k a l =
-        let e : k % (symbols + count) ≡ k - line * (symbols + count) = split k a (omega arith) in
+        let e : k % (symbols + count) ≡ k - line * (symbols + count) = in-line k a (omega arith) in
         rw (lt-ltb (k % (symbols + count)) count (omega arith)) refl
-
--- where all places of two lines are hit, their symbols are right
-pub rest-middle : (rows step total symbols count line : ℕ) (read : ℕ → ℕ) → 1 ≤ rows → 1 ≤ symbols → delay rows step (rows - 1) ≤ line * symbols → line * symbols + 2 * symbols ≤ total
-    → (s : ℕ) → line * (symbols + count) ≤ s → s < line * (symbols + count) + 2 * (symbols + count) → restZero rows step total symbols count read s ≡ true
-unfolding restZero placeAt
-rest-middle rows step total symbols count line read least some from to s a l =
-    let u : ℕ = symbols + count in
-    let pos : 0 < u = omega arith in
-    let m : s % u < u = mod-lt s pos in
-    let low : line ≤ s / u = le-div-iff-mul-le pos .1 a in
-    let high : s / u < line + 2 = div-lt-iff-lt-mul pos .1 (omega arith) in
-    let lowest : line * symbols ≤ s / u * symbols = mul-le-mul low (le-refl symbols) in
-    let up : s / u ≤ line + 1 = omega arith in
-    let highest : s / u * symbols ≤ (line + 1) * symbols = mul-le-mul up (le-refl symbols) in
-    ⊎-elim
-    (λ (h : s % u < count). rw (lt-ltb (s % u) count h) refl)
-    (λ (h : count ≤ s % u).
-    let hit : hitBy rows step total (s / u * symbols + (s % u - count)) < total = hit-middle rows step total least (s / u * symbols + (s % u - count)) (omega arith) (omega arith) in
-    rw (le-ltb (s % u) count h, lt-ltb (hitBy rows step total (s / u * symbols + (s % u - count))) total hit) refl)
-    (lt-or-le (s % u) count)
 
 -- a symbol that is 0 is right wherever it stands
 pub rest-zero : (rows step total symbols count : ℕ) (read : ℕ → ℕ) (s : ℕ) → read s ≡ 0 → restZero rows step total symbols count read s ≡ true

@@ -4,7 +4,7 @@ use mathlib.Core.Bool.{not}
 use mathlib.Core.Logic.{⊎-elim}
 use Prim.Native.Nat.{ℕ, _+_, _-_, _*_, _/_, _%_, _≤_, _<_}
 use native.Mathlib.Omega.{arith}
-use native.Mathlib.Nat.{le-refl, mul-le-mul, mul-assoc, mod-lt, add-mul-mod-self-right, mod-add-mod, one-mul, div-add-mod'}
+use native.Mathlib.Nat.{le-refl, mul-le-mul, mul-assoc, mod-lt, add-mul-mod-self-right, mod-add-mod, div-add-mod'}
 use lib.Dec.{ltb, eqb}
 use borrow.Author.Tests.{lt-ltb, le-ltb, ne-eqb, eqb-true, eqb-false, not-true, not-false}
 use Rattle.bits.specs.Choice.{pick, lt-or-le}
@@ -44,18 +44,6 @@ place-one rows step t u e =
     let b : place rows step u ≡ u + delay rows step (place rows step u % rows) = place-on rows step u in
     let d : delay rows step (place rows step t % rows) ≡ delay rows step (place rows step u % rows) = ap (λ (y : ℕ). delay rows step (y % rows)) e in
     omega arith
-
--- N further on the remainder is the same
-pub rows-mod : (rows t : ℕ) → (t + rows) % rows ≡ t % rows
-rows-mod rows t = ap (λ (d : ℕ). (t + d) % rows) (sym (one-mul rows)) ∙ add-mul-mod-self-right t 1 rows
-
--- and so is the delay
-pub place-rows : (rows step t : ℕ) → place rows step (t + rows) ≡ place rows step t + rows
-unfolding place
-place-rows rows step t =
-    ap (λ (r : ℕ). t + rows + delay rows step r) (rows-mod rows t) ∙ omega arith
-
--- ---- what goes to a place
 
 pub hit-le : (rows step total : ℕ) (x : ℕ) → hitBy rows step total x ≤ total
 unfolding hitBy
@@ -109,15 +97,6 @@ place-lt rows step total least t l =
     let m : t % rows < rows = mod-lt t least in
     let b : t % rows ≤ rows - 1 = omega arith in
     omega (arith, mul-le-mul b (le-refl (step * rows)))
-
--- between the last delay and the last symbol every place is hit
-pub hit-middle : (rows step total : ℕ) → 1 ≤ rows → (x : ℕ) → delay rows step (rows - 1) ≤ x → x < total → hitBy rows step total x < total
-unfolding source
-hit-middle rows step total least x from to =
-    let m : x % rows < rows = mod-lt x least in
-    let b : x % rows ≤ rows - 1 = omega arith in
-    let d : delay rows step (x % rows) ≤ delay rows step (rows - 1) = mul-le-mul b (le-refl (step * rows)) in
-    rw (hit-is rows step total x, le-ltb x (delay rows step (x % rows)) (omega arith), lt-ltb (x - delay rows step (x % rows)) total (omega arith)) (omega arith)
 
 -- ---- what stands there
 

@@ -1,8 +1,10 @@
-// Step 9, the channel interleaver: which symbol goes to a place, and ways through the places that need no division.
+// Step 9, the channel interleaver: which symbol goes to a place, and ways through the places that
+// need no division. Step 8 undone: symbols laid into words.
 ghost use mathlib.Core.Path.{_≡_};
 ghost use Prim.Native.Nat.{ℕ, _+_, _^_, _%_, _≤_, _<_};
-ghost use Rattle.channel.specs.Channel.{hitBy, symbolOf};
+ghost use Rattle.channel.specs.Channel.{hitBy};
 ghost use Rattle.channel.specs.Needs.{Placing};
+ghost use Rattle.channel.specs.Putting.{Puts, Put};
 
 // The symbol, of `total`, that goes to place x, which is r modulo N; `total` where none does.
 pub fn hit_by(rows: usize, step: usize, total: usize, x: usize, r: usize) -> usize
@@ -17,6 +19,19 @@ pub fn hit_by(rows: usize, step: usize, total: usize, x: usize, r: usize) -> usi
         return x - delay;
     }
     total
+}
+
+// Step 8 undone: symbol t, of m bits, laid into packed words in which its bits are 0. They lie in
+// two bytes.
+pub fn put_symbol(words: &mut [u8], t: usize, m: usize, q: usize)
+    requires { ⌜ Puts t m q (now words) ⌝ }
+    ensures { λ _. ⌜ Put t m q (now (words .entry)) (now (words .exit)) ⌝ }
+{
+    let y = m * t;
+    let i = y / 8;
+    let v = q << (16 - m - y % 8);
+    words[i] = words[i] ^ ((v >> 8) as u8);
+    words[i + 1] = words[i + 1] ^ ((v & 255) as u8);
 }
 
 // The remainder modulo N one place further on.
@@ -40,25 +55,4 @@ pub fn first_place(start: usize, c: usize, r: usize, n: usize) -> usize
         return start + (r + n - c);
     }
     start + (r - c)
-}
-
-// Place i of a line, n places further on: in its line, or in the next.
-pub fn place_on(i: usize, n: usize, symbols: usize) -> usize
-    requires { ⌜ (i < symbols) × (n ≤ symbols) × (symbols < 2 ^ 32) ⌝ }
-    ensures { λ r. ⌜ ((x : ℕ) → i ≡ x % symbols → r ≡ (x + n) % symbols) ⌝ }
-{
-    if i + n < symbols {
-        i + n
-    } else {
-        i + n - symbols
-    }
-}
-
-// How many symbols further on that is, with the markers of the next line.
-pub fn symbols_on(i: usize, n: usize, symbols: usize, count: usize) -> usize
-    requires { ⌜ (i < symbols) × (n ≤ symbols) × (symbols < 2 ^ 32) × (count < 2 ^ 32) ⌝ }
-    ensures { λ r. ⌜ r ≤ n + count ⌝ }
-    ensures { λ r. ⌜ ((x : ℕ) → i ≡ x % symbols → symbolOf symbols count (x + n) ≡ symbolOf symbols count x + r) ⌝ }
-{
-    if i + n < symbols { n } else { n + count }
 }

@@ -21,6 +21,12 @@ pub record Slots (order group n : ℕ) (b : List ℕ) : Type 0 where
   pub room : n * group ≤ 8 * length b
   pub bound : n * group < 2 ^ 31
 
+-- of the n forties of bytes in b, those from the c-th on, beside forty bytes given
+pub record Forties (b given : List ℕ) (c n : ℕ) : Type 0 where
+  pub order : c ≤ n
+  pub room : 40 * n ≤ length b
+  pub long : length given ≡ 40
+
 -- ---- the sizes that follow
 
 pub record Sizes (order group : ℕ) : Type 0 where

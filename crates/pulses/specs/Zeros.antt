@@ -94,13 +94,6 @@ whole-groups order group o =
 pub some-groups : (order group : ℕ) → Order order group → 1 ≤ 320 / group
 some-groups order group o = let k = sizes order group o in le-div-iff-mul-le (let g : 0 < group = omega arith in g) .1 (omega arith)
 
--- of n groups, those in the c-th forty bytes
-pub forty-room : (n count c : ℕ) → 1 ≤ count → c < n / count → c * count + count ≤ n
-forty-room n count c some h =
-    let z : 0 < count = some in
-    let l : (c + 1) * count ≤ n = le-div-iff-mul-le z .0 (let q : c + 1 ≤ n / count = omega arith in q) in
-    omega arith
-
 module _ (order group : ℕ) (o : Order order group) (c : ℕ) where
   -- where they begin
   pub forty-at : (j : ℕ) → (c * (320 / group) + j) * group ≡ 320 * c + j * group
@@ -108,13 +101,6 @@ module _ (order group : ℕ) (o : Order order group) (c : ℕ) where
       let w : 320 / group * group ≡ 320 = whole-groups order group o in
       let e : c * (320 / group) * group ≡ c * (320 / group * group) = mul-assoc c (320 / group) group in
       let f : c * (320 / group * group) ≡ c * 320 = ap (λ (v : ℕ). c * v) w in
-      omega arith
-
-  -- they lie within the slots
-  pub forty-in : (b : List ℕ) → (c * (320 / group) + 320 / group) * group ≤ 8 * length b → 40 * c + 40 ≤ length b
-  forty-in b h =
-      let w : 320 / group * group ≡ 320 = whole-groups order group o in
-      let a = forty-at (320 / group) in
       omega arith
 
   -- and all have the symbol 0 where they are zeros' slots

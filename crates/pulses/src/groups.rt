@@ -1,11 +1,11 @@
 // Question 10. Most places of a long run hold 0, and forty bytes hold whole groups at every pulse order: where they show nothing but zeros, nothing has to be asked of those groups.
 ghost use mathlib.Core.Path.{_≡_};
-ghost use Prim.Native.Nat.{ℕ, _+_, _≤_, _<_};
+ghost use Prim.Native.Nat.{ℕ, _+_, _*_, _≤_, _<_};
 ghost use lib.ListN.{length, getD};
 ghost use Rattle.bits.specs.First.{upTo};
-ghost use Rattle.pulses.specs.Needs.{Slots};
+ghost use Rattle.pulses.specs.Needs.{Slots, Forties};
 ghost use Rattle.pulses.specs.Pulses.{grouped};
-ghost use Rattle.pulses.specs.Zeros.{Zeros};
+ghost use Rattle.pulses.specs.Zeros.{Zeros, Same};
 
 // Forty bytes of zeros' slots.
 pub fn zeros(group: usize) -> [u8; 40]
@@ -33,6 +33,36 @@ pub fn difference(b: &[u8], at: usize, given: &[u8]) -> u8
         k += 1;
     }
     d
+}
+
+// The first forty bytes, from the c-th forty on, that are not those given; or the n-th.
+pub fn past_zeros(b: &[u8], given: &[u8], c: usize, n: usize) -> usize
+    requires { ⌜ Forties (now b) (now given) c n ⌝ }
+    ensures { λ r. ⌜ (c ≤ r) × (r ≤ n) × ((k : ℕ) → c ≤ k → k < r → Same (now (b .entry)) (40 * k) (now (given .entry)) 40) ⌝ }
+{
+    let mut k = c;
+    while k < n {
+        if difference(b, 40 * k, given) != 0 {
+            return k;
+        }
+        k += 1;
+    }
+    k
+}
+
+// And the first that may be; or the n-th.
+pub fn past_others(b: &[u8], given: &[u8], c: usize, n: usize) -> usize
+    requires { ⌜ Forties (now b) (now given) c n ⌝ }
+    ensures { λ r. ⌜ (c ≤ r) × (r ≤ n) ⌝ }
+{
+    let mut k = c;
+    while k < n {
+        if difference(b, 40 * k, given) == 0 {
+            return k;
+        }
+        k += 1;
+    }
+    k
 }
 
 // The first bad group of those from `from` on, or `to`.

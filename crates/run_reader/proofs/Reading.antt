@@ -1,22 +1,30 @@
 -- The reader's answers on slots of the right length, case by case, as the code comes to them.
 use mathlib.Core.Path.{_≡_, refl, sym, ap, _∙_}
+use mathlib.Core.Bool.{Bool}
 use mathlib.Core.List.{List}
+use mathlib.Core.Logic.{⊎-elim}
 use Prim.Native.Nat.{ℕ, _-_, _*_, _≤_, _<_}
 use native.Mathlib.Omega.{arith}
-use lib.ListN.{length}
+use lib.Dec.{eqb}
+use lib.ListN.{length, getD, replicate, length-replicate, getD-replicate, List·getD-eq-default}
+use borrow.Author.Tests.{eq-eqb}
+use Rattle.bits.specs.Choice.{lt-or-le}
+use Rattle.bits.specs.First.{upTo, first-same, up-to-le}
 use Rattle.answers.specs.declared.Answer.{Answer}
 use Rattle.answers.specs.declared.Answer.the-variants.{Done}
-use Rattle.answers.specs.Answer.{then}
+use Rattle.answers.specs.Answer.{then, ask, isDone, numberOf}
+use Rattle.answers.specs.InOrder.{inOrder, firstRefused}
 use Rattle.answers.proofs.Refused.{Refusal, stands}
 use Rattle.sizes.specs.Rate.{infoBits, blockBytes, by-rate}
 use Rattle.word.specs.Word.{blockIn}
+use Rattle.word.specs.Word.{readSays as wordReads}
 use Rattle.quantities.specs.Quantities.{blockCount}
 use Rattle.quantities.specs.Bounds.{blocks-most, blocks-needed, marked-most}
 use Rattle.quantities.specs.Valid.{Valid}
 use Rattle.header.specs.declared.Fields.{Fields}
 use Rattle.parameters.specs.declared.Parameters.{Parameters}
 use Rattle.plan.specs.declared.Plan.{Plan}
-use Rattle.plan.specs.Plan.{planOf, Fine, slotBytes}
+use Rattle.plan.specs.Plan.{planOf}
 use Rattle.plan.specs.Accepted.{Entered, plan-words}
 use Rattle.frames.specs.Frames.{joined, framesIn, framesSay}
 use Rattle.frames.specs.Blocks.{joined-same}
@@ -24,27 +32,35 @@ use Rattle.frames.specs.Needs.{Judged}
 use Rattle.frames.specs.Same.{say-same, in-same}
 use Rattle.capture.specs.Capture.{wordOut}
 use Rattle.capture.specs.Answer.{slotsSay}
-use Rattle.capture.specs.Needs.{Captured}
-use Rattle.run.specs.Run.{streamIn, framesOf, wordsSay, streamSays, bufferSays}
+use Rattle.capture.specs.Needs.{Captured, Cleared}
+use Rattle.run.specs.Run.{streamIn, framesOf, wordSays, wordsSay, streamSays, bufferSays}
 use Rattle.run.specs.Return.{fit}
 use Rattle.bits.specs.Pieces.{piece}
-use Rattle.run_reader.specs.Needs.{Sound, blocksRoom}
+use Rattle.sizes.specs.Sizes.{wordBytes}
 
--- the blocks of any run fit their room
-few-blocks : (rate : ℕ) → rate < 3 → (c : ℕ) → (c - 1) * infoBits rate < 1052672 → c * blockBytes rate ≤ blocksRoom
+-- the bytes of as many packed blocks as any rate can have
+few-blocks : (rate : ℕ) → rate < 3 → (c : ℕ) → (c - 1) * infoBits rate < 1052672 → c * blockBytes rate ≤ 132086
 unfolding infoBits blockBytes
-few-blocks = by-rate (λ (r : ℕ). (c : ℕ) → (c - 1) * infoBits r < 1052672 → c * blockBytes r ≤ blocksRoom) (λ c h. omega arith) (λ c h. omega arith) (λ c h. omega arith)
+few-blocks = by-rate (λ (r : ℕ). (c : ℕ) → (c - 1) * infoBits r < 1052672 → c * blockBytes r ≤ 132086) (λ c h. omega arith) (λ c h. omega arith) (λ c h. omega arith)
 
-pub blocks-fit : (f : Fields) → Valid f → blockCount f * blockBytes (f .rate) ≤ blocksRoom
-blocks-fit f v = few-blocks (f .rate) (v .rate) (blockCount f) (omega (arith, blocks-needed f v, marked-most f v))
+pub most-blocks : (f : Fields) → Valid f → blockCount f * blockBytes (f .rate) ≤ 132086
+most-blocks f v = few-blocks (f .rate) (v .rate) (blockCount f) (omega (arith, blocks-needed f v, marked-most f v))
 
--- and are what questions 16 and 18 are put to
-pub frames-judged : (f : Fields) → Valid f → (pieces : ℕ) (blocks : List ℕ) → pieces ≡ blockCount f → length blocks ≡ blocksRoom → Judged (f .rate) pieces (f .size) (f .frames) blocks
+-- a room that holds nothing yet
+pub empty-room : (n k : ℕ) → getD (replicate {A = ℕ} n 0) k 0 ≡ 0
+empty-room n k =
+    ⊎-elim
+    (λ (l : k < n). getD-replicate {A = ℕ} n k 0 0 l)
+    (λ (l : n ≤ k). let e = length-replicate {A = ℕ} n 0 in List·getD-eq-default (replicate {A = ℕ} n 0) 0 (let past : length (replicate {A = ℕ} n 0) ≤ k = omega arith in past))
+    (lt-or-le k n)
+
+-- what questions 16 and 18 are put to
+pub frames-judged : (f : Fields) → Valid f → (pieces : ℕ) (blocks : List ℕ) → pieces ≡ blockCount f → blockCount f * blockBytes (f .rate) ≤ length blocks → Judged (f .rate) pieces (f .size) (f .frames) blocks
 frames-judged f v pieces blocks e l =
     rw e (record {
       rate3 = v .rate;
       pieces2 = blocks-most f v;
-      room = omega (arith, blocks-fit f v);
+      room = l;
       size1 = v .size-least;
       size2 = v .size-most;
       count1 = v .frames-least;
@@ -52,20 +68,41 @@ frames-judged f v pieces blocks e l =
       fit = fit f v;
     })
 
+-- the same words give the same answer
+order-same : (n : ℕ) (say tell : ℕ → Answer) → ((j : ℕ) → j < n → say j ≡ tell j) → inOrder n say ≡ inOrder n tell
+unfolding inOrder firstRefused
+order-same n say tell h =
+    let k : ℕ = upTo (λ j. isDone (say j)) 0 n in
+    let e : k ≡ upTo (λ j. isDone (tell j)) 0 n = first-same (λ j. isDone (say j)) (λ j. isDone (tell j)) n (λ j l. ap isDone (h j l)) in
+    let most = up-to-le (λ j. isDone (say j)) n in
+    ⊎-elim
+    (λ (l : k < n).
+    ap (λ (a : Answer). ask (eqb k n) (numberOf a) k) (h k l) ∙ ap (λ (i : ℕ). ask (eqb i n) (numberOf (tell i)) i) e)
+    (λ (l : n ≤ k).
+    let q : k ≡ n = omega arith in
+    ap (λ (t : Bool). ask t (numberOf (say k)) k) (eq-eqb k n q)
+    ∙ sym (ap (λ (t : Bool). ask t (numberOf (tell (upTo (λ j. isDone (tell j)) 0 n))) (upTo (λ j. isDone (tell j)) 0 n)) (eq-eqb (upTo (λ j. isDone (tell j)) 0 n) n (sym e ∙ q))))
+    (lt-or-le k n)
+
+pub words-same : (f : Fields) (word other : ℕ → List ℕ) → ((j : ℕ) → j < blockCount f → word j ≡ other j) → wordsSay f word ≡ wordsSay f other
+unfolding wordsSay wordSays
+words-same f word other h =
+    order-same (blockCount f) (wordSays f word) (wordSays f other) (λ j l. ap (λ (x : List ℕ). wordReads (f .rate) x (blockBytes (f .rate))) (h j l))
+
 -- a plan that is the header's
 module _ (q : Parameters) (p : Plan) (ep : p ≡ planOf q) (slots : List ℕ) where
   pub plan-captured : {n : ℕ} → Entered q n (length slots) → Captured p slots
   plan-captured r = rw ep (record { fine = r .fine; long = r .slots-are })
 
-  pub plan-sound : {n : ℕ} → Entered q n (length slots) → slotsSay p slots ≡ Done → Sound (q .fields) p slots
-  plan-sound r good =
-      record {
-        valid = r .valid;
-        fine = rw ep (r .fine);
-        words-are = ap (λ (x : Plan). x .words) ep ∙ plan-words q;
-        slots-are = r .slots-are ∙ ap slotBytes (sym ep);
-        good = good;
-      }
+  plan-count : p .words ≡ blockCount (q .fields)
+  plan-count = ap (λ (x : Plan). x .words) ep ∙ plan-words q
+
+  pub plan-cleared : (words : List ℕ) → blockCount (q .fields) * wordBytes < length words → ((k : ℕ) → getD words k 0 ≡ 0) → Cleared p words
+  plan-cleared words fits empty = record { room = let e = plan-count in omega arith; empty = empty }
+
+  -- the words that were taken out
+  pub plan-taken : (words : List ℕ) → ((j : ℕ) → j < p .words → piece wordBytes words j ≡ wordOut p slots j) → (j : ℕ) → j < blockCount (q .fields) → piece wordBytes words j ≡ wordOut p slots j
+  plan-taken words h j l = h j (let e = plan-count in omega arith)
 
   -- a refusal by questions 9 to 12
   pub buffer-slots : (a : Answer) → a ≡ slotsSay p slots → Refusal a → a ≡ bufferSays (q .fields) (planOf q) slots

@@ -1,53 +1,37 @@
 -- What the functions inside the reader ask of what they are handed.
 use mathlib.Core.Path.{_≡_}
 use mathlib.Core.List.{List}
-use Prim.Native.Nat.{ℕ, _<_}
-use lib.ListN.{length}
-use Rattle.answers.specs.declared.Answer.the-variants.{Done}
+use Prim.Native.Nat.{ℕ, _+_, _*_, _≤_, _<_}
+use lib.ListN.{length, getD}
 use Rattle.sizes.specs.Rate.{blockBytes}
 use Rattle.sizes.specs.Sizes.{wordBytes}
 use Rattle.quantities.specs.Quantities.{blockCount, frameBytes}
 use Rattle.quantities.specs.Valid.{Valid}
 use Rattle.header.specs.declared.Fields.{Fields}
 use Rattle.parameters.specs.declared.Parameters.{Parameters}
-use Rattle.plan.specs.declared.Plan.{Plan}
-use Rattle.plan.specs.Plan.{Fine, slotBytes}
 use Rattle.plan.specs.Accepted.{Entered}
-use Rattle.capture.specs.Answer.{slotsSay}
 
--- the bytes of as many packed blocks as any rate can have
-abbrev pub blocksRoom : ℕ
-blocksRoom = 132086
-
--- captured slots in which nothing is wrong, under a header's plan
-pub record Sound (f : Fields) (p : Plan) (slots : List ℕ) : Type 0 where
+-- reading word j of words that lie back to back
+pub record ReadsWord (f : Fields) (words : List ℕ) (j : ℕ) (block : List ℕ) : Type 0 where
   pub valid : Valid f
-  pub fine : Fine p
-  pub words-are : p .words ≡ blockCount f
-  pub slots-are : length slots ≡ slotBytes p
-  pub good : slotsSay p slots ≡ Done
-
--- reading word j of them
-pub record ReadsWord (f : Fields) (p : Plan) (slots : List ℕ) (j : ℕ) (word block : List ℕ) : Type 0 where
-  pub sound : Sound f p slots
-  pub below : j < blockCount f
-  pub word-is : length word ≡ wordBytes
+  pub inside : j * wordBytes + wordBytes ≤ length words
   pub block-is : length block ≡ blockBytes (f .rate)
 
 -- and all of them
-pub record ReadsWords (f : Fields) (p : Plan) (slots word blocks : List ℕ) : Type 0 where
-  pub sound : Sound f p slots
-  pub word-is : length word ≡ wordBytes
-  pub blocks-are : length blocks ≡ blocksRoom
+pub record ReadsWords (f : Fields) (words blocks : List ℕ) : Type 0 where
+  pub valid : Valid f
+  pub words-fit : blockCount f * wordBytes ≤ length words
+  pub blocks-fit : blockCount f * blockBytes (f .rate) ≤ length blocks
 
--- reading the frames of a call that passed questions 1 to 8
-pub record Reads (q : Parameters) (slots word blocks frames : List ℕ) : Type 0 where
+-- reading the frames of a call that passed questions 1 to 8, with room for the words that holds nothing yet
+pub record Reads (q : Parameters) (slots words blocks frames : List ℕ) : Type 0 where
   pub entered : Entered q (length frames) (length slots)
-  pub word-is : length word ≡ wordBytes
-  pub blocks-are : length blocks ≡ blocksRoom
+  pub words-fit : blockCount (q .fields) * wordBytes < length words
+  pub empty : (k : ℕ) → getD words k 0 ≡ 0
+  pub blocks-fit : blockCount (q .fields) * blockBytes (q .fields .rate) ≤ length blocks
 
 -- the blocks that were read, and the frames
 pub record Finishes (f : Fields) (blocks frames : List ℕ) : Type 0 where
   pub valid : Valid f
-  pub blocks-are : length blocks ≡ blocksRoom
+  pub blocks-fit : blockCount f * blockBytes (f .rate) ≤ length blocks
   pub frames-are : length frames ≡ frameBytes f

@@ -1,10 +1,10 @@
-// The run reader: slots to frames. Questions 1 to 8, then 9 to 18, and the frames once all are answered yes.
+// The run reader: slots to frames. Questions 1 to 8, then 9 to 18, and the frames once all are
+// answered yes.
 use answers::Answer;
 use header::Fields;
 use parameters::Parameters;
-use plan::Plan;
 ghost use mathlib.Core.Path.{_≡_};
-ghost use Prim.Native.Nat.{ℕ, _*_, _<_};
+ghost use Prim.Native.Nat.{ℕ, _*_, _≤_, _<_};
 ghost use lib.ListN.{length};
 ghost use Rattle.answers.specs.declared.Answer.the-variants.{Done};
 ghost use Rattle.answers.specs.Answer.{after};
@@ -16,32 +16,27 @@ ghost use Rattle.plan.specs.Plan.{planOf};
 ghost use Rattle.frames.specs.Frames.{joined, framesIn, framesSay};
 ghost use Rattle.capture.specs.Capture.{wordOut};
 ghost use Rattle.bits.specs.Pieces.{piece};
+ghost use Rattle.sizes.specs.Sizes.{wordBytes};
 ghost use Rattle.run.specs.Run.{wordSays, wordsSay, framesOf, framesRead, bufferSays, readSays};
 ghost use Rattle.run_reader.specs.Needs.{ReadsWord, ReadsWords, Reads, Finishes};
 
-// Questions 13 to 15 of word j, and its block.
-fn read_word(
-    f: Fields,
-    p: Plan,
-    slots: &[u8],
-    j: usize,
-    word: &mut [u8],
-    block: &mut [u8],
-) -> Answer
-    requires { ⌜ ReadsWord f p (now slots) j (now word) (now block) ⌝ }
-    ensures { λ r. ⌜ r ≡ wordSays f (wordOut p (now (slots .entry))) j ⌝ }
-    ensures { λ r. ⌜ now (block .exit) ≡ after r (blockIn (f .rate) (wordOut p (now (slots .entry)) j)) (now (block .entry)) ⌝ }
+// Questions 13 to 15 of word j of those that lie back to back, and its block.
+fn read_word(f: Fields, words: &[u8], j: usize, block: &mut [u8]) -> Answer
+    requires { ⌜ ReadsWord f (now words) j (now block) ⌝ }
+    ensures { λ r. ⌜ r ≡ wordSays f (piece wordBytes (now (words .entry))) j ⌝ }
+    ensures { λ r. ⌜ now (block .exit) ≡ after r (blockIn (f .rate) (piece wordBytes (now (words .entry)) j)) (now (block .entry)) ⌝ }
 {
-    capture::word_out(p, slots, j, word);
     let rate = f.rate;
-    word::read(rate, word, block)
+    let at = j * sizes::WORD_BYTES;
+    let end = at + sizes::WORD_BYTES;
+    word::read(rate, &words[at..end], block)
 }
 
 // Questions 13 to 15 of one word after another, and the blocks.
-fn read_words(f: Fields, p: Plan, slots: &[u8], word: &mut [u8], blocks: &mut [u8]) -> Answer
-    requires { ⌜ ReadsWords f p (now slots) (now word) (now blocks) ⌝ }
-    ensures { λ r. ⌜ r ≡ wordsSay f (wordOut p (now (slots .entry))) ⌝ }
-    ensures { λ r. ⌜ (r ≡ Done → (j : ℕ) → j < blockCount f → piece (blockBytes (f .rate)) (now (blocks .exit)) j ≡ blockIn (f .rate) (wordOut p (now (slots .entry)) j)) ⌝ }
+fn read_words(f: Fields, words: &[u8], blocks: &mut [u8]) -> Answer
+    requires { ⌜ ReadsWords f (now words) (now blocks) ⌝ }
+    ensures { λ r. ⌜ r ≡ wordsSay f (piece wordBytes (now (words .entry))) ⌝ }
+    ensures { λ r. ⌜ (r ≡ Done → (j : ℕ) → j < blockCount f → piece (blockBytes (f .rate)) (now (blocks .exit)) j ≡ blockIn (f .rate) (piece wordBytes (now (words .entry)) j)) ⌝ }
 {
     let n = quantities::block_count(f);
     let h = sizes::block_bytes(f.rate);
@@ -49,7 +44,7 @@ fn read_words(f: Fields, p: Plan, slots: &[u8], word: &mut [u8], blocks: &mut [u
     while j < n {
         let at = j * h;
         let end = at + h;
-        let answer = read_word(f, p, slots, j, word, &mut blocks[at..end]);
+        let answer = read_word(f, words, j, &mut blocks[at..end]);
         let Answer::Done = answer else {
             return answers::moved_to(answer, j);
         };
@@ -76,40 +71,64 @@ fn finish(f: Fields, blocks: &[u8], frames: &mut [u8]) -> Answer
     answer
 }
 
-// The questions put to slots of the right length, and the frames. `word` and `blocks` are room for one word and for all blocks.
+// The questions put to slots of the right length, and the frames. `words` and `blocks` are room for
+// all words and for all blocks.
 fn read_in(
     q: Parameters,
     slots: &[u8],
-    word: &mut [u8],
+    words: &mut [u8],
     blocks: &mut [u8],
     frames: &mut [u8],
 ) -> Answer
-    requires { ⌜ Reads q (now slots) (now word) (now blocks) (now frames) ⌝ }
+    requires { ⌜ Reads q (now slots) (now words) (now blocks) (now frames) ⌝ }
     ensures { λ r. ⌜ r ≡ bufferSays (q .fields) (planOf q) (now (slots .entry)) ⌝ }
     ensures { λ r. ⌜ now (frames .exit) ≡ after r (framesOf (q .fields) (wordOut (planOf q) (now (slots .entry)))) (now (frames .entry)) ⌝ }
 {
     let f = q.fields;
-    let p = plan::plan_of(q);
-    let found = capture::judge(p, slots);
+    let found = capture::judge(plan::plan_of(q), slots, words);
     let Answer::Done = found else {
         return found;
     };
-    let heard = read_words(f, p, slots, word, blocks);
+    let heard = read_words(f, words, blocks);
     let Answer::Done = heard else {
         return heard;
     };
     finish(f, blocks, frames)
 }
 
-// With room for one word and for all blocks.
+// With room for as many words and blocks as a run can have.
+fn read_many(q: Parameters, slots: &[u8], frames: &mut [u8]) -> Answer
+    requires { ⌜ Entered q (length (now frames)) (length (now slots)) ⌝ }
+    ensures { λ r. ⌜ r ≡ bufferSays (q .fields) (planOf q) (now (slots .entry)) ⌝ }
+    ensures { λ r. ⌜ now (frames .exit) ≡ after r (framesOf (q .fields) (wordOut (planOf q) (now (slots .entry)))) (now (frames .entry)) ⌝ }
+{
+    let mut words = [0u8; 398791];
+    let mut blocks = [0u8; 132086];
+    read_in(q, slots, &mut words, &mut blocks, frames)
+}
+
+// With room for sixteen, of which little has to be cleared.
+fn read_few(q: Parameters, slots: &[u8], frames: &mut [u8]) -> Answer
+    requires { ⌜ Entered q (length (now frames)) (length (now slots)) × (blockCount (q .fields) ≤ 16) ⌝ }
+    ensures { λ r. ⌜ r ≡ bufferSays (q .fields) (planOf q) (now (slots .entry)) ⌝ }
+    ensures { λ r. ⌜ now (frames .exit) ≡ after r (framesOf (q .fields) (wordOut (planOf q) (now (slots .entry)))) (now (frames .entry)) ⌝ }
+{
+    let mut words = [0u8; 30241];
+    let mut blocks = [0u8; 20096];
+    read_in(q, slots, &mut words, &mut blocks, frames)
+}
+
+// With room for the words and the blocks.
 fn read_with(q: Parameters, slots: &[u8], frames: &mut [u8]) -> Answer
     requires { ⌜ Entered q (length (now frames)) (length (now slots)) ⌝ }
     ensures { λ r. ⌜ r ≡ bufferSays (q .fields) (planOf q) (now (slots .entry)) ⌝ }
     ensures { λ r. ⌜ now (frames .exit) ≡ after r (framesOf (q .fields) (wordOut (planOf q) (now (slots .entry)))) (now (frames .entry)) ⌝ }
 {
-    let mut word = [0u8; 1890];
-    let mut blocks = [0u8; 132086];
-    read_in(q, slots, &mut word, &mut blocks, frames)
+    let f = q.fields;
+    if quantities::block_count(f) <= 16 {
+        return read_few(q, slots, frames);
+    }
+    read_many(q, slots, frames)
 }
 
 // Reads the frames of slots.

@@ -1,18 +1,21 @@
--- Each question is put where those before it are answered yes.
+-- Each question is put where those before it are answered yes; the words are whole once all are.
 use mathlib.Core.Path.{_≡_, sym, _∙_}
 use native.Mathlib.Omega.{arith}
 use borrow.Author.Needs.{needs}
+use Rattle.answers.specs.Answer.{no-done}
 use Rattle.pulses.specs.Groups.{passed}
 use Rattle.slots.specs.Bounds.{bounds}
 use Rattle.plan.specs.Plan.{symbolCount}
 use Rattle.capture.specs.Answer.{say-spare, spare-empty, say-group, say-mark, say-rest}
 use Rattle.capture.specs.Capture.{firstBadGroup, firstBadMark, firstBadRest}
 use Rattle.capture.specs.Return.{clean-good}
+use Rattle.capture.proofs.Passing.{known-end}
+use Rattle.capture.proofs.Taken.{took-start, took-words}
 use Rattle.capture.proofs.judge.Statement.{statement}
 use Rattle.capture.proofs.judge.Tie as tie
 
 add-n : tie.Need-add-n
-add-n c = let k = bounds (c .before .before .args .p) (c .before .before .pre .fine) in omega arith
+add-n c = let k = bounds ((c .before .before .before) .args .p) ((c .before .before .before) .pre .0 .fine) in omega arith
 
 mul-n : tie.Need-mul-n
 mul-n c = search needs
@@ -28,42 +31,71 @@ first-one-requires c κs = search needs
 
 returns : tie.Need-returns
 returns c =
-    let a = c .before .before .before .before .before .before .args in
-    say-spare (a .p) (a .b .now) (c .before .first-one .result) (c .before .first-one .ensures) (c .if1 .taken)
+    let a = (c .before .before .before .before .before .before .before) .args in
+    let o = (c .before) .first-one in
+    (say-spare (a .p) (a .b .now) (o .result) (o .ensures) (c .if1 .taken), λ q. absurd (no-done q))
 
 find-requires : tie.Need-find-requires
-find-requires c κs = search needs
+find-requires c κs =
+    let s = c .before .before .before .before .before .before .before .before in
+    (s .pre .0, took-start (s .args .p) (s .pre .0 .fine) (s .args .b .now) (s .args .words .now) (s .pre .1))
+
+same-length : tie.Need-same-length
+same-length c = search needs
 
 returns-2 : tie.Need-returns-2
 returns-2 c =
-    let a = c .before .before .before .before .before .before .before .before .args in
-    say-group (a .p) (a .b .now) (spare-empty (a .p) (a .b .now) (c .before .before .before .first-one .result) (c .before .before .before .first-one .ensures) (c .before .before .if1 .left)) _ (c .before .find .ensures .0) (c .if2 .taken)
+    let a = (c .before .before .before .before .before .before .before .before .before .before .before .before) .args in
+    let o = (c .before .before .before .before .before .before) .first-one in
+    let spare = spare-empty (a .p) (a .b .now) (o .result) (o .ensures) ((c .before .before .before .before .before) .if1 .left) in
+    (say-group (a .p) (a .b .now) spare _ ((c .before .before .before) .find .ensures .0) (c .if2 .taken), λ q. absurd (no-done q))
 
 first-bad-mark-requires : tie.Need-first-bad-mark-requires
 first-bad-mark-requires c κs =
-    let a = c .before .before .before .before .before .before .before .before .args in
-    let h = c .before .before .before .before .before .before .before .before .pre in
-    record { fine = h .fine; long = h .long; passed = passed (a .p .order) (a .p .group) _ (a .b .now) (sym (c .before .find .ensures .0) ∙ c .if2 .left) }
+    let a = (c .before .before .before .before .before .before .before .before .before .before .before .before) .args in
+    let h = (c .before .before .before .before .before .before .before .before .before .before .before .before) .pre .0 in
+    record { fine = h .fine; long = h .long; passed = passed (a .p .order) (a .p .group) _ (a .b .now) (sym ((c .before .before .before) .find .ensures .0) ∙ c .if2 .left) }
+
+same-length-2 : tie.Need-same-length-2
+same-length-2 c = search needs
 
 returns-3 : tie.Need-returns-3
 returns-3 c =
-    let a = c .before .before .before .before .before .before .before .before .before .before .args in
-    say-mark (a .p) (a .b .now) (spare-empty (a .p) (a .b .now) (c .before .before .before .before .before .first-one .result) (c .before .before .before .before .before .first-one .ensures) (c .before .before .before .before .if1 .left)) (sym (c .before .before .before .find .ensures .0) ∙ c .before .before .if2 .left) _ (c .before .first-bad-mark .ensures) (c .if3 .taken)
+    let a = (c .before .before .before .before .before .before .before .before .before .before .before .before .before .before) .args in
+    let o = (c .before .before .before .before .before .before .before .before) .first-one in
+    let spare = spare-empty (a .p) (a .b .now) (o .result) (o .ensures) ((c .before .before .before .before .before .before .before) .if1 .left) in
+    let groups : firstBadGroup (a .p) (a .b .now) ≡ symbolCount (a .p) = sym ((c .before .before .before .before .before) .find .ensures .0) ∙ (c .before .before) .if2 .left in
+    (say-mark (a .p) (a .b .now) spare groups _ ((c .before) .first-bad-mark .ensures) (c .if3 .taken), λ q. absurd (no-done q))
+
+same-length-3 : tie.Need-same-length-3
+same-length-3 c = search needs
 
 returns-4 : tie.Need-returns-4
 returns-4 c =
-    let a = c .before .before .before .before .before .before .before .before .before .before .before .args in
-    let groups : firstBadGroup (a .p) (a .b .now) ≡ symbolCount (a .p) = sym (c .before .before .before .before .find .ensures .0) ∙ c .before .before .before .if2 .left in
-    let marks : firstBadMark (a .p) (a .b .now) ≡ symbolCount (a .p) = sym (c .before .before .first-bad-mark .ensures) ∙ c .before .if3 .left in
-    say-rest (a .p) (a .b .now) (spare-empty (a .p) (a .b .now) (c .before .before .before .before .before .before .first-one .result) (c .before .before .before .before .before .before .first-one .ensures) (c .before .before .before .before .before .if1 .left)) groups marks _ (c .before .before .before .before .find .ensures .1 (c .before .before .before .if2 .left)) (c .if4 .taken)
+    let a = (c .before .before .before .before .before .before .before .before .before .before .before .before .before .before .before) .args in
+    let fine = (c .before .before .before .before .before .before .before .before .before .before .before .before .before .before .before) .pre .0 .fine in
+    let o = (c .before .before .before .before .before .before .before .before .before) .first-one in
+    let f = (c .before .before .before .before .before .before) .find in
+    let spare = spare-empty (a .p) (a .b .now) (o .result) (o .ensures) ((c .before .before .before .before .before .before .before .before) .if1 .left) in
+    let groups : firstBadGroup (a .p) (a .b .now) ≡ symbolCount (a .p) = sym (f .ensures .0) ∙ (c .before .before .before) .if2 .left in
+    let marks : firstBadMark (a .p) (a .b .now) ≡ symbolCount (a .p) = sym ((c .before .before) .first-bad-mark .ensures) ∙ (c .before) .if3 .left in
+    (say-rest (a .p) (a .b .now) spare groups marks _ (known-end (a .p) fine (a .b .now) _ _ (f .ensures .1 ((c .before .before .before) .if2 .left))) (c .if4 .taken), λ q. absurd (no-done q))
+
+same-length-4 : tie.Need-same-length-4
+same-length-4 c = search needs
 
 returns-5 : tie.Need-returns-5
 returns-5 c =
-    let a = c .before .before .before .before .before .before .before .before .before .before .before .args in
-    let groups : firstBadGroup (a .p) (a .b .now) ≡ symbolCount (a .p) = sym (c .before .before .before .before .find .ensures .0) ∙ c .before .before .before .if2 .left in
-    let marks : firstBadMark (a .p) (a .b .now) ≡ symbolCount (a .p) = sym (c .before .before .first-bad-mark .ensures) ∙ c .before .if3 .left in
-    let rest : firstBadRest (a .p) (a .b .now) ≡ symbolCount (a .p) = sym (c .before .before .before .before .find .ensures .1 (c .before .before .before .if2 .left)) ∙ c .if4 .left in
-    sym (clean-good (a .p) (a .b .now) record { spare = spare-empty (a .p) (a .b .now) (c .before .before .before .before .before .before .first-one .result) (c .before .before .before .before .before .before .first-one .ensures) (c .before .before .before .before .before .if1 .left); groups = groups; marks = marks; rest = rest })
+    let a = (c .before .before .before .before .before .before .before .before .before .before .before .before .before .before .before) .args in
+    let fine = (c .before .before .before .before .before .before .before .before .before .before .before .before .before .before .before) .pre .0 .fine in
+    let o = (c .before .before .before .before .before .before .before .before .before) .first-one in
+    let f = (c .before .before .before .before .before .before) .find in
+    let known = f .ensures .1 ((c .before .before .before) .if2 .left) in
+    let spare = spare-empty (a .p) (a .b .now) (o .result) (o .ensures) ((c .before .before .before .before .before .before .before .before) .if1 .left) in
+    let groups : firstBadGroup (a .p) (a .b .now) ≡ symbolCount (a .p) = sym (f .ensures .0) ∙ (c .before .before .before) .if2 .left in
+    let marks : firstBadMark (a .p) (a .b .now) ≡ symbolCount (a .p) = sym ((c .before .before) .first-bad-mark .ensures) ∙ (c .before) .if3 .left in
+    let rest : firstBadRest (a .p) (a .b .now) ≡ symbolCount (a .p) = sym (known-end (a .p) fine (a .b .now) _ _ known) ∙ c .if4 .left in
+    (sym (clean-good (a .p) (a .b .now) record { spare = spare; groups = groups; marks = marks; rest = rest }), λ q. took-words (a .p) fine (a .b .now) (f .last .1 .1 .0) (λ k. omega (arith, (c .before .before .before .before) .slice-known2 .given k)) (known .took (c .if4 .left)))
 
 pub judge-spec : {M : Type 1} → statement M
 judge-spec =
@@ -76,8 +108,12 @@ judge-spec =
     first-one-requires
     returns
     find-requires
+    same-length
     returns-2
     first-bad-mark-requires
+    same-length-2
     returns-3
+    same-length-3
     returns-4
+    same-length-4
     returns-5)

@@ -19,7 +19,7 @@ block-count-requires c κs = search needs
 judge-requires : tie.Need-judge-requires
 judge-requires c κs =
     let s = c .before .before .before in
-    frames-judged (s .args .f) (s .pre .valid) _ _ (c .block-count .ensures) (s .pre .blocks-are)
+    frames-judged (s .args .f) (s .pre .valid) _ _ (c .block-count .ensures) (s .pre .blocks-fit)
 
 enum-told : tie.Need-enum-told
 enum-told c = search needs
@@ -42,7 +42,7 @@ frames-out-requires : tie.Need-frames-out-requires
 unfolding frameBytes
 frames-out-requires c κs =
     let s = c .before .before .before .before .before .before .before in
-    (frames-judged (s .args .f) (s .pre .valid) _ _ (c .before .before .before .before .block-count .ensures) (s .pre .blocks-are), s .pre .frames-are)
+    (frames-judged (s .args .f) (s .pre .valid) _ _ (c .before .before .before .before .block-count .ensures) (s .pre .blocks-fit), s .pre .frames-are)
 
 same-length : tie.Need-same-length
 same-length c = search needs

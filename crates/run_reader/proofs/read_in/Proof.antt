@@ -1,11 +1,16 @@
 -- Questions 9 to 12 of the whole buffer, then 13 to 15 word by word, then 16 to 18; the frames are written last.
-use mathlib.Core.Path.{sym, ap, _∙_}
+use mathlib.Core.Path.{_≡_, sym, ap, _∙_}
 use mathlib.Core.List.{List}
-use Prim.Native.Nat.{ℕ}
+use Prim.Native.Nat.{ℕ, _<_}
+use native.Mathlib.Omega.{arith}
+use Rattle.bits.specs.Pieces.{piece}
 use Rattle.capture.specs.Capture.{wordOut}
-use Rattle.answers.specs.declared.Answer.{Answer}
 use Rattle.answers.specs.Answer.{after}
+use Rattle.quantities.specs.Quantities.{blockCount}
 use Rattle.plan.specs.Plan.{planOf}
+use Rattle.sizes.specs.Rate.{blockBytes}
+use Rattle.sizes.specs.Sizes.{wordBytes}
+use Rattle.word.specs.Word.{blockIn}
 use Rattle.run.specs.Run.{framesOf}
 use Rattle.run_reader.proofs.Reading as reading
 use Rattle.answers.proofs.Refused.{kept}
@@ -18,8 +23,9 @@ plan-of-requires c κs = search needs
 
 judge-requires : tie.Need-judge-requires
 judge-requires c κs =
-    let s = c .before .before .before .before .before .before in
-    reading.plan-captured (s .args .q) _ (c .plan-of .ensures) _ (s .pre .entered)
+    let s = c .before .before .before .before .before .before .before in
+    let p = (c .before) .plan-of in
+    (reading.plan-captured (s .args .q) _ (p .ensures) _ (s .pre .entered), reading.plan-cleared (s .args .q) _ (p .ensures) (s .args .slots .now) _ (s .pre .words-fit) (s .pre .empty))
 
 enum-told : tie.Need-enum-told
 enum-told c = search needs
@@ -27,26 +33,28 @@ enum-told c = search needs
 enum-told-2 : tie.Need-enum-told-2
 enum-told-2 c = search needs
 
+same-length : tie.Need-same-length
+same-length c = search needs
+
 returns : tie.Need-returns
 returns c =
-    let s = c .before .before .before .before .before .before .before .before .before in
+    let s = c .before .before .before .before .before .before .before .before .before .before .before .before in
     let q = s .args .q in
-    let p = c .before .before .before .plan-of in
-    let j = c .before .before .judge in
-    let keys = c .before .match .keys2 in (
-      reading.buffer-slots q _ (p .ensures) (s .args .slots .now) (j .result) (j .ensures) keys,
+    let p = (c .before .before .before .before .before .before) .plan-of in
+    let j = (c .before .before .before .before) .judge in
+    let keys = (c .before) .match .keys2 in (
+      reading.buffer-slots q _ (p .ensures) (s .args .slots .now) (j .result) (j .ensures .0) keys,
       kept (j .result) (framesOf (q .fields) (wordOut (planOf q) (s .args .slots .now))) (s .args .frames .now) keys,
     )
 
 read-words-requires : tie.Need-read-words-requires
 read-words-requires c κs =
-    let s = c .before .before .before .before .before .before .before .before .before .before .before in
-    let p = c .before .before .before .before .before .plan-of in
-    let j = c .before .before .before .before .judge in
+    let s = c .before .before .before .before .before .before .before .before .before .before .before .before .before .before in
+    let j = (c .before .before .before .before .before .before) .judge in
     record {
-      sound = reading.plan-sound (s .args .q) _ (p .ensures) _ (s .pre .entered) (sym (j .ensures) ∙ c .before .before .enum-told .given .1);
-      word-is = s .pre .word-is;
-      blocks-are = s .pre .blocks-are;
+      valid = s .pre .entered .valid;
+      words-fit = let k = j .kept .1 .1 .0 in let h = s .pre .words-fit in omega arith;
+      blocks-fit = s .pre .blocks-fit;
     }
 
 enum-told-3 : tie.Need-enum-told-3
@@ -55,30 +63,37 @@ enum-told-3 c = search needs
 enum-told-4 : tie.Need-enum-told-4
 enum-told-4 c = search needs
 
-same-length : tie.Need-same-length
-same-length c = search needs
-
 same-length-2 : tie.Need-same-length-2
 same-length-2 c = search needs
 
+same-length-3 : tie.Need-same-length-3
+same-length-3 c = search needs
+
 returns-2 : tie.Need-returns-2
 returns-2 c =
-    let s = c .before .before .before .before .before .before .before .before .before .before .before .before .before .before .before .before .before .before in
+    let s = c .before .before .before .before .before .before .before .before .before .before .before .before .before .before .before .before .before .before .before in
     let q = s .args .q in
-    let p = c .before .before .before .before .before .before .before .before .before .before .before .before .plan-of in
-    let j = c .before .before .before .before .before .before .before .before .before .before .before .judge in
-    let w = c .before .before .before .before .before .before .read-words in
-    let good = sym (j .ensures) ∙ c .before .before .before .before .before .before .before .before .before .enum-told .given .1 in
-    let keys = c .before .match2 .keys2 in (
-      reading.buffer-words q _ (p .ensures) (s .args .slots .now) good (w .result) (w .ensures .0) keys,
+    let p = (c .before .before .before .before .before .before .before .before .before .before .before .before .before) .plan-of in
+    let j = (c .before .before .before .before .before .before .before .before .before .before .before) .judge in
+    let w = (c .before .before .before .before) .read-words in
+    let done = (c .before .before .before .before .before .before .before) .enum-told .given .1 in
+    let good = sym (j .ensures .0) ∙ done in
+    let taken = reading.plan-taken q _ (p .ensures) (s .args .slots .now) (j .last .1 .1 .0) (j .ensures .1 done) in
+    let said = w .ensures .0 ∙ reading.words-same (q .fields) (piece wordBytes (j .last .1 .1 .0)) (wordOut (p .result) (s .args .slots .now)) taken in
+    let keys = (c .before) .match2 .keys2 in (
+      reading.buffer-words q _ (p .ensures) (s .args .slots .now) good (w .result) said keys,
       kept (w .result) (framesOf (q .fields) (wordOut (planOf q) (s .args .slots .now))) (s .args .frames .now) keys,
     )
 
 finish-requires : tie.Need-finish-requires
-finish-requires c κs = search needs
-
-same-length-3 : tie.Need-same-length-3
-same-length-3 c = search needs
+finish-requires c κs =
+    let s = c .before .before .before .before .before .before .before .before .before .before .before .before .before .before .before .before .before .before .before .before .before in
+    let w = (c .before .before .before .before .before .before) .read-words in
+    record {
+      valid = s .pre .entered .valid;
+      blocks-fit = let k = w .kept .1 .1 .0 in let h = s .pre .blocks-fit in omega arith;
+      frames-are = s .pre .entered .frames-are;
+    }
 
 same-length-4 : tie.Need-same-length-4
 same-length-4 c = search needs
@@ -86,20 +101,27 @@ same-length-4 c = search needs
 same-length-5 : tie.Need-same-length-5
 same-length-5 c = search needs
 
+same-length-6 : tie.Need-same-length-6
+same-length-6 c = search needs
+
 returns-3 : tie.Need-returns-3
 returns-3 c =
-    let s = c .before .before .before .before .before .before .before .before .before .before .before .before .before .before .before .before .before .before .before .before .before .before .before in
+    let s = c .before .before .before .before .before .before .before .before .before .before .before .before .before .before .before .before .before .before .before .before .before .before .before .before in
     let q = s .args .q in
-    let p = c .before .before .before .before .before .before .before .before .before .before .before .before .before .before .before .before .before .plan-of in
-    let j = c .before .before .before .before .before .before .before .before .before .before .before .before .before .before .before .before .judge in
-    let w = c .before .before .before .before .before .before .before .before .before .before .before .read-words in
-    let good = sym (j .ensures) ∙ c .before .before .before .before .before .before .before .before .before .before .before .before .before .before .enum-told .given .1 in
-    let done = c .before .before .before .before .before .enum-told3 .given .1 in
-    let said = sym (w .ensures .0) ∙ done in
-    let are = w .ensures .1 done in
-    let e = c .before .before .finish .ensures in (
-      reading.buffer-frames q _ (p .ensures) (s .args .slots .now) good (s .pre .entered .valid) said _ are _ (e .0),
-      e .1 ∙ ap (λ (x : List ℕ). after (c .before .before .finish .result) x (s .args .frames .now)) (reading.frames-out q _ (p .ensures) (s .args .slots .now) good (s .pre .entered .valid) said _ are),
+    let slots = s .args .slots .now in
+    let p = (c .before .before .before .before .before .before .before .before .before .before .before .before .before .before .before .before .before .before) .plan-of in
+    let j = (c .before .before .before .before .before .before .before .before .before .before .before .before .before .before .before .before) .judge in
+    let w = (c .before .before .before .before .before .before .before .before .before) .read-words in
+    let found = (c .before .before .before .before .before .before .before .before .before .before .before .before) .enum-told .given .1 in
+    let good = sym (j .ensures .0) ∙ found in
+    let done = (c .before .before .before .before .before) .enum-told3 .given .1 in
+    let taken = reading.plan-taken q _ (p .ensures) slots (j .last .1 .1 .0) (j .ensures .1 found) in
+    let said = sym (w .ensures .0 ∙ reading.words-same (q .fields) (piece wordBytes (j .last .1 .1 .0)) (wordOut (p .result) slots) taken) ∙ done in
+    let are : (i : ℕ) → i < blockCount (q .fields) → piece (blockBytes (q .fields .rate)) (w .last .1 .1 .0) i ≡ blockIn (q .fields .rate) (wordOut (p .result) slots i) =
+    λ i l. w .ensures .1 done i l ∙ ap (blockIn (q .fields .rate)) (taken i l) in
+    let e = (c .before .before) .finish .ensures in (
+      reading.buffer-frames q _ (p .ensures) slots good (s .pre .entered .valid) said _ are _ (e .0),
+      e .1 ∙ ap (λ (x : List ℕ). after ((c .before .before) .finish .result) x (s .args .frames .now)) (reading.frames-out q _ (p .ensures) slots good (s .pre .entered .valid) said _ are),
     )
 
 pub read-in-spec : {M : Type 1} → statement M
@@ -110,15 +132,16 @@ read-in-spec =
     judge-requires
     enum-told
     enum-told-2
+    same-length
     returns
     read-words-requires
     enum-told-3
     enum-told-4
-    same-length
     same-length-2
+    same-length-3
     returns-2
     finish-requires
-    same-length-3
     same-length-4
     same-length-5
+    same-length-6
     returns-3)

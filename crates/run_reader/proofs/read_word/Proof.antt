@@ -1,7 +1,11 @@
--- Word j is taken out of the slots, and the word reader judges it.
-use mathlib.Core.Path.{ap, ap₂, _∙_}
+-- The word lies in its place, and the word reader judges it.
+use mathlib.Core.Path.{_≡_, ap, ap₂, _∙_}
 use mathlib.Core.List.{List}
-use Prim.Native.Nat.{ℕ}
+use Prim.Native.Nat.{ℕ, _+_, _-_, _*_}
+use native.Mathlib.Omega.{arith}
+use lib.ListN.{take, drop}
+use Rattle.bits.specs.Pieces.{piece}
+use Rattle.sizes.specs.Sizes.{wordBytes}
 use Rattle.word.specs.Word.{blockIn}
 use Rattle.word.specs.Word.{readSays as wordReads}
 use Rattle.answers.specs.Answer.{after}
@@ -10,8 +14,20 @@ use borrow.Author.Needs.{needs}
 use Rattle.run_reader.proofs.read_word.Statement.{statement}
 use Rattle.run_reader.proofs.read_word.Tie as tie
 
-word-out-requires : tie.Need-word-out-requires
-word-out-requires c κs = search needs
+mul-at : tie.Need-mul-at
+mul-at c = search needs
+
+add-end : tie.Need-add-end
+add-end c = search needs
+
+sub-read : tie.Need-sub-read
+sub-read c = search needs
+
+part-read-start : tie.Need-part-read-start
+part-read-start c = search needs
+
+part-read-end : tie.Need-part-read-end
+part-read-end c = search needs
 
 read-requires : tie.Need-read-requires
 read-requires c κs = search needs
@@ -19,22 +35,21 @@ read-requires c κs = search needs
 same-length : tie.Need-same-length
 same-length c = search needs
 
-same-length-2 : tie.Need-same-length-2
-same-length-2 c = search needs
-
 returns : tie.Need-returns
 unfolding wordSays
 returns c =
-    let s = c .before .before .before .before .before .before .before .before .before .before .before .before in
-    let w = c .before .before .before .before .before .before .before .word-out in
-    let r = c .before .before .read in
+    let s = c .before .before .before .before .before .before .before in
+    let r = (c .before .before) .read in
     let rate = s .args .f .rate in
-    let old = s .args .block .now in
-    let said = r .ensures .0 ∙ ap₂ (λ (x : List ℕ) (n : ℕ). wordReads rate x n) (w .ensures) (s .pre .block-is) in (
-      said,
-      r .ensures .1 ∙ ap (λ (x : List ℕ). after (r .result) (blockIn rate x) old) (w .ensures),
+    let at : ℕ = s .args .j * wordBytes in
+    let words : List ℕ = s .args .words .now in
+    let n : at + wordBytes - at ≡ wordBytes = omega arith in
+    let part : take (at + wordBytes - at) (drop at words) ≡ piece wordBytes words (s .args .j) = ap (λ (k : ℕ). take k (drop at words)) n in (
+      r .ensures .0 ∙ ap₂ (λ (x : List ℕ) (k : ℕ). wordReads rate x k) part (s .pre .block-is),
+      r .ensures .1 ∙ ap (λ (x : List ℕ). after (r .result) (blockIn rate x) (s .args .block .now)) part,
     )
 
 pub read-word-spec : {M : Type 1} → statement M
 read-word-spec =
-    tie.close (tie.spec word-out-requires read-requires same-length same-length-2 returns)
+    tie.close
+    (tie.spec mul-at add-end sub-read part-read-start part-read-end read-requires same-length returns)

@@ -1,144 +1,227 @@
--- Forty bytes after forty bytes, and the groups behind the last of them.
+-- Forties that are zeros', then some that are not, and the groups behind the last forty.
 use mathlib.Core.Path.{_≡_, refl, sym, ap, _∙_}
+use Prim.Native.Nat.{ℕ, _+_, _-_, _*_, _/_, _%_, _≤_, _<_}
 use native.Mathlib.Omega.{arith}
 use native.Mathlib.Nat.{le-refl, mul-le-mul, mod-lt, div-add-mod'}
+use lib.ListN.{length}
 use borrow.Author.Needs.{needs}
-use Rattle.pulses.specs.Zeros.{some-groups, forty-room}
+use Rattle.bits.specs.First.{upTo}
+use Rattle.pulses.specs.Pulses.{grouped, firstBadGroup}
+use Rattle.pulses.specs.Zeros.{some-groups}
 use Rattle.slots.specs.Bounds.{Bounds, bounds, shape}
 use Rattle.plan.specs.Plan.{unit, symbolCount}
-use Rattle.capture.proofs.Passing.{known-start, known-end, few-groups}
-use Prim.Native.Nat.{ℕ, _+_, _-_, _*_, _/_, _%_, _≤_, _<_}
-use Rattle.bits.specs.First.{upTo, Sought, sought-start, sought-fails, sought-more, sought-end}
-use Rattle.pulses.specs.Pulses.{grouped, firstBadGroup}
-use Rattle.capture.specs.Pass.{Known}
+use Rattle.capture.proofs.Passing.{Upto, upto-start, upto-zeros, upto-bad, upto-good, upto-end, forties-zero, forties-in, few-groups}
 use Rattle.capture.proofs.pass.find.Statement.{statement}
 use Rattle.capture.proofs.pass.find.Tie as tie
 
 abbrev Inv-loop : tie.InvT-loop
-Inv-loop p b n count whole given rest₀ c₀ rest c = Sought (grouped (p .order) (p .group) b) count n whole c × Known p b (c * count) rest
+Inv-loop p b words₀ n count whole given rest₀ c₀ words rest c = (c ≤ whole) × (length words ≡ length words₀) × Upto p b (c * count) rest words
 
 abbrev μ-loop : tie.MeasureT-loop
-μ-loop p b n count whole given rest₀ c₀ rest c = whole - c
+μ-loop p b words₀ n count whole given rest₀ c₀ words rest c = whole - c
 
 -- the sizes that the needs rest on
-known : (s : tie.Start Inv-loop μ-loop) → Bounds (s .args .p) × (1 ≤ 320 / s .args .p .group) × (320 / s .args .p .group ≤ unit (s .args .p))
+known : (s : tie.Start Inv-loop μ-loop) → Bounds (s .args .p) × (1 ≤ 320 / s .args .p .group) × (16 * (320 / s .args .p .group) ≤ unit (s .args .p))
 known s =
     let p = s .args .p in
-    let f = s .pre .fine in
+    let f = s .pre .0 .fine in
     (bounds p f, some-groups (p .order) (p .group) (shape p f), few-groups p f)
 
--- the groups of the c-th forty are among all
-inside : (s : tie.Start Inv-loop μ-loop) (c : ℕ) → c < symbolCount (s .args .p) / (320 / s .args .p .group) → c * (320 / s .args .p .group) + 320 / s .args .p .group ≤ symbolCount (s .args .p)
-inside s c l = forty-room (symbolCount (s .args .p)) (320 / s .args .p .group) c (known s .1) l
+-- the groups of so many forties are among all
+inside : (s : tie.Start Inv-loop μ-loop) (e : ℕ) → e ≤ symbolCount (s .args .p) / (320 / s .args .p .group) → e * (320 / s .args .p .group) ≤ symbolCount (s .args .p)
+inside s e l =
+    let count : ℕ = 320 / s .args .p .group in
+    let d = div-add-mod' (symbolCount (s .args .p)) count in
+    let m : e * count ≤ symbolCount (s .args .p) / count * count = mul-le-mul l (le-refl count) in
+    omega arith
+
+apart : (c e count : ℕ) → c ≤ e → c * count ≤ e * count
+apart c e count l = mul-le-mul l (le-refl count)
+
+forties : (s : tie.Start Inv-loop μ-loop) → 40 * (symbolCount (s .args .p) / (320 / s .args .p .group)) ≤ length (s .args .b .now)
+forties s = forties-in (s .args .p) (s .pre .0 .fine) (s .args .b .now) (s .pre .0 .long)
 
 add-n : tie.Need-add-n Inv-loop μ-loop
-add-n c = let r = known (c .before .before) in omega arith
+add-n c = let r = known (c .before .before .before) in omega arith
 
 mul-n : tie.Need-mul-n Inv-loop μ-loop
-mul-n c = let r = known (c .before .before .before) in omega arith
+mul-n c = let r = known (c .before .before .before .before) in omega arith
 
 div-count : tie.Need-div-count Inv-loop μ-loop
-div-count c = let r = known (c .before .before .before .before) in omega arith
+div-count c = let r = known (c .before .before .before .before .before) in omega arith
 
 div-whole : tie.Need-div-whole Inv-loop μ-loop
-div-whole c = known (c .before .before .before .before) .1
+div-whole c = known (c .before .before .before .before .before) .1
 
 zeros-requires : tie.Need-zeros-requires Inv-loop μ-loop
-zeros-requires c κs = let r = known (c .before .before .before .before) in omega arith
+zeros-requires c κs = let r = known (c .before .before .before .before .before) in omega arith
+
+slice-aggregate-past-zeros : tie.Need-slice-aggregate-past-zeros Inv-loop μ-loop
+slice-aggregate-past-zeros c = sym ((c .before) .zeros .ensures .long)
+
+past-zeros-requires : tie.Need-past-zeros-requires Inv-loop μ-loop
+past-zeros-requires c κs = record { order = omega arith; room = forties (c .before .before .before .before .before .before .before); long = (c .before) .zeros .ensures .long }
 
 loop-holds : tie.Need-loop-holds Inv-loop μ-loop
-loop-holds c = (sought-start _ _ _ _, known-start (c .before .before .before .before .before .args .p) (c .before .before .before .before .before .args .b .now) _ (omega arith))
-
-slice-aggregate-look-at-forty : tie.Need-slice-aggregate-look-at-forty Inv-loop μ-loop
-slice-aggregate-look-at-forty c = sym (c .before .before .before .zeros .ensures .long)
-
-look-at-forty-requires : tie.Need-look-at-forty-requires Inv-loop μ-loop
-look-at-forty-requires c κs =
+loop-holds c =
     let s = c .before .before .before .before .before .before .before .before in
+    let p = s .args .p in
+    let f = s .pre .0 .fine in
+    let z = (c .before .before) .zeros in
+    let o = c .past-zeros in
+    let k : ℕ = o .result in
+    let most : k ≤ symbolCount p / (320 / p .group) = o .ensures .1 in (
+      most,
+      refl,
+      upto-zeros p f (s .args .b .now) 0 (k * (320 / p .group)) (symbolCount p) (s .args .words .now) (upto-start p f (s .args .b .now) (s .args .words .now) (s .pre .1)) (omega arith) (inside s k most)
+          (λ i a l. forties-zero p f (s .args .b .now) _ (z .ensures) 0 k (o .ensures .2) i (omega arith) l),
+    )
+
+slice-aggregate-others-end : tie.Need-slice-aggregate-others-end Inv-loop μ-loop
+slice-aggregate-others-end c = sym ((c .before .before .before .before .before) .zeros .ensures .long)
+
+others-end-requires : tie.Need-others-end-requires Inv-loop μ-loop
+others-end-requires c κs =
+    (record { order = (c .before .before) .loop .inv .0; room = forties (c .before .before .before .before .before .before .before .before .before .before .before); long = (c .before .before .before .before .before) .zeros .ensures .long }, (c .before) .loop-test .taken)
+
+mul-look : tie.Need-mul-look Inv-loop μ-loop
+mul-look c =
+    let s = c .before .before .before .before .before .before .before .before .before .before .before .before in
     let r = known s in
-    let l = c .before .before .loop in
-    (record { captured = s .pre; some = omega arith; most = inside s (l .c) (omega arith); near = omega arith; known = l .inv .1 }, c .before .before .before .zeros .ensures)
+    let i = inside s ((c .before .before .before) .loop .c) ((c .before .before .before) .loop .inv .0) in
+    omega arith
+
+mul-look-2 : tie.Need-mul-look-2 Inv-loop μ-loop
+mul-look-2 c =
+    let s = c .before .before .before .before .before .before .before .before .before .before .before .before in
+    let r = known s in
+    let o = c .others-end in
+    let i = inside s (o .result) (o .ensures .1) in
+    omega arith
+
+look-requires : tie.Need-look-requires Inv-loop μ-loop
+look-requires c κs =
+    let s = c .before .before .before .before .before .before .before .before .before .before .before .before .before in
+    let r = known s in
+    let l = (c .before .before .before .before) .loop in
+    let o = (c .before) .others-end in
+    let count : ℕ = 320 / s .args .p .group in
+    let some : l .c + 1 ≤ o .result = let q = o .ensures .0 in omega arith in
+    let low : (l .c + 1) * count ≤ o .result * count = apart (l .c + 1) (o .result) count some in
+    let high : o .result * count ≤ (l .c + 16) * count = apart (o .result) (l .c + 16) count (o .ensures .2) in
+    record { captured = s .pre .0; some = omega arith; most = inside s (o .result) (o .ensures .1); near = omega arith; known = l .inv .2 .known }
 
 mul-if1 : tie.Need-mul-if1 Inv-loop μ-loop
-mul-if1 c = let s = c .before .before .before .before .before .before .before .before .before in let r = known s in let i = inside s (c .before .before .before .loop .c) (omega arith) in omega arith
+mul-if1 c =
+    let s = c .before .before .before .before .before .before .before .before .before .before .before .before .before .before .before .before in
+    let r = known s in
+    let o = (c .before .before .before .before) .others-end in
+    let i = inside s (o .result) (o .ensures .1) in
+    omega arith
 
-add-if1 : tie.Need-add-if1 Inv-loop μ-loop
-add-if1 c = let s = c .before .before .before .before .before .before .before .before .before in let r = known s in let i = inside s (c .before .before .before .loop .c) (omega arith) in omega arith
+same-length : tie.Need-same-length Inv-loop μ-loop
+same-length c = (c .before .before .before .before) .look .kept .1 .1 .1 .1 .1 .0 ∙ (c .before .before .before .before .before .before .before .before .before) .loop .inv .1
 
 returns : tie.Need-returns Inv-loop μ-loop
-unfolding firstBadGroup
 returns c =
-    let s = c .before .before .before .before .before .before .before .before .before .before .before in
-    let l = c .before .before .before .before .before .loop in
-    let count : ℕ = 320 / s .args .p .group in
-    let i = inside s (l .c) (omega arith) in
-    (sought-fails _ _ _ _ (l .c) (l .inv .0) (l .c * count + count) _ (omega arith) (omega arith) i (c .before .before .look-at-forty .ensures .0) (omega arith), λ e. absurd (omega arith))
+    let s = c .before .before .before .before .before .before .before .before .before .before .before .before .before .before .before .before .before .before in
+    let p = s .args .p in
+    let l = (c .before .before .before .before .before .before .before .before .before) .loop in
+    let o = (c .before .before .before .before .before .before) .others-end in
+    let f = (c .before .before .before .before) .look in
+    let count : ℕ = 320 / p .group in
+    let up : l .c * count ≤ o .result * count = apart (l .c) (o .result) count (let q = o .ensures .0 in omega arith) in
+    let i = inside s (o .result) (o .ensures .1) in
+    let bad = c .if1 .taken in
+    (upto-bad p (s .pre .0 .fine) (s .args .b .now) (l .c * count) (o .result * count) (l .rest) (l .words) (l .inv .2) up i _ (f .ensures .0) bad, λ q. absurd (omega arith))
 
-add-c : tie.Need-add-c Inv-loop μ-loop
-add-c c =
-    let s = c .before .before .before .before .before .before .before .before .before .before .before in
-    let l = c .before .before .before .before .before .loop in
-    let i = inside s (l .c) (omega arith) in
-    let r = known s in
-    omega (arith, mul-le-mul (le-refl (l .c)) (r .1))
+slice-aggregate-past-zeros-2 : tie.Need-slice-aggregate-past-zeros-2 Inv-loop μ-loop
+slice-aggregate-past-zeros-2 c = sym ((c .before .before .before .before .before .before .before .before .before .before .before .before .before) .zeros .ensures .long)
+
+past-zeros-requires-2 : tie.Need-past-zeros-requires-2 Inv-loop μ-loop
+past-zeros-requires-2 c κs = record { order = (c .before .before .before .before .before .before .before) .others-end .ensures .1; room = forties (c .before .before .before .before .before .before .before .before .before .before .before .before .before .before .before .before .before .before .before); long = (c .before .before .before .before .before .before .before .before .before .before .before .before .before) .zeros .ensures .long }
 
 loop-less : tie.Need-loop-less Inv-loop μ-loop
-loop-less c = search needs
+loop-less c =
+    let o = (c .before .before .before .before .before .before .before .before) .others-end .ensures in
+    let z = c .past-zeros2 .ensures in
+    let t = (c .before .before .before .before .before .before .before .before .before .before) .loop-test .taken in
+    omega arith
 
 loop-again : tie.Need-loop-again Inv-loop μ-loop
 loop-again c =
-    let s = c .before .before .before .before .before .before .before .before .before .before .before in
-    let l = c .before .before .before .before .before .loop in
-    let count : ℕ = 320 / s .args .p .group in
-    let i = inside s (l .c) (omega arith) in
-    let f = c .before .before .look-at-forty in
-    let next : l .c * count + count ≡ (l .c + 1) * count = omega arith in (
-      sought-more _ _ _ _ (l .c) (l .inv .0) (l .c * count + count) _ (omega arith) (omega arith) i (f .ensures .0) (omega arith) (omega arith) (λ k a b. absurd (omega arith)),
-      rw next at (f .ensures .1 (omega arith)),
+    let s = c .before .before .before .before .before .before .before .before .before .before .before .before .before .before .before .before .before .before .before .before in
+    let p = s .args .p in
+    let b = s .args .b .now in
+    let fine = s .pre .0 .fine in
+    let l = (c .before .before .before .before .before .before .before .before .before .before .before) .loop in
+    let o = (c .before .before .before .before .before .before .before .before) .others-end in
+    let f = (c .before .before .before .before .before .before) .look in
+    let z = c .past-zeros2 in
+    let count : ℕ = 320 / p .group in
+    let up : l .c * count ≤ o .result * count = apart (l .c) (o .result) count (let q = o .ensures .0 in omega arith) in
+    let i = inside s (o .result) (o .ensures .1) in
+    let on : o .result * count ≤ z .result * count = apart (o .result) (z .result) count (z .ensures .0) in
+    let good = (c .before .before) .if1 .left in (
+      z .ensures .1,
+      f .kept .1 .1 .1 .1 .1 .0 ∙ l .inv .1,
+      upto-zeros p fine b (o .result * count) (z .result * count) _ _
+          (upto-good p fine b (l .c * count) (o .result * count) (l .rest) (l .words) (l .inv .2) up i _ (f .ensures .0) good _ _ (f .ensures .1 good))
+          on (inside s (z .result) (z .ensures .1))
+          (λ k a m. forties-zero p fine b _ ((c .before .before .before .before .before .before .before .before .before .before .before .before .before .before) .zeros .ensures) (o .result) (z .result) (z .ensures .2) k a m),
     )
 
 mul-from : tie.Need-mul-from Inv-loop μ-loop
 mul-from c =
-    let s = c .before .before .before .before .before .before .before in
+    let s = c .before .before .before .before .before .before .before .before .before .before in
     let r = known s in
-    omega (arith, div-add-mod' (symbolCount (s .args .p)) (320 / s .args .p .group))
+    let i = inside s (symbolCount (s .args .p) / (320 / s .args .p .group)) (le-refl (symbolCount (s .args .p) / (320 / s .args .p .group))) in
+    omega arith
 
-look-requires : tie.Need-look-requires Inv-loop μ-loop
-look-requires c κs =
-    let s = c .before .before .before .before .before .before .before .before in
+look-requires-2 : tie.Need-look-requires-2 Inv-loop μ-loop
+look-requires-2 c κs =
+    let s = c .before .before .before .before .before .before .before .before .before .before .before .before in
     let p = s .args .p in
     let r = known s in
-    let l = c .before .before .loop in
+    let l = (c .before .before .before) .loop in
     let count : ℕ = 320 / p .group in
-    let e : l .c ≡ symbolCount p / count = let t = l .inv .0 .turn in omega arith in
+    let e : l .c ≡ symbolCount p / count = let t = l .inv .0 in let u = (c .before .before) .loop-test .left in omega arith in
     let d = div-add-mod' (symbolCount p) count in
     let m : symbolCount p % count < count = mod-lt (symbolCount p) (r .1) in
-    record { captured = s .pre; some = omega arith; most = omega arith; near = omega arith; known = rw e at (l .inv .1) }
+    let some = (c .before) .if2 .taken in
+    record { captured = s .pre .0; some = some; most = le-refl (symbolCount p); near = omega arith; known = rw e at (l .inv .2 .known) }
+
+same-length-2 : tie.Need-same-length-2 Inv-loop μ-loop
+same-length-2 c = (c .before .before) .look2 .kept .1 .1 .1 .1 .1 .0 ∙ (c .before .before .before .before .before .before) .loop .inv .1
 
 returns-2 : tie.Need-returns-2 Inv-loop μ-loop
 unfolding firstBadGroup
 returns-2 c =
-    let s = c .before .before .before .before .before .before .before .before .before in
+    let s = c .before .before .before .before .before .before .before .before .before .before .before .before .before .before .before in
     let p = s .args .p in
-    let l = c .before .before .before .loop in
+    let l = (c .before .before .before .before .before .before) .loop in
     let count : ℕ = 320 / p .group in
-    let e : symbolCount p / count ≡ l .c = let t = l .inv .0 .turn in omega arith in (
-      c .look .ensures .0 ∙ ap (λ (k : ℕ). upTo (grouped (p .order) (p .group) (s .args .b .now)) (k * count) (symbolCount p)) e ∙ l .inv .0 .left,
-      λ q. known-end p (s .args .b .now) (symbolCount p) _ refl (c .look .ensures .1 (omega arith)),
+    let f = (c .before .before) .look2 in
+    let e : symbolCount p / count ≡ l .c = let t = l .inv .0 in let u = (c .before .before .before .before .before) .loop-test .left in omega arith in (
+      f .ensures .0 ∙ ap (λ (k : ℕ). upTo (grouped (p .order) (p .group) (s .args .b .now)) (k * count) (symbolCount p)) e ∙ l .inv .2 .groups,
+      λ q. f .ensures .1 (omega arith),
     )
 
+same-length-3 : tie.Need-same-length-3 Inv-loop μ-loop
+same-length-3 c = (c .before .before) .loop .inv .1
+
 returns-3 : tie.Need-returns-3 Inv-loop μ-loop
-unfolding firstBadGroup
 returns-3 c =
-    let s = c .before .before .before .before .before .before .before .before in
+    let s = c .before .before .before .before .before .before .before .before .before .before .before in
     let p = s .args .p in
-    let l = c .before .before .loop in
+    let l = (c .before .before) .loop in
     let count : ℕ = 320 / p .group in
-    let t = l .inv .0 .turn in
     let d = div-add-mod' (symbolCount p) count in
-    let e : l .c ≡ symbolCount p / count = omega arith in
+    let e : l .c ≡ symbolCount p / count = let t = l .inv .0 in let u = (c .before) .loop-test .left in omega arith in
+    let none = c .if2 .left in
     let all : l .c * count ≡ symbolCount p = rw e (omega arith) in
-    (sym all ∙ sought-end _ _ _ _ (l .c) (l .inv .0) all, λ q. known-end p (s .args .b .now) (l .c * count) _ all (l .inv .1))
+    let end = upto-end p (s .pre .0 .fine) (s .args .b .now) (l .c * count) _ _ all (l .inv .2) in
+    (end .0, λ q. end .1)
 
 pub find-spec : {M : Type 1} → statement M
 find-spec =
@@ -151,16 +234,24 @@ find-spec =
     div-count
     div-whole
     zeros-requires
+    slice-aggregate-past-zeros
+    past-zeros-requires
     loop-holds
-    slice-aggregate-look-at-forty
-    look-at-forty-requires
+    slice-aggregate-others-end
+    others-end-requires
+    mul-look
+    mul-look-2
+    look-requires
     mul-if1
-    add-if1
+    same-length
     returns
-    add-c
+    slice-aggregate-past-zeros-2
+    past-zeros-requires-2
     loop-less
     loop-again
     mul-from
-    look-requires
+    look-requires-2
+    same-length-2
     returns-2
+    same-length-3
     returns-3)

@@ -13,7 +13,7 @@ use Rattle.capture.proofs.pass.look.Tie as tie
 
 bad-group-among-requires : tie.Need-bad-group-among-requires
 bad-group-among-requires c κs =
-    let s = c .before in
+    let s = c .before .before in
     let a = s .args in
     let h = s .pre in
     let some = h .some in
@@ -24,11 +24,12 @@ returns c = search needs
 
 rest-after-requires : tie.Need-rest-after-requires
 rest-after-requires c κs =
-    let s = c .before .before .before in
+    let s = c .before .before .before .before .before in
     let a = s .args in
     let h = s .pre in
     let some = h .some in
-    let e = c .before .bad-group-among .ensures in
+    let e = (c .before .before) .bad-group-among .ensures in
+    let g = (c .before) .if1 .left in
     let f = found (grouped (a .p .order) (a .p .group) (a .b .now)) (a .from) (a .to) (omega arith) .most in (
       record {
         captured = h .captured;
@@ -41,8 +42,11 @@ rest-after-requires c κs =
       h .known,
     )
 
+same-length : tie.Need-same-length
+same-length c = search needs
+
 returns-2 : tie.Need-returns-2
 returns-2 c = search needs
 
 pub look-spec : {M : Type 1} → statement M
-look-spec = tie.close (tie.spec bad-group-among-requires returns rest-after-requires returns-2)
+look-spec = tie.close (tie.spec bad-group-among-requires returns rest-after-requires same-length returns-2)
