@@ -22,7 +22,7 @@ PLAIN = -O3 -march=native
 SANITIZED = -O1 -g -fsanitize=address,undefined -fno-sanitize-recover=all
 RUSTFLAGS = --edition 2021 -O -D warnings
 
-VERSION = 0.1.0
+VERSION = 0.2.0
 
 # The static library: all calls. Another archive can stand in for it, such as the plain C version,
 # which shows that the tests outside the proofs hold without the library:
@@ -31,8 +31,8 @@ VERSION = 0.1.0
 LIBRARY = target/lib/libmahyrei.a
 LIBS = $(LIBRARY)
 # The shared library, from the same objects. Programs look for it by its ABI, which changes when one
-# that was linked with an older one could no longer run with it.
-ABI = 0
+# that was linked with an older one could no longer run with it, or would get other words from it.
+ABI = 1
 SHARED = $(dir $(firstword $(LIBS)))libmahyrei.so.$(VERSION)
 HOST = target/host
 HEADER = include/mahyrei.h include/mahyrei_plain.h
@@ -267,8 +267,8 @@ fuzz: $(HOST)/fuzz_drive
 
 # The crates of the product that have code.
 CRATES ?= bits answers sizes crc convolution interleaver accumulator randomizer word pass spread \
-    header plan stream frames pulses channel slots capture run_writer run_reader calls sheet \
-    runsheet
+    header quantities questions parameters plan stream frames pulses channel slots capture \
+    run_writer run_reader calls sheet runsheet
 COUNT ?= 60
 .PHONY: mutants
 mutants:

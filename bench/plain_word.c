@@ -9,7 +9,8 @@ enum {
     CODED = MAHYREI_WORD_BITS, /* coded bits, and bits of a word */
     CHECK_BITS = 32,
     TERMINATION_BITS = 2,
-    INPUTS_MAX = 10080 /* input bits of the convolutional code at rate 2/3 */
+    BLOCK_MAX = 10046, /* information bits of a block at rate 2/3 */
+    INPUTS_MAX = BLOCK_MAX + CHECK_BITS + TERMINATION_BITS
 };
 
 static const uint32_t CHECK_POLYNOMIAL = 0x20044009; /* D^32 + D^29 + D^18 + D^14 + D^3 + 1 */
@@ -35,7 +36,21 @@ static void pack(const uint8_t *bits, size_t count, uint8_t *bytes) {
     }
 }
 
-/* Step 2: the check register after the block. */
+/* Step 7: adds the randomizer's sequence, from its start. */
+static void randomize(uint8_t *bits, size_t count) {
+    uint8_t sequence[BLOCK_MAX];
+    for (size_t i = 0; i < 8; i++) {
+        sequence[i] = 1;
+    }
+    for (size_t i = 8; i < count; i++) {
+        sequence[i] = sequence[i - 1] ^ sequence[i - 3] ^ sequence[i - 5] ^ sequence[i - 8];
+    }
+    for (size_t i = 0; i < count; i++) {
+        bits[i] ^= sequence[i];
+    }
+}
+
+/* Step 2: the check register after the randomized block. */
 static uint32_t check(const uint8_t *bits, size_t count) {
     uint32_t reg = 0xFFFFFFFF;
     for (size_t i = 0; i < count; i++) {
@@ -83,20 +98,6 @@ static size_t interleaved_place(size_t j) {
     return (size_t)((11 * wide + 210 * wide * wide) % CODED);
 }
 
-/* Step 7: adds the randomizer's sequence, from its start. */
-static void randomize(uint8_t *bits) {
-    uint8_t sequence[CODED];
-    for (size_t i = 0; i < 8; i++) {
-        sequence[i] = 1;
-    }
-    for (size_t i = 8; i < CODED; i++) {
-        sequence[i] = sequence[i - 1] ^ sequence[i - 3] ^ sequence[i - 5] ^ sequence[i - 8];
-    }
-    for (size_t i = 0; i < CODED; i++) {
-        bits[i] ^= sequence[i];
-    }
-}
-
 /* The place in step 4's order of the second output for input bit i. */
 static size_t second_output(uint64_t rate, size_t i) {
     if (rate == MAHYREI_RATE_1_3) {
@@ -119,6 +120,7 @@ uint64_t plain_word_write(uint64_t rate, const uint8_t *block, size_t block_len,
 
     uint8_t inputs[INPUTS_MAX], coded[CODED], bits[CODED];
     unpack(block, inputs, block_bits(rate));
+    randomize(inputs, block_bits(rate));
     encode_block(rate, inputs, coded);
     for (size_t j = 0; j < CODED; j++) { /* step 5 */
         bits[j] = coded[interleaved_place(j)];
@@ -126,7 +128,6 @@ uint64_t plain_word_write(uint64_t rate, const uint8_t *block, size_t block_len,
     for (size_t j = 1; j < CODED; j++) { /* step 6 */
         bits[j] ^= bits[j - 1];
     }
-    randomize(bits);
     pack(bits, CODED, word);
     return MAHYREI_ACCEPTED;
 }
@@ -143,7 +144,6 @@ uint64_t plain_word_read(uint64_t rate, const uint8_t *word, size_t word_len, ui
     uint8_t bits[CODED], coded[CODED], again[CODED], inputs[INPUTS_MAX];
     const size_t k = block_bits(rate), count = k + CHECK_BITS + TERMINATION_BITS;
     unpack(word, bits, CODED);
-    randomize(bits);                         /* step 7 undone */
     for (size_t j = CODED - 1; j > 0; j--) { /* step 6 undone */
         bits[j] ^= bits[j - 1];
     }
@@ -174,6 +174,7 @@ uint64_t plain_word_read(uint64_t rate, const uint8_t *word, size_t word_len, ui
             return MAHYREI_BAD_CHECK;
         }
     }
+    randomize(inputs, k); /* step 7 undone */
     pack(inputs, k, block);
     return MAHYREI_ACCEPTED;
 }

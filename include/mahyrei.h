@@ -1,8 +1,8 @@
 /*
  * Mahyrei: words and runs of CCSDS high photon efficiency optical telemetry.
  *
- * A word is the 15,120 bits made from one information block: check, termination, convolutional
- * code, code interleaver, accumulator, randomizer. word_write makes the word of a block;
+ * A word is the 15,120 bits made from one information block: randomizer, check, termination,
+ * convolutional code, code interleaver, accumulator. word_write makes the word of a block;
  * word_read accepts a word only if some block makes it, and gives that block back. pass_write and
  * pass_read do the same for up to 211 of them in a call. bit_spread says which coded bits change
  * with one bit of a block.
@@ -73,17 +73,17 @@ extern "C" {
  *
  * What follows from a header, with k the information bits of a block and M/4 guard slots after
  * each symbol:
- *   blocks and words   C = A * (8 * F + 64) / k, rounded up
+ *   blocks and words   C = A * (8 * F + 32) / k, rounded up
  *   symbols, markers counted
  *                      (C + N * (N - 1) * B / S) * (S + W)
- *   slots              symbols * (M + M / 4), at most 1,457,644,800
+ *   slots              symbols * (M + M / 4), at most 1,457,029,760
  *   slot bytes         slots / 8, rounded up; spare bits at the end are zero
  *   frame bytes        A * F, at most 131,072
  */
 #define MAHYREI_HEADER_BYTES 8
 #define MAHYREI_MARKER_MAX 32
 #define MAHYREI_FRAMES_BYTES_MAX 131072
-#define MAHYREI_SLOTS_BYTES_MAX 182205600
+#define MAHYREI_SLOTS_BYTES_MAX 182128720
 
 /*
  * The number in an answer: 0, or the number of the first question whose answer is no. The
@@ -129,15 +129,16 @@ enum mahyrei_number {
      * first wrong coded bit, counted from 0 in the order of the encoder's output (not in the order
      * of the word): the first that differs when the input bits, read from the encoder's second
      * output alone, are encoded again. In pass_read and run_read the place is the word, as it is
-     * for 14 and 15, which are asked of one word before 13 is asked of the next. */
+     * for 14 and 15, which are asked of one word before 13 is asked of the next. Words of version
+     * 0.1, in the order of the draft book, all get this number: the place is 3, 4 or 6 by rate, or
+     * word 0. */
     MAHYREI_BAD_CODE = 13,
     /* Reading: the two termination bits are not both zero. */
     MAHYREI_BAD_TERMINATION = 14,
     /* Reading: the check is not the check of the block. */
     MAHYREI_BAD_CHECK = 15,
 
-    /* run_read: the frame marker 034776C7272895B0 does not stand before a frame. The place is the
-     * frame. */
+    /* run_read: the frame marker 1ACFFC1D does not stand before a frame. The place is the frame. */
     MAHYREI_BAD_FRAME_MARKER = 16,
     /* There is no 17, and there will be none: the header fixes the number of blocks, so that fewer
      * than k bits are ever fill. */

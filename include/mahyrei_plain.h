@@ -22,8 +22,8 @@ extern "C" {
 #endif
 
 /* What stands before each frame of a run, highest bit first. */
-#define MAHYREI_FRAME_MARKER UINT64_C(0x034776C7272895B0)
-#define MAHYREI_FRAME_MARKER_BITS 64
+#define MAHYREI_FRAME_MARKER UINT32_C(0x1ACFFC1D)
+#define MAHYREI_FRAME_MARKER_BITS 32
 
 /* The fields of a run header; mahyrei.h says what they are. */
 struct mahyrei_fields {

@@ -24,8 +24,9 @@ static const char *const SENTENCES[] = {
                              "symbol, markers counted.",
     [MAHYREI_BAD_IDLE] = "A symbol that must be 0, since the channel interleaver puts nothing "
                          "there, is not; the place is that symbol, markers counted.",
-    [MAHYREI_BAD_CODE] = "A word was damaged: no input of the code makes it; the place is the "
-                         "word, or in word_read the first wrong coded bit.",
+    [MAHYREI_BAD_CODE] = "A word was damaged, or written by version 0.1: no input of the code "
+                         "makes it; the place is the word, or in word_read the first wrong coded "
+                         "bit.",
     [MAHYREI_BAD_TERMINATION] = "The two bits that end a word's input are not zero; the place is "
                                 "the word, or 0 in word_read.",
     [MAHYREI_BAD_CHECK] = "A word's check is not that of its block; the place is the word, or 0 in "

@@ -45,7 +45,7 @@ __all__ = [
 ]
 
 # `make install` puts the whole path here.
-_LIBRARY = "libmahyrei.so.0"
+_LIBRARY = "libmahyrei.so.1"
 
 _HEADER_BYTES = 8
 _WORD_BYTES = 1890

@@ -9,7 +9,8 @@
 #include "mahyrei.h"
 #include "plain_word.h"
 
-static const uint8_t FRAME_MARKER[8] = {0x03, 0x47, 0x76, 0xC7, 0x27, 0x28, 0x95, 0xB0};
+static const uint8_t FRAME_MARKER[] = {0x1A, 0xCF, 0xFC, 0x1D};
+enum { MARKER_BITS = 8 * sizeof FRAME_MARKER };
 
 struct run {
     size_t rate, m, N, B, F, W, A;
@@ -80,7 +81,7 @@ static unsigned ask(struct run *r, const uint8_t *header, size_t header_len, con
         }
     }
     r->k = word_block_bytes(r->rate) * 8 - 2;
-    r->C = (r->A * (8 * r->F + 64) + r->k - 1) / r->k;
+    r->C = (r->A * (8 * r->F + MARKER_BITS) + r->k - 1) / r->k;
     r->places = r->C * r->S + unhit;
     r->symbols = r->places / r->S * (r->S + r->W);
     r->group = r->M + r->M / 4;
@@ -91,12 +92,12 @@ static unsigned ask(struct run *r, const uint8_t *header, size_t header_len, con
 
 /* Step 1: bit x of the stream. */
 static size_t stream_bit(const struct run *r, const uint8_t *frames, size_t x) {
-    const size_t marked = 64 + 8 * r->F, frame = x / marked, in_frame = x % marked;
+    const size_t marked = MARKER_BITS + 8 * r->F, frame = x / marked, in_frame = x % marked;
     if (frame >= r->A) {
         return 0;
     }
-    return in_frame < 64 ? get_bit(FRAME_MARKER, in_frame)
-                         : get_bit(frames + frame * r->F, in_frame - 64);
+    return in_frame < MARKER_BITS ? get_bit(FRAME_MARKER, in_frame)
+                                  : get_bit(frames + frame * r->F, in_frame - MARKER_BITS);
 }
 
 /* Steps 9 and 10: the symbol, markers counted, at which symbol t of the words stands. */
@@ -207,19 +208,19 @@ static uint64_t read_words(const struct run *r, const uint8_t *symbols, uint8_t 
 
 /* Questions 16 and 18, and the frames. */
 static uint64_t read_stream(const struct run *r, const uint8_t *stream, uint8_t *frames) {
-    const size_t marked = 64 + 8 * r->F; /* whole bytes */
+    const size_t marked = MARKER_BITS / 8 + r->F; /* bytes */
     for (size_t i = 0; i < r->A; i++) {
-        if (memcmp(stream + i * marked / 8, FRAME_MARKER, 8) != 0) {
+        if (memcmp(stream + i * marked, FRAME_MARKER, sizeof FRAME_MARKER) != 0) {
             return i * 256 + 16;
         }
     }
-    for (size_t x = r->A * marked; x < r->C * r->k; x++) {
+    for (size_t x = r->A * 8 * marked; x < r->C * r->k; x++) {
         if (get_bit(stream, x)) {
             return 18;
         }
     }
     for (size_t i = 0; i < r->A; i++) {
-        memcpy(frames + i * r->F, stream + i * marked / 8 + 8, r->F);
+        memcpy(frames + i * r->F, stream + i * marked + sizeof FRAME_MARKER, r->F);
     }
     return 0;
 }

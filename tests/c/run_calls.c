@@ -150,16 +150,16 @@ static const struct {
     struct run run;
     uint64_t fnv1a;
 } RUNS[] = {
-    {{0, 2, 6, 252, 300, 4, 2}, 0x4367A316AFB5E1C7},
-    {{1, 3, 5, 252, 500, 1, 3}, 0xBA64751F74B42CCD},
-    {{2, 4, 5, 189, 2048, 32, 1}, 0xA67E581E5FCECCDD},
-    {{0, 5, 4, 252, 1, 7, 64}, 0xF22281816D5E1519},
-    {{1, 6, 4, 210, 223, 16, 2}, 0xC0E0DD4D0D43D258},
-    {{2, 7, 4, 180, 1000, 3, 3}, 0xEAF54078106BC126},
-    {{0, 8, 6, 63, 1024, 2, 1}, 0x51EE3ABD4303E887},
-    {{1, 8, 1, 256, 800, 5, 1}, 0x89D5C8A090DE4D44},
-    {{2, 3, 1, 9, 700, 2, 2}, 0xA1F9B5EEA208D951},
-    {{1, 4, 1, 1, 63, 6, 53}, 0x122F4613ECA32F31},
+    {{0, 2, 6, 252, 300, 4, 2}, 0xDA2E8AB5572D7ED0},
+    {{1, 3, 5, 252, 500, 1, 3}, 0x824E77D7C50BF292},
+    {{2, 4, 5, 189, 2048, 32, 1}, 0x0F2DB8C95DF6FB12},
+    {{0, 5, 4, 252, 1, 7, 64}, 0xC14B564606A97BEC},
+    {{1, 6, 4, 210, 223, 16, 2}, 0x491AAC9BEC764952},
+    {{2, 7, 4, 180, 1000, 3, 3}, 0x062FEDCA568D620A},
+    {{0, 8, 6, 63, 1024, 2, 1}, 0xC484DF7237E699B4},
+    {{1, 8, 1, 256, 800, 5, 1}, 0xEB30B871FF0D46EA},
+    {{2, 3, 1, 9, 700, 2, 2}, 0x74619A6934328A3A},
+    {{1, 4, 1, 1, 67, 6, 53}, 0x5546D5C28A19C7DA},
 };
 enum { RUN_COUNT = sizeof RUNS / sizeof RUNS[0] };
 
@@ -219,23 +219,45 @@ static uint8_t words[WORDS_MAX][MAHYREI_WORD_BYTES];
 static uint8_t symbols[SYMBOLS_MAX];
 static uint8_t frames[MAHYREI_FRAMES_BYTES_MAX], slots[AREA], damaged[AREA];
 
-/* The words of a run by word_write. Bit `wrong` of the stream, if there is one, is changed. */
-static void make_words(const struct run *run, size_t wrong) {
-    static const uint8_t MARKER[8] = {0x03, 0x47, 0x76, 0xC7, 0x27, 0x28, 0x95, 0xB0};
-    const size_t marked = 64 + 8 * run->F, k = block_bits(run);
-    for (size_t c = 0; c < block_count(run); c++) {
-        uint8_t block[MAHYREI_BLOCK_BYTES_MAX] = {0};
-        for (size_t i = 0; i < k; i++) {
-            const size_t x = c * k + i, frame = x / marked, at = x % marked;
-            const size_t bit = frame >= run->A ? 0
-                               : at < 64       ? get_bit(MARKER, at)
-                                               : get_bit(frames + frame * run->F, at - 64);
-            if (bit != (x == wrong)) {
-                flip(block, i);
-            }
+/* Block c of the stream in which a marker of so many bits stands before each frame. Bit `wrong` of
+ * the stream, if there is one, is changed. */
+static void make_block(const struct run *run, uint64_t marker, size_t marker_bits, size_t c,
+                       size_t wrong, uint8_t block[MAHYREI_BLOCK_BYTES_MAX]) {
+    const size_t marked = marker_bits + 8 * run->F, k = block_bits(run);
+    memset(block, 0, MAHYREI_BLOCK_BYTES_MAX);
+    for (size_t i = 0; i < k; i++) {
+        const size_t x = c * k + i, frame = x / marked, at = x % marked;
+        const size_t bit = frame >= run->A    ? 0
+                           : at < marker_bits ? marker >> (marker_bits - 1 - at) & 1
+                                              : get_bit(frames + frame * run->F, at - marker_bits);
+        if (bit != (x == wrong)) {
+            flip(block, i);
         }
-        CHECK(word_write(run->rate, block, word_block_bytes(run->rate), words[c],
-                         MAHYREI_WORD_BYTES) == MAHYREI_ACCEPTED);
+    }
+}
+
+static void make_word(const struct run *run, const uint8_t *block, uint8_t *word) {
+    CHECK(word_write(run->rate, block, word_block_bytes(run->rate), word, MAHYREI_WORD_BYTES) ==
+          MAHYREI_ACCEPTED);
+}
+
+/* The words of a run by word_write. */
+static void make_words(const struct run *run, size_t wrong) {
+    for (size_t c = 0; c < block_count(run); c++) {
+        uint8_t block[MAHYREI_BLOCK_BYTES_MAX];
+        make_block(run, 0x1ACFFC1D, FRAME_MARKER_BITS, c, wrong, block);
+        make_word(run, block, words[c]);
+    }
+}
+
+/* Adds step 7's sequence to the first bits. */
+static void randomize(uint8_t *bytes, size_t count) {
+    unsigned window = 0xFF; /* eight bits of the sequence, the first highest */
+    for (size_t i = 0; i < count; i++) {
+        if (window >> 7 & 1) {
+            flip(bytes, i);
+        }
+        window = window << 1 | ((window ^ window >> 2 ^ window >> 4 ^ window >> 7) & 1);
     }
 }
 
@@ -304,8 +326,28 @@ static void test_random_runs(const struct run *run) {
     }
 }
 
-/* The draft book's symbol example: bits 1101 0101 are the symbols 13 and 5 at m = 4. The randomizer
- * digits are those that the word of zeros starts with, which word_calls.c tests. */
+/* The draft book's randomizer digits, and where the sequence goes: the block that holds it goes
+ * into step 2 as zeros, so that all coded bits before those of its check are 0. */
+static void test_sequence(uint64_t rate) {
+    static const uint8_t DIGITS[] = {0xFF, 0x48, 0x0E, 0xC0, 0x9A};
+    const struct run run = {.rate = rate};
+    const size_t k = block_bits(&run), inputs = k + 34;
+    uint8_t block[MAHYREI_BLOCK_BYTES_MAX] = {0}, word[MAHYREI_WORD_BYTES];
+    size_t ones = 0;
+    randomize(block, k);
+    CHECK(memcmp(block, DIGITS, sizeof DIGITS) == 0);
+    make_word(&run, block, word);
+    for (uint64_t j = 0; j < MAHYREI_WORD_BITS; j++) {
+        const size_t before = j == 0 ? 0 : get_bit(word, j - 1);
+        const uint64_t coded = (11 * j + 210 * j * j) % MAHYREI_WORD_BITS;
+        if (coded < k * MAHYREI_WORD_BITS / inputs) {
+            ones += get_bit(word, j) ^ before;
+        }
+    }
+    CHECK(ones == 0);
+}
+
+/* The draft book's symbol example: bits 1101 0101 are the symbols 13 and 5 at m = 4. */
 static void test_symbol_example(void) {
     const struct run run = {1, 4, 1, 1, 900, 2, 1};
     size_t found = 0;
@@ -428,11 +470,11 @@ static void test_words(void) {
 
 /* Questions 16 and 18. */
 static void test_stream(const struct run *run) {
-    const size_t marked = 64 + 8 * run->F, fill = run->A * marked;
+    const size_t marked = marked_bits(run), fill = run->A * marked;
     const size_t end = block_count(run) * block_bits(run);
     sample_frames(run, frames);
     for (size_t frame = 0; frame < run->A; frame += 1 + random_below(run->A)) {
-        make_words(run, frame * marked + random_below(64));
+        make_words(run, frame * marked + random_below(FRAME_MARKER_BITS));
         CHECK(read_words(run) == frame * 256 + MAHYREI_BAD_FRAME_MARKER);
     }
     if (fill < end) {
@@ -454,9 +496,9 @@ static const struct {
     struct run run;
     size_t blocks, fill;
 } FILLS[] = {
-    {{1, 4, 1, 1, 63, 6, 53}, 4, 0},      {{1, 4, 1, 1, 134, 6, 53}, 8, 0},
-    {{0, 4, 1, 1, 618, 6, 1}, 2, 5004},   {{1, 4, 1, 1, 933, 6, 1}, 2, 7524},
-    {{2, 4, 1, 1, 1248, 6, 1}, 2, 10044}, {{2, 4, 1, 1, 1, 6, 1}, 1, 9974},
+    {{1, 4, 1, 1, 67, 6, 53}, 4, 0},      {{1, 4, 1, 1, 138, 6, 53}, 8, 0},
+    {{0, 4, 1, 1, 622, 6, 1}, 2, 5004},   {{1, 4, 1, 1, 937, 6, 1}, 2, 7524},
+    {{2, 4, 1, 1, 1252, 6, 1}, 2, 10044}, {{2, 4, 1, 1, 1, 6, 1}, 1, 10006},
 };
 
 static void test_fills(void) {
@@ -464,7 +506,7 @@ static void test_fills(void) {
         const struct run *run = &FILLS[i].run;
         const size_t end = FILLS[i].blocks * block_bits(run);
         CHECK(block_count(run) == FILLS[i].blocks);
-        CHECK(end - run->A * (64 + 8 * run->F) == FILLS[i].fill);
+        CHECK(end - run->A * marked_bits(run) == FILLS[i].fill);
         fill_random(frames, frame_bytes(run));
         write_run(run, frames, slots);
         CHECK(read_back(run, slots, frames));
@@ -477,6 +519,41 @@ static void test_fills(void) {
             CHECK(read_words(run) == MAHYREI_ACCEPTED);
         }
     }
+}
+
+/* What version 0.1 made, in the draft's order: the sequence on the word and not on the block, and a
+ * frame marker of 64 bits. No such word is accepted: the first wrong coded bit is the same for all
+ * of a rate, since the sequence alone decides it. So a run is refused at word 0, or for its length
+ * where the longer markers make more blocks of it. */
+static void test_draft_order(const struct run *run) {
+    static const uint64_t MARKER = 0x034776C7272895B0, PLACE[] = {3, 4, 6};
+    const size_t k = block_bits(run), len = word_block_bytes(run->rate);
+    const size_t blocks = (run->A * (64 + 8 * run->F) + k - 1) / k;
+    const size_t more = blocks - block_count(run);
+    uint8_t block[MAHYREI_BLOCK_BYTES_MAX];
+    fill_random(frames, frame_bytes(run));
+    if (more > 0) {
+        const size_t draft_slots = slot_count(run) + more * period(run) * group_slots(run);
+        lend_header(run);
+        lend(&lent_slots, (draft_slots + 7) / 8);
+        lend(&lent_frames, frame_bytes(run));
+        CHECK(call(false) == MAHYREI_BAD_LENGTH);
+        return;
+    }
+    for (size_t c = 0; c < blocks; c++) {
+        make_block(run, MARKER, 64, c, SIZE_MAX, block);
+        randomize(block, k); /* so that word_write takes it in as it was */
+        make_word(run, block, words[c]);
+        randomize(words[c], MAHYREI_WORD_BITS);
+        CHECK(word_read(run->rate, words[c], MAHYREI_WORD_BYTES, block, len) ==
+              PLACE[run->rate] * 256 + MAHYREI_BAD_CODE);
+    }
+    CHECK(read_words(run) == MAHYREI_BAD_CODE);
+    for (size_t c = 0; c < blocks; c++) { /* the draft's marker alone */
+        make_block(run, MARKER, 64, c, SIZE_MAX, block);
+        make_word(run, block, words[c]);
+    }
+    CHECK(read_words(run) == MAHYREI_BAD_FRAME_MARKER);
 }
 
 /* Both calls with a header that fails a question, whatever the slices. */
@@ -615,6 +692,9 @@ int main(void) {
     map_area(&lent_slots);
     test_known_runs();
     test_example_sizes();
+    for (uint64_t rate = 0; rate < 3; rate++) {
+        test_sequence(rate);
+    }
     test_symbol_example();
     test_words();
     test_fills();
@@ -625,6 +705,7 @@ int main(void) {
         test_random_runs(run);
         test_damage(run);
         test_stream(run);
+        test_draft_order(run);
         test_refused_header_bytes(run);
         test_refused_lengths(run);
     }

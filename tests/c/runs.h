@@ -13,6 +13,8 @@ struct run {
     uint64_t rate, m, N, B, F, W, A; /* as in the header */
 };
 
+enum { FRAME_MARKER_BITS = 32 };
+
 static inline void pack_header(const struct run *run, uint8_t header[MAHYREI_HEADER_BYTES]) {
     uint64_t packed = run->rate;
     packed = packed << 4 | run->m;
@@ -40,8 +42,13 @@ static inline size_t block_bits(const struct run *run) {
     return word_block_bytes(run->rate) * 8 - 2;
 }
 
+/* A frame with its marker, in bits. */
+static inline size_t marked_bits(const struct run *run) {
+    return FRAME_MARKER_BITS + 8 * run->F;
+}
+
 static inline size_t block_count(const struct run *run) {
-    return (run->A * (8 * run->F + 64) + block_bits(run) - 1) / block_bits(run);
+    return (run->A * marked_bits(run) + block_bits(run) - 1) / block_bits(run);
 }
 
 static inline size_t place_count(const struct run *run) {

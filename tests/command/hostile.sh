@@ -117,7 +117,7 @@ once_largest() {
     begin
     head -c 131072 /dev/zero >many
     run 0 write "$largest" "$largest_marker" many out
-    same 'slot bytes of the largest run' 182205600 "$(stat -c %s out)"
+    same 'slot bytes of the largest run' 182128720 "$(stat -c %s out)"
     run 0 read "$largest" "$largest_marker" out back
     alike 'frames of the largest run' many back
 }

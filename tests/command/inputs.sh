@@ -32,5 +32,5 @@ test_files() {
     refused 8 0 write "$header" /dev/zero frames out
     refused 8 0 write "$header" "$marker" /dev/zero out
     refused 8 0 read "$header" "$marker" /dev/zero out
-    logged "$said/err" "read header=$header marker=5 frames=- slots=182205601 answer=8 place=0 status=1"
+    logged "$said/err" "read header=$header marker=5 frames=- slots=182128721 answer=8 place=0 status=1"
 }

@@ -72,7 +72,7 @@ test_inspect_counts() {
     head -c 1250 frames >fewer
     "$mahyrei" -q write "$(header 1 4 5 189 250 5 5)" "$marker" fewer damaged
     report 1 '0 0 0 0 0 0 0 2 0 0 0 0 1 2 0 0'
-    has 'a wrong frame marker' 'frame 1, from word 0 bit 4064 on' "$(out)"
+    has 'a wrong frame marker' 'frame 1, from word 0 bit 4032 on' "$(out)"
     run 1 inspect "$(header 1 4 5 189 500 5 2)" "$marker" slots
     has 'set fill bits' 'fill bits set behind the frames' "$(out)"
     has 'set fill bits' 'bit of the joined frames' "$(out)"
@@ -181,12 +181,12 @@ test_show() {
     run 0 show "$header" damaged 6999 4
     same 'symbols as slots' "   6999  word 0   symbol 3209    9  .........|......____
    7000  word 1   symbol 3210    -  ................____  no pulse
-   7001  word 1   symbol 2266    -  ....|...........__!_  a pulse in a guard slot
-   7002  word 1   symbol 1322    -  .....|........|.____  2 pulses" "$(out)"
+   7001  word 1   symbol 2266    -  ...............|__!_  a pulse in a guard slot
+   7002  word 1   symbol 1322    -  .....|......|...____  2 pulses" "$(out)"
     run 0 show "$header" damaged 3 4
     same 'a marker, a word, and nothing' "      3  marker 3                3  ...|............____
       4  marker 4                9  .........|......____
-      5  word 0   symbol 0      15  ...............|____
+      5  word 0   symbol 0      14  ..............|.____
       6  no word's symbol here   0  |...............____" "$(out)"
     run 0 show "$header" slots 11354 18446744073709551615
     same 'as far as the capture goes' 1 "$(wc -l <"$said/out")"

@@ -50,7 +50,7 @@ once_install() {
     begin
     local prefix_folder="$work/a prefix" files libraries flags
     made install PREFIX="$prefix_folder"
-    libraries='lib/libmahyrei.a lib/libmahyrei.so lib/libmahyrei.so.0 lib/libmahyrei.so.0.1.0'
+    libraries='lib/libmahyrei.a lib/libmahyrei.so lib/libmahyrei.so.0.2.0 lib/libmahyrei.so.1'
     files="bin/mahyrei include/mahyrei.h include/mahyrei_plain.h $libraries lib/pkgconfig/mahyrei.pc"
     files+=' share/bash-completion/completions/mahyrei share/mahyrei/python/mahyrei.py'
     same 'files of make install' "$files share/man/man1/mahyrei.1 share/man/man3/mahyrei.3" \

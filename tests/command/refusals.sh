@@ -89,9 +89,9 @@ test_refusal_says_where() {
         read "$header" "$m" damaged out
     head -c 1250 frames >fewer
     run 0 write "$(header 1 4 5 189 250 5 5)" "$m" fewer other
-    says "other: the frame's marker begins at bit 4064 of the block of word 0" \
+    says "other: the frame's marker begins at bit 4032 of the block of word 0" \
         read "$header" "$m" other out
-    says 'slots: the fill begins at bit 602 of the block of word 1' \
+    says 'slots: the fill begins at bit 538 of the block of word 1' \
         read "$(header 1 4 5 189 500 5 2)" "$m" slots out
 }
 

@@ -8,7 +8,7 @@ test_sheet() {
     run 0 sheet - <header
     same 'a sheet' '1/2 16 5 189 500 5 3 2 11355 227100' "$(out)"
     run 0 sheet "$largest"
-    same 'the largest sheet' '1/3 256 127 255 2048 32 64 211 4555140 1457644800' "$(out)"
+    same 'the largest sheet' '1/3 256 127 255 2048 32 64 210 4553218 1457029760' "$(out)"
     run 1 sheet "$(header 1 4 2 189 500 5 3)"
     same 'a sheet that is refused' 'no 5' "$(out)"
     has 'what is said then' "refused, number 5, place 0: $(sentence 5)" "$err"

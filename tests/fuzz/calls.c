@@ -589,11 +589,11 @@ static void flip_stream(uint8_t *word, uint64_t rate, size_t bit) {
 
 /* A bit of the stream: of a frame marker, of the fill, where there is some, or any. */
 static size_t take_stream_bit(struct input *in, const struct run *run) {
-    const size_t marked = 64 + 8 * run->F, end = run->A * marked;
+    const size_t marked = marked_bits(run), end = run->A * marked;
     const size_t all = block_count(run) * block_bits(run);
     switch (take_below(in, 1, 4)) {
     case 0:
-        return take_below(in, 1, run->A) * marked + take_below(in, 1, 64);
+        return take_below(in, 1, run->A) * marked + take_below(in, 1, FRAME_MARKER_BITS);
     case 1:
         return end < all ? end + take_below(in, 2, all - end) : all - 1;
     default:

@@ -8,8 +8,8 @@
 use crate::word::{self, refuse, Rate, Refusal, WORD_BITS};
 
 pub const HEADER_BYTES: usize = 8;
-pub const FRAME_MARKER: u64 = 0x0347_76C7_2728_95B0;
-pub const FRAME_MARKER_BITS: usize = 64;
+pub const FRAME_MARKER: u32 = 0x1ACF_FC1D;
+pub const FRAME_MARKER_BITS: usize = 32;
 /// The most marker symbols.
 pub const MARKER_MOST: usize = 32;
 
@@ -248,7 +248,7 @@ pub fn stream(run: &Run, frames: &[u8]) -> Vec<bool> {
     bits
 }
 
-/// Steps 2 to 7: the words of the stream's blocks.
+/// Steps 7 and 2 to 6: the words of the stream's blocks.
 pub fn words(run: &Run, stream: &[bool]) -> Vec<Vec<u8>> {
     stream
         .chunks(run.block_bits())
@@ -566,8 +566,8 @@ mod tests {
             ..SMALL
         };
         let run = run(largest);
-        assert_eq!((run.blocks(), run.symbols()), (211, 4_555_140));
-        assert_eq!((run.slots(), run.slots_len()), (1_457_644_800, 182_205_600));
+        assert_eq!((run.blocks(), run.symbols()), (210, 4_553_218));
+        assert_eq!((run.slots(), run.slots_len()), (1_457_029_760, 182_128_720));
     }
 
     #[test]
@@ -629,8 +629,8 @@ mod tests {
         for (rate, k) in [5006, 7526, 10046].into_iter().enumerate() {
             for frames in 1..=64 {
                 for frame_bytes in 1..=2048 {
-                    if frames * (64 + 8 * frame_bytes) % k == 0 {
-                        assert_eq!((rate, frames, (frame_bytes + 8) % 71), (1, 53, 0));
+                    if frames * (32 + 8 * frame_bytes) % k == 0 {
+                        assert_eq!((rate, frames, (frame_bytes + 4) % 71), (1, 53, 0));
                         found += 1;
                     }
                 }
@@ -639,7 +639,7 @@ mod tests {
         assert_eq!(found, 28);
         let header = Header {
             rate: 1,
-            frame_bytes: 63,
+            frame_bytes: 67,
             frames: 53,
             ..SMALL
         };
@@ -689,7 +689,7 @@ mod tests {
         let (header, marker) = (TWO_WORDS.pack(), &[3, 0]);
         let run = run(TWO_WORDS);
         let frames = sample(run.frames_len());
-        assert_eq!((run.blocks(), run.marked_bits()), (2, 4064));
+        assert_eq!((run.blocks(), run.marked_bits()), (2, 4032));
         let read = |slots: &[u8]| read(&header, marker, slots, frames.len());
         let read_symbols = |symbols: &[u8]| read(&slots_of_symbols(&run, symbols));
         let read_words =
@@ -698,7 +698,7 @@ mod tests {
         let mut stream = stream(&run, &frames);
         *stream.last_mut().unwrap() = true; // the last fill bit
         assert_eq!(read_words(&words(&run, &stream)), refuse(18, 0));
-        stream[4064 + 63] ^= true; // the last bit of frame 1's marker
+        stream[4032 + 31] ^= true; // the last bit of frame 1's marker
         assert_eq!(read_words(&words(&run, &stream)), refuse(16, 1));
 
         let k = run.block_bits();

@@ -86,6 +86,24 @@ pub fn pack(bits: &[bool]) -> Vec<u8> {
     bits.chunks(8).map(byte).collect()
 }
 
+/// Step 7's sequence. The register holds the next eight bits, the first highest; the bits 1, 3, 5
+/// and 8 places before the one that comes in are its bits 0, 2, 4 and 7.
+pub fn sequence() -> impl Iterator<Item = bool> {
+    let shift = |register: &u8| {
+        let sum = (register & 0b1001_0101).count_ones() % 2;
+        Some(register << 1 | sum as u8)
+    };
+    std::iter::successors(Some(0xFF), shift).map(|register| register >> 7 == 1)
+}
+
+/// Step 7, which is its own inverse.
+pub fn randomize(bits: &[bool]) -> Vec<bool> {
+    bits.iter()
+        .zip(sequence())
+        .map(|(&bit, pn)| bit ^ pn)
+        .collect()
+}
+
 /// Step 2: the check register after these bits.
 pub fn check(bits: &[bool]) -> u32 {
     bits.iter().fold(u32::MAX, |register, &bit| {
@@ -99,9 +117,14 @@ pub fn check_bits(register: u32) -> Vec<bool> {
     unpack(&register.to_be_bytes())
 }
 
-/// Steps 2 and 3: the block, its check and the termination bits.
+/// Steps 2 and 3, of the bits that step 2 takes in: these, their check and the termination bits.
+pub fn checked(taken: &[bool]) -> Vec<bool> {
+    [taken, &check_bits(check(taken)), &[false; TERMINATION_BITS]].concat()
+}
+
+/// Steps 7, 2 and 3: the block, randomized, its check and the termination bits.
 pub fn terminated(block: &[bool]) -> Vec<bool> {
-    [block, &check_bits(check(block)), &[false; TERMINATION_BITS]].concat()
+    checked(&randomize(block))
 }
 
 /// Step 4: the mother code's three outputs from the zero state, punctured by rate.
@@ -136,30 +159,12 @@ pub fn accumulate(bits: &[bool]) -> Vec<bool> {
     bits.iter().scan(false, running_sum).collect()
 }
 
-/// Step 7's sequence. The register holds the next eight bits, the first highest; the bits 1, 3, 5
-/// and 8 places before the one that comes in are its bits 0, 2, 4 and 7.
-pub fn sequence() -> impl Iterator<Item = bool> {
-    let shift = |register: &u8| {
-        let sum = (register & 0b1001_0101).count_ones() % 2;
-        Some(register << 1 | sum as u8)
-    };
-    std::iter::successors(Some(0xFF), shift).map(|register| register >> 7 == 1)
-}
-
-/// Step 7, which is its own inverse.
-pub fn randomize(bits: &[bool]) -> Vec<bool> {
-    bits.iter()
-        .zip(sequence())
-        .map(|(&bit, pn)| bit ^ pn)
-        .collect()
-}
-
-/// Steps 5 to 7: the packed word of 15,120 coded bits.
+/// Steps 5 and 6: the packed word of 15,120 coded bits.
 pub fn word_of_coded(coded: &[bool]) -> Vec<u8> {
-    pack(&randomize(&accumulate(&interleave(coded))))
+    pack(&accumulate(&interleave(coded)))
 }
 
-/// Steps 4 to 7, for any input bits: with wrong ones, words that no block makes.
+/// Steps 4 to 6, for any input bits: with wrong ones, words that no block makes.
 pub fn word_of_inputs(rate: &Rate, inputs: &[bool]) -> Vec<u8> {
     word_of_coded(&encode(rate, inputs))
 }
@@ -182,9 +187,9 @@ fn deinterleave(bits: &[bool]) -> Vec<bool> {
     coded
 }
 
-/// Steps 5 to 7 undone, the last first.
+/// Steps 6 and 5 undone, the last first.
 pub fn coded_of_word(word: &[u8]) -> Vec<bool> {
-    deinterleave(&differences(&randomize(&unpack(word))))
+    deinterleave(&differences(&unpack(word)))
 }
 
 /// The input bits, read from the code's second output alone.
@@ -233,15 +238,15 @@ pub fn read(rate: u64, word: &[u8], block_len: usize) -> Result<Vec<u8>, Refusal
     {
         return refuse(13, place);
     }
-    let (block, rest) = inputs.split_at(rate.block_bits);
+    let (taken, rest) = inputs.split_at(rate.block_bits);
     let (check_field, termination) = rest.split_at(CHECK_BITS);
     if termination.contains(&true) {
         return refuse(14, 0);
     }
-    if check_field != check_bits(check(block)) {
+    if check_field != check_bits(check(taken)) {
         return refuse(15, 0);
     }
-    Ok(pack(block))
+    Ok(pack(&randomize(taken)))
 }
 
 #[cfg(test)]
@@ -393,6 +398,18 @@ mod tests {
             let inputs = terminated(&vec![false; bits]);
             assert_eq!(inputs.len(), bits + 34);
             assert_eq!(encode(rate, &inputs).len(), WORD_BITS);
+        }
+    }
+
+    /// The sequence is on the block that the check is taken of, and nowhere else.
+    #[test]
+    fn order() {
+        for (number, rate) in rates() {
+            let block = pack(&sequence().take(rate.block_bits).collect::<Vec<_>>());
+            let word = write(number, &block, WORD_BYTES).unwrap();
+            let zeros = vec![false; rate.block_bits];
+            assert_eq!(word, word_of_inputs(rate, &checked(&zeros)));
+            assert_eq!(decode(rate, &coded_of_word(&word)), checked(&zeros));
         }
     }
 

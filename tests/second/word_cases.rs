@@ -48,7 +48,7 @@ const NONE: Damage = Damage {
     word: |_, rate, block| sound(rate, block),
 };
 
-const DAMAGES: [Damage; 17] = [
+const DAMAGES: [Damage; 19] = [
     Damage {
         name: "one bit",
         numbers: &[13, 14],
@@ -167,13 +167,30 @@ const DAMAGES: [Damage; 17] = [
         },
     },
     Damage {
-        name: "randomizer left running",
+        name: "randomizer left running over the block before", // a word of other bits
+        numbers: &[0],
+        word: |_, rate, block| {
+            let late = word::sequence().skip(block.len());
+            let bits: Vec<bool> = block.iter().zip(late).map(|(bit, pn)| bit ^ pn).collect();
+            word::word_of_inputs(rate_of(rate), &word::checked(&bits))
+        },
+    },
+    Damage {
+        name: "randomizer on the word too",
         numbers: &[13],
         word: |_, rate, block| {
-            let bits = word::randomize(&word::unpack(&sound(rate, block)));
-            let late = word::sequence().skip(WORD_BITS);
-            let bits: Vec<bool> = bits.iter().zip(late).map(|(bit, pn)| bit ^ pn).collect();
-            word::pack(&bits)
+            let bits = word::unpack(&sound(rate, block));
+            word::pack(&word::randomize(&bits))
+        },
+    },
+    Damage {
+        name: "check of the block before the randomizer",
+        numbers: &[15],
+        word: |_, rate, block| {
+            with_inputs(rate, block, |inputs, at| {
+                let check = word::check_bits(word::check(block));
+                inputs[at..at + word::CHECK_BITS].copy_from_slice(&check);
+            })
         },
     },
     Damage {
@@ -185,7 +202,7 @@ const DAMAGES: [Damage; 17] = [
             for (place, bit) in coded.into_iter().enumerate() {
                 bits[word::coded_place(place)] = bit;
             }
-            word::pack(&word::randomize(&word::accumulate(&bits)))
+            word::pack(&word::accumulate(&bits))
         },
     },
     Damage {

@@ -50,7 +50,7 @@ packed b = b ∷ replicate 1889 0
 
 abbrev pub table : List Row
 table =
-    -- step 7: the start of the randomizer's sequence, and its bit 255
+    -- step 7, which comes before step 2: the start of the randomizer's sequence, and its bit 255
     row (val sequence 40) 0b1111_1111_0100_1000_0000_1110_1100_0000_1001_1010
     ∷ row (sequence 255) 1
     -- step 5: the coded bit that output place j takes
@@ -67,7 +67,7 @@ table =
     ∷ row (val (encode 2 (these (1 ∷ 0 ∷ 0 ∷ []))) 5) 0b11_1_11
     -- step 6: the accumulator of 1101
     ∷ row (val (accumulate (these (1 ∷ 1 ∷ 0 ∷ 1 ∷ []))) 4) 0b1001
-    -- step 8: the symbol that bits 1101 are at m = 4
+    -- step 8, after step 6: the symbol that bits 1101 are at m = 4
     ∷ row (dataAt (plan 4 0) (piece wordBytes (packed 0b1101_0000)) 0) 13
     -- step 10: the slots of symbol 2 at M = 4, its guard slot last; it is the marker symbol, so that they are the run's first
     ∷ row (val (slotBit (plan 2 2) (piece wordBytes (packed 0))) (plan 2 2 .group)) 0b0010_0

@@ -9,7 +9,7 @@ ghost use Rattle.spread.specs.Spread as spreads;
 ghost use Rattle.run.specs.Run as runs;
 ghost use Rattle.calls.specs.After.{wordAfter, blockAfter, wordsAfter, blocksAfter, placesAfter, slotsAfter, framesAfter};
 
-// A packed block to its word (steps 2 to 7).
+// A packed block to its word (step 7, and then steps 2 to 6).
 #[no_mangle]
 pub extern "C" fn word_write(rate: u64, block: &[u8], word: &mut [u8]) -> u64
     ensures { λ r. ⌜ r ≡ codeOf (words.writeSays rate (now (block .entry)) (length (now (word .entry)))) ⌝ }
@@ -54,7 +54,7 @@ pub extern "C" fn bit_spread(rate: u64, bit: u64, places: &mut [u8]) -> u64
     answers::code(spread::mark(rate, bit, places))
 }
 
-// Frames to slots (steps 1 to 10).
+// Frames to slots (steps 1, 7, 2 to 6, and 8 to 10).
 #[no_mangle]
 pub extern "C" fn run_write(header: &[u8], marker: &[u8], frames: &[u8], slots: &mut [u8]) -> u64
     ensures { λ r. ⌜ r ≡ codeOf (runs.writeSays (now (header .entry)) (now (marker .entry)) (now (frames .entry)) (length (now (slots .entry)))) ⌝ }

@@ -14,7 +14,7 @@ use Rattle.sizes.specs.Rate.{infoBits, blockBytes, block-size, info-le}
 use Rattle.frames.specs.Needs.{Judged, Blocks, Held, bitOf, HeldAt}
 
 -- the bits of `pieces` blocks
-pub pieces-room : (rate pieces : ℕ) → pieces ≤ 211 → pieces * infoBits rate ≤ 211 * 10046
+pub pieces-room : (rate pieces : ℕ) → pieces ≤ 210 → pieces * infoBits rate ≤ 210 * 10046
 pieces-room rate pieces h = mul-le-mul h (info-le rate)
 
 pub judged-blocks : {rate pieces size count : ℕ} {blocks : List ℕ} → Judged rate pieces size count blocks → Blocks rate pieces blocks
@@ -42,7 +42,7 @@ module _ (rate n : ℕ) (blocks : List ℕ) (at : Place) (h : HeldAt rate blocks
       absurd (omega arith))
       (lt-or-le (at .piece) (h .held .pieces))
 
-  pub piece-le : at .piece ≤ 211
+  pub piece-le : at .piece ≤ 210
   piece-le = let p = piece-in in let t = h .held .lie .pieces2 in omega arith
 
   -- m bytes of the block from the place on, and the byte behind them, lie in the blocks

@@ -10,7 +10,7 @@ use Rattle.sizes.specs.Rate.{infoBits, blockBytes}
 -- `pieces` blocks that hold the frames, perhaps with more behind them
 pub record Judged (rate pieces size count : ℕ) (blocks : List ℕ) : Type 0 where
   pub rate3 : rate < 3
-  pub pieces2 : pieces ≤ 211
+  pub pieces2 : pieces ≤ 210
   pub room : pieces * blockBytes rate ≤ length blocks
   pub size1 : 1 ≤ size
   pub size2 : size ≤ 2048
@@ -21,7 +21,7 @@ pub record Judged (rate pieces size count : ℕ) (blocks : List ℕ) : Type 0 wh
 -- `pieces` blocks lie in `blocks`
 pub record Blocks (rate pieces : ℕ) (blocks : List ℕ) : Type 0 where
   pub rate3 : rate < 3
-  pub pieces2 : pieces ≤ 211
+  pub pieces2 : pieces ≤ 210
   pub room : pieces * blockBytes rate ≤ length blocks
 
 -- so do those of the n bits from bit x on

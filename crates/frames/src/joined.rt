@@ -14,7 +14,7 @@ ghost use Rattle.frames.specs.Needs.{bitOf, HeldAt, Zeros};
 
 // The bit of the packed blocks that a place is.
 pub fn packed_bit(rate: u64, at: Place) -> usize
-    requires { ⌜ (rate < 3) × (at .piece ≤ 211) × (at .bit < infoBits rate) ⌝ }
+    requires { ⌜ (rate < 3) × (at .piece ≤ 210) × (at .bit < infoBits rate) ⌝ }
     ensures { λ y. ⌜ y ≡ at .piece * (8 * blockBytes rate) + at .bit ⌝ }
 {
     let block = at.piece;

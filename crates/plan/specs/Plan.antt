@@ -50,7 +50,7 @@ pub record Fine (p : Plan) : Type 0 where
   pub group-is : p .group ≡ p .order + p .order / 4
   pub symbols-are : p .symbols * p .bits ≡ wordBits
   pub words-least : 1 ≤ p .words
-  pub words-most : p .words ≤ 211
+  pub words-most : p .words ≤ 210
   pub rows-least : 1 ≤ p .rows
   pub rows-most : p .rows ≤ 128
   pub step-most : p .step ≤ 256

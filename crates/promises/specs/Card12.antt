@@ -1,7 +1,7 @@
 -- Card 12. What the check field adds: any difference, and any flips, within 32 consecutive bits.
 --
 -- An information block is the k bits of a packed block (`infoBits`), and `bitAt` is bit i of packed bytes. `takenIn` is the block as step 2 takes it
--- in, `checkedBlock` these k bits followed by their check, `checkField` that check as a number. `carriedOn` is steps 3 to 7 of any k + 32 bits.
+-- in, `checkedBlock` these k bits followed by their check, `checkField` that check as a number. `carriedOn` is steps 3 to 6 of any k + 32 bits.
 use mathlib.Core.Path.{_≡_}
 use mathlib.Core.Bool.{Bool, true}
 use mathlib.Core.List.{List}

@@ -50,14 +50,14 @@ module _ (f : Fields) (v : Valid f) where
   pub info-some : 1 ≤ infoBits (f .rate)
   info-some = let k = info-least (f .rate) (v .rate) in omega arith
 
-  -- T = A (8F + 64) is 72 to 1,052,672
-  pub marked-least : 72 ≤ markedBits f
+  -- T = A (8F + 32) is 40 to 1,050,624
+  pub marked-least : 40 ≤ markedBits f
   unfolding markedBits
-  marked-least = let one : 72 ≤ span (f .size) = let s = v .size-least in omega arith in mul-le-mul {n₁ = 1} (v .frames-least) one
+  marked-least = let one : 40 ≤ span (f .size) = let s = v .size-least in omega arith in mul-le-mul {n₁ = 1} (v .frames-least) one
 
-  pub marked-most : markedBits f ≤ 1052672
+  pub marked-most : markedBits f ≤ 1050624
   unfolding markedBits
-  marked-most = let one : span (f .size) ≤ 16448 = let s = v .size-most in omega arith in mul-le-mul (v .frames-most) one
+  marked-most = let one : span (f .size) ≤ 16416 = let s = v .size-most in omega arith in mul-le-mul (v .frames-most) one
 
   -- C blocks hold T bits, and one less do not: fewer than k bits are fill
   pub blocks-hold : markedBits f ≤ blockCount f * infoBits (f .rate)
@@ -90,7 +90,7 @@ module _ (f : Fields) (v : Valid f) where
       let b : blockCount f * infoBits (f .rate) < markedBits f + infoBits (f .rate) = rw e at a in
       let s = fill-sum in omega arith
 
-  pub blocks-most : blockCount f ≤ 211
+  pub blocks-most : blockCount f ≤ 210
   blocks-most =
       let n = blocks-needed in
       let m = marked-most in
@@ -99,7 +99,7 @@ module _ (f : Fields) (v : Valid f) where
 
   -- ---- step 9
 
-  pub coded-most : blockCount f * symbolsPerWord f ≤ 211 * 7560
+  pub coded-most : blockCount f * symbolsPerWord f ≤ 210 * 7560
   coded-most = mul-le-mul blocks-most (symbols-most f (v .shaped))
 
   -- C words of 1,890 bytes hold the bits of the symbols
@@ -109,7 +109,7 @@ module _ (f : Fields) (v : Valid f) where
       let a = mul-assoc (blockCount f) (symbolsPerWord f) (f .bits) in
       omega arith
 
-  pub sequence-most : sequenceLength f ≤ 5756696
+  pub sequence-most : sequenceLength f ≤ 5749136
   unfolding sequenceLength
   sequence-most = let a = coded-most in let b = spread-most f (v .shaped) in omega arith
 
@@ -137,7 +137,7 @@ module _ (f : Fields) (v : Valid f) where
           absurd (let l = symbols-least f (v .shaped) in omega arith)
       by (suc r) e = omega arith
 
-  pub lines-most : lineCount f ≤ 3045
+  pub lines-most : lineCount f ≤ 3041
   lines-most =
       let m = sequence-most in
       let e = lines-whole in
@@ -151,17 +151,17 @@ module _ (f : Fields) (v : Valid f) where
   unfolding symbolCount
   symbol-sum = let e = lines-whole in omega arith
 
-  symbol-bound : symbolCount f ≤ 5854136
+  symbol-bound : symbolCount f ≤ 5846448
   symbol-bound =
       let e = symbol-sum in
       let m = sequence-most in
-      let w : lineCount f * f .markers ≤ 3045 * 32 = mul-le-mul lines-most (v .markers-most) in
+      let w : lineCount f * f .markers ≤ 3041 * 32 = mul-le-mul lines-most (v .markers-most) in
       omega arith
 
   pub symbol-most : symbolCount f < 2 ^ 23
   symbol-most = let m = symbol-bound in omega arith
 
-  slot-bound : slotCount f ≤ 5854136 * 320
+  slot-bound : slotCount f ≤ 5846448 * 320
   unfolding slotCount
   slot-bound = mul-le-mul symbol-bound (group-most f (v .shaped))
 

@@ -48,7 +48,7 @@ byte-period m i =
     let e : 8 * (255 * m + i) + t ≡ 8 * i + t + 255 * (8 * m) = omega arith in
     ap sequence e ∙ sequence-period (8 * i + t) (8 * m))
 
--- ---- a byte of the word
+-- ---- a byte of the block
 
 val-plus : (f g : ℕ → ℕ) → Bits f → Bits g → (n : ℕ) → val (λ t. bitXor (f t) (g t)) n ≡ bitXor (val f n) (val g n)
 unfolding val

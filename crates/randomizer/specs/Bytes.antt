@@ -1,4 +1,4 @@
--- The randomizer, a byte at a time: each byte of the sequence is added to a byte of the word.
+-- The randomizer, a byte at a time: each byte of the sequence is added to a byte of the block.
 use mathlib.Core.Path.{_≡_}
 use mathlib.Core.List.{List}
 use Prim.Native.Nat.{ℕ, _+_, _*_, _≤_, _<_}

@@ -1,15 +1,16 @@
--- Step 7, the randomizer: adds a sequence whose first eight bits are 1, each later bit the sum of those 1, 3, 5 and 8 places before it.
+-- Step 7, the randomizer: adds a sequence whose first eight bits are 1, each later bit the sum of those 1, 3, 5 and 8 places before it. It starts
+-- anew at each block, and comes before step 2.
 use mathlib.Core.Path.{_≡_, sym, ap, ap₂, _∙_}
 use mathlib.Core.List.{List, _∷_}
 use Prim.Native.Nat.{ℕ, zero, suc, _+_, _-_, _≤_, _<_}
 use native.Mathlib.Omega.{arith}
 use mathlib.Core.Logic.{⊎-elim}
 use native.Mathlib.Nat.{add-zero}
-use lib.Bits.{bitXor, xor-comm}
+use lib.Bits.{bitXor, xor-self, xor-zero-r}
 use lib.ListN.{length, getD, take, replicate, getD-replicate, length-take, List·getD-eq-default}
 use lib.Seq.{getD-take}
 use Rattle.bits.specs.Choice.{lt-or-le}
-use Rattle.bits.specs.Sum.{xor-assoc, xor-cancel-r, xor-bit, sum3, sum3-self, sum3-cross}
+use Rattle.bits.specs.Sum.{xor-cross, xor-cancel-r, xor-bit, sum3, sum3-self, sum3-cross}
 use Rattle.bits.specs.Pack.{Bits}
 
 -- eight bits in a row, the newest first; the sum of those 1, 3, 5 and 8 places before the next joins them, and the oldest leaves
@@ -103,8 +104,9 @@ randomize-sum3 f g h j =
     ap (λ (s : ℕ). bitXor (sum3 (f j) (g j) (h j)) s) (sym (sum3-self (sequence j)))
     ∙ sym (sum3-cross (f j) (sequence j) (g j) (sequence j) (h j) (sequence j))
 
-pub randomize-plus : (f g : ℕ → ℕ) (j : ℕ) → randomize (λ i. bitXor (f i) (g i)) j ≡ bitXor (randomize f j) (g j)
+pub randomize-differ : (f g : ℕ → ℕ) (j : ℕ) → bitXor (randomize f j) (randomize g j) ≡ bitXor (f j) (g j)
 unfolding randomize
-randomize-plus f g j =
-    xor-assoc (f j) (g j) (sequence j) ∙ ap (λ (b : ℕ). bitXor (f j) b) (xor-comm (g j) (sequence j))
-    ∙ sym (xor-assoc (f j) (sequence j) (g j))
+randomize-differ f g j =
+    xor-cross (f j) (sequence j) (g j) (sequence j)
+    ∙ ap (bitXor (bitXor (f j) (g j))) (xor-self (sequence j))
+    ∙ xor-zero-r (bitXor (f j) (g j))

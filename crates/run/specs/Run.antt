@@ -23,7 +23,7 @@ use Rattle.capture.specs.Answer.{slotsSay}
 
 -- ---- from frames to slots
 
--- step 1: the stream of the marked frames; steps 2 to 7: the word of its block j
+-- step 1: the stream of the marked frames; step 7, and then steps 2 to 6: the word of its block j
 unfoldable pub streamOf : Fields → List ℕ → ℕ → ℕ
 streamOf f frames = streamBit (f .size) (f .frames) frames
 

@@ -40,13 +40,13 @@ module _ (header marker frames : List ℕ) where
   abbrev pub block : ℕ → List ℕ
   block j = blockAt (fieldsOf header .rate) step1 j
 
-  -- steps 2 to 7: word j
-  abbrev pub steps2to7 : ℕ → List ℕ
-  steps2to7 j = wordOf (fieldsOf header .rate) (block j)
+  -- step 7, and then steps 2 to 6: word j
+  abbrev pub word : ℕ → List ℕ
+  word j = wordOf (fieldsOf header .rate) (block j)
 
   -- step 8: symbol t of all words
   abbrev pub step8 : ℕ → ℕ
-  step8 t = dataAt (planIn header marker) steps2to7 t
+  step8 t = dataAt (planIn header marker) word t
 
   -- step 9: the place of symbol t, the symbol that hits a place, and what stands there
   abbrev pub step9 : ℕ → ℕ
@@ -56,14 +56,14 @@ module _ (header marker frames : List ℕ) where
   hit x = hitBy (planIn header marker) x
 
   abbrev pub standing : ℕ → ℕ
-  standing x = placed (planIn header marker) steps2to7 x
+  standing x = placed (planIn header marker) word x
 
   -- step 10: symbol s with markers counted, and slot x
   abbrev pub step10 : ℕ → ℕ
-  step10 s = symbolAt (planIn header marker) steps2to7 s
+  step10 s = symbolAt (planIn header marker) word s
 
   abbrev pub slot : ℕ → ℕ
-  slot x = slotBit (planIn header marker) steps2to7 x
+  slot x = slotBit (planIn header marker) word x
 
   -- a run is these slots, packed
   pub run-is : runOf header marker frames ≡ bytesOf (slotBytes (planIn header marker)) slot
@@ -78,7 +78,7 @@ module _ (header marker frames : List ℕ) where
 
   -- symbol t is m bits of word t / S, the first bit highest
   pub symbol-is : (t : ℕ)
-      → step8 t ≡ val (λ i. bitAt (steps2to7 (t / planIn header marker .symbols)) (planIn header marker .bits * (t % planIn header marker .symbols) + i)) (planIn header marker .bits)
+      → step8 t ≡ val (λ i. bitAt (word (t / planIn header marker .symbols)) (planIn header marker .bits * (t % planIn header marker .symbols) + i)) (planIn header marker .bits)
   unfolding channel.dataAt
   symbol-is t = refl
 

@@ -39,11 +39,11 @@ use Rattle.bits.specs.Pieces.{piece}
 use Rattle.sizes.specs.Sizes.{wordBytes}
 
 -- the bytes of as many packed blocks as any rate can have
-few-blocks : (rate : ℕ) → rate < 3 → (c : ℕ) → (c - 1) * infoBits rate < 1052672 → c * blockBytes rate ≤ 132086
+few-blocks : (rate : ℕ) → rate < 3 → (c : ℕ) → (c - 1) * infoBits rate < 1050624 → c * blockBytes rate ≤ 131880
 unfolding infoBits blockBytes
-few-blocks = by-rate (λ (r : ℕ). (c : ℕ) → (c - 1) * infoBits r < 1052672 → c * blockBytes r ≤ 132086) (λ c h. omega arith) (λ c h. omega arith) (λ c h. omega arith)
+few-blocks = by-rate (λ (r : ℕ). (c : ℕ) → (c - 1) * infoBits r < 1050624 → c * blockBytes r ≤ 131880) (λ c h. omega arith) (λ c h. omega arith) (λ c h. omega arith)
 
-pub most-blocks : (f : Fields) → Valid f → blockCount f * blockBytes (f .rate) ≤ 132086
+pub most-blocks : (f : Fields) → Valid f → blockCount f * blockBytes (f .rate) ≤ 131880
 most-blocks f v = few-blocks (f .rate) (v .rate) (blockCount f) (omega (arith, blocks-needed f v, marked-most f v))
 
 -- a room that holds nothing yet

@@ -102,8 +102,8 @@ fn read_many(q: Parameters, slots: &[u8], frames: &mut [u8]) -> Answer
     ensures { λ r. ⌜ r ≡ bufferSays (q .fields) (planOf q) (now (slots .entry)) ⌝ }
     ensures { λ r. ⌜ now (frames .exit) ≡ after r (framesOf (q .fields) (wordOut (planOf q) (now (slots .entry)))) (now (frames .entry)) ⌝ }
 {
-    let mut words = [0u8; 398791];
-    let mut blocks = [0u8; 132086];
+    let mut words = [0u8; 396901];
+    let mut blocks = [0u8; 131880];
     read_in(q, slots, &mut words, &mut blocks, frames)
 }
 

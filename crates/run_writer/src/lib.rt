@@ -58,7 +58,7 @@ fn write_many(q: Parameters, frames: &[u8], slots: &mut [u8])
     ensures { λ _. ⌜ now (slots .exit) ≡ slotsOf (planOf q) (wordAt (q .fields) (now (frames .entry))) ⌝ }
 {
     let mut space = [0u8; 1256];
-    let mut words = [0u8; 398790];
+    let mut words = [0u8; 396900];
     write_in(q, frames, &mut space, &mut words, slots)
 }
 

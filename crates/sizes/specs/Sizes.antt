@@ -10,10 +10,10 @@ wordBytes = 1890
 
 -- the frame marker, and its bits (step 1)
 abbrev pub frameMarker : ℕ
-frameMarker = 0x034776C7272895B0
+frameMarker = 0x1ACFFC1D
 
 abbrev pub markerBits : ℕ
-markerBits = 64
+markerBits = 32
 
 -- the bits of a marked frame of `size` bytes
 abbrev pub span : ℕ → ℕ

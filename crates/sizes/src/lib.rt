@@ -10,9 +10,9 @@ pub const WORD_BITS: usize = 15120;
 pub const WORD_BYTES: usize = 1890;
 
 // The frame marker, and its bits.
-pub const FRAME_MARKER: u64 = 0x034776C7272895B0;
+pub const FRAME_MARKER: u64 = 0x1ACFFC1D;
 
-pub const MARKER_BITS: usize = 64;
+pub const MARKER_BITS: usize = 32;
 
 // The bits of a marked frame of `size` bytes.
 pub fn span(size: usize) -> usize

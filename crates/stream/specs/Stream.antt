@@ -27,6 +27,6 @@ unfoldable pub blockAt : ℕ → (ℕ → ℕ) → ℕ → List ℕ
 blockAt rate stream j = bytesOf (blockBytes rate) (cut (infoBits rate) (λ i. stream (j * infoBits rate + i)))
 
 -- The stream of one frame of one byte, A4: the marker stands before the frame, its first bit highest; zeros follow.
-pub one-frame : bytesOf 10 (streamBit 1 1 (0xA4 ∷ [])) ≡ 0x03 ∷ 0x47 ∷ 0x76 ∷ 0xC7 ∷ 0x27 ∷ 0x28 ∷ 0x95 ∷ 0xB0 ∷ 0xA4 ∷ 0x00 ∷ []
+pub one-frame : bytesOf 6 (streamBit 1 1 (0xA4 ∷ [])) ≡ 0x1A ∷ 0xCF ∷ 0xFC ∷ 0x1D ∷ 0xA4 ∷ 0x00 ∷ []
 unfolding bytesOf tab val streamBit markerBit bitAt
 one-frame = refl

@@ -32,7 +32,7 @@ distances rate a b ea eb i l ne =
     let zero-at : (i : ℕ) → infoBits rate + 32 ≤ i → δ i ≡ 0 = λ i u. ap₂ bitXor (Laws.input-end rate a i u) (Laws.input-end rate b i u) in
     let one : δ i ≡ 1 =
     ⊎-elim
-    (λ (z : δ i ≡ 0). absurd (ne (sym (Laws.input-block rate a i l) ∙ same-xor (x i) (y i) z ∙ Laws.input-block rate b i l)))
+    (λ (z : δ i ≡ 0). absurd (ne (Laws.taken-one a b i (sym (Laws.input-block rate a i l) ∙ same-xor (x i) (y i) z ∙ Laws.input-block rate b i l))))
     (λ (o : δ i ≡ 1). o)
     (bit-cases (δ i) (bδ i)) in
     let count : differences (codedIn (wordOf rate a)) (codedIn (wordOf rate b)) wordBits ≡ weight (encode rate δ) wordBits =

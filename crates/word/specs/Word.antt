@@ -1,4 +1,4 @@
--- Words: the 15,120 bits made from one information block by steps 2 to 7, the way back, and the questions that the two calls put.
+-- Words: the 15,120 bits made from one information block by step 7 and then steps 2 to 6, the way back, and the questions that the two calls put.
 -- The definitions are shut: the crates above know them by the laws of `Exports`, and `promises` has what the customer is promised of them.
 use mathlib.Core.Path.{_≡_}
 use mathlib.Core.Bool.{Bool}
@@ -26,11 +26,11 @@ pub mod Checks
 
 -- ---- from a block to its word
 
--- the block's bits, as step 2 takes them in
+-- step 7, which comes first and starts anew at each block: its bits, as step 2 takes them in
 pub takenIn : List ℕ → ℕ → ℕ
-takenIn block = bitAt block
+takenIn block = randomize (bitAt block)
 
--- step 2: the k bits of the block, and their check behind them
+-- step 2: the k bits, and their check behind them
 pub checkedBlock : ℕ → List ℕ → ℕ → ℕ
 checkedBlock rate block = checked (infoBits rate) (takenIn block)
 
@@ -46,33 +46,34 @@ inputOf rate block = terminated (infoBits rate + 32) (checkedBlock rate block)
 pub codedOf : ℕ → List ℕ → ℕ → ℕ
 codedOf rate block = encode rate (inputOf rate block)
 
--- steps 5, 6 and 7
+-- steps 5 and 6: the accumulator's output is the word
 pub shuffled : (ℕ → ℕ) → ℕ → ℕ
-shuffled coded = randomize (accumulate (interleave coded))
+shuffled coded = accumulate (interleave coded)
 
 pub wordOf : ℕ → List ℕ → List ℕ
 wordOf rate block = bytesOf wordBytes (shuffled (codedOf rate block))
 
--- steps 3 to 7 of any k + 32 bits
+-- steps 3 to 6 of any k + 32 bits
 pub carriedOn : ℕ → (ℕ → ℕ) → List ℕ
 carriedOn rate x = bytesOf wordBytes (shuffled (encode rate (terminated (infoBits rate + 32) x)))
 
 -- ---- from a word back to its block
 
--- the coded bits taken back out: steps 7, 6 and 5 undone, the last first
+-- the coded bits taken back out: steps 6 and 5 undone, the last first
 pub codedIn : List ℕ → ℕ → ℕ
-codedIn word = deinterleave (differentiate (randomize (bitAt word)))
+codedIn word = deinterleave (differentiate (bitAt word))
 
 -- the input bits, from the second output alone
 pub inputIn : ℕ → List ℕ → ℕ → ℕ
 inputIn rate word = decode rate (codedIn word)
 
--- the block: the first k of them, packed, and the two spare bits 0
+-- k bits, packed, and the two spare bits 0
 pub packedBlock : ℕ → (ℕ → ℕ) → List ℕ
 packedBlock rate x = bytesOf (blockBytes rate) (cut (infoBits rate) x)
 
+-- the block: the first k input bits, with step 7 undone
 pub blockIn : ℕ → List ℕ → List ℕ
-blockIn rate word = packedBlock rate (inputIn rate word)
+blockIn rate word = packedBlock rate (randomize (inputIn rate word))
 
 -- two packings of the same k bits: whatever their spare bits
 abbrev pub SameBits : ℕ → List ℕ → List ℕ → Type 0

@@ -1,22 +1,23 @@
-// Steps 7 to 2 undone, and the questions on the way: a word to its block.
+// Steps 6 to 2 and then step 7 undone, and the questions on the way: a word to its block.
 use answers::Answer;
 ghost use mathlib.Core.Path.{_≡_};
 ghost use Prim.Native.Nat.{_+_};
 ghost use lib.ListN.{getD};
+ghost use Rattle.bits.specs.Pack.{bitAt};
 ghost use Rattle.bits.specs.Table.{tab};
 ghost use Rattle.sizes.specs.Sizes.{wordBits};
 ghost use Rattle.convolution.specs.Code as code;
+ghost use Rattle.randomizer.specs.Randomizer.{randomize};
 ghost use Rattle.answers.specs.Answer.{after};
 ghost use Rattle.word.specs.Word.{codedIn, inputIn, blockIn, packedBlock, judged};
-ghost use Rattle.word.specs.Needs.{Undoes, Reads, Settles, Judges, Words};
+ghost use Rattle.word.specs.Needs.{Undoes, Reads, Settles, Judges, Gives, Words};
 
-// The coded bits taken back out: steps 7, 6 and 5 undone.
+// The coded bits taken back out: steps 6 and 5 undone.
 fn take_out(word: &[u8], work: &mut [u8], coded: &mut [u8])
     requires { ⌜ Undoes (now word) (now work) (now coded) ⌝ }
     ensures { λ _. ⌜ now (coded .exit) ≡ tab wordBits (codedIn (now (word .entry))) ⌝ }
 {
     bytes::copy(word, work);
-    randomizer::randomize(work);
     accumulator::differentiate(work);
     interleaver::deinterleave(work, coded);
 }
@@ -45,11 +46,21 @@ fn judge(rate: u64, coded: &[u8], input: &[u8], block: &[u8]) -> Answer
     Answer::Done
 }
 
+// Step 7 undone: the block of the k bits that step 2 took in, and spare bits of 0.
+fn give_out(rate: u64, packed: &[u8], block: &mut [u8])
+    requires { ⌜ Gives rate (now packed) (now block) ⌝ }
+    ensures { λ _. ⌜ now (block .exit) ≡ packedBlock rate (randomize (bitAt (now (packed .entry)))) ⌝ }
+{
+    bytes::copy(packed, block);
+    randomizer::randomize(block);
+    bits::change::clear_spare(block, sizes::info_bits(rate));
+}
+
 // The block of the input bits, if the questions are answered yes. Nothing is written before they are.
 fn settle(rate: u64, coded: &[u8], input: &[u8], packed: &mut [u8], block: &mut [u8]) -> Answer
     requires { ⌜ Settles rate (now coded) (now input) (now packed) (now block) ⌝ }
     ensures { λ r. ⌜ r ≡ judged rate (λ j. getD (now (coded .entry)) j 0) (λ i. getD (now (input .entry)) i 0) ⌝ }
-    ensures { λ r. ⌜ now (block .exit) ≡ after r (packedBlock rate (λ i. getD (now (input .entry)) i 0)) (now (block .entry)) ⌝ }
+    ensures { λ r. ⌜ now (block .exit) ≡ after r (packedBlock rate (randomize (λ i. getD (now (input .entry)) i 0))) (now (block .entry)) ⌝ }
 {
     let k = sizes::info_bits(rate);
     bits::packing::pack(&input[..k], packed);
@@ -57,7 +68,7 @@ fn settle(rate: u64, coded: &[u8], input: &[u8], packed: &mut [u8], block: &mut 
     let Answer::Done = answer else {
         return answer;
     };
-    bytes::copy(packed, block);
+    give_out(rate, packed, block);
     answer
 }
 
@@ -71,7 +82,7 @@ fn read_coded(
 ) -> Answer
     requires { ⌜ Reads rate (now coded) (now room) (now packed) (now block) ⌝ }
     ensures { λ r. ⌜ r ≡ judged rate (λ j. getD (now (coded .entry)) j 0) (code.decode rate (λ j. getD (now (coded .entry)) j 0)) ⌝ }
-    ensures { λ r. ⌜ now (block .exit) ≡ after r (packedBlock rate (code.decode rate (λ j. getD (now (coded .entry)) j 0))) (now (block .entry)) ⌝ }
+    ensures { λ r. ⌜ now (block .exit) ≡ after r (packedBlock rate (randomize (code.decode rate (λ j. getD (now (coded .entry)) j 0)))) (now (block .entry)) ⌝ }
 {
     let n = sizes::input_bits(rate);
     convolution::decode(rate, coded, &mut room[..n]);

@@ -21,7 +21,7 @@ pub(super) const NONE: Damage = Damage {
     slots: |_, sample| Some(sample.slots()),
 };
 
-pub(super) const DAMAGES: [Damage; 31] = [
+pub(super) const DAMAGES: [Damage; 33] = [
     Damage {
         name: "spare bits",
         numbers: &[9],
@@ -299,6 +299,19 @@ pub(super) const DAMAGES: [Damage; 31] = [
         },
     },
     Damage {
+        name: "check of a block before the randomizer",
+        numbers: &[15],
+        slots: |rng, sample| {
+            let (stream, mut words) = (sample.stream(), sample.words());
+            let (i, k) = (rng.below(words.len()), sample.run.block_bits());
+            words[i] = sample.word(&stream, i, |inputs, at| {
+                let check = word::check_bits(word::check(&stream[i * k..(i + 1) * k]));
+                inputs[at..at + word::CHECK_BITS].copy_from_slice(&check);
+            });
+            Some(sample.slots_of_words(&words))
+        },
+    },
+    Damage {
         name: "frame marker, check of the last word",
         numbers: &[15],
         slots: |_, sample| {
@@ -346,6 +359,19 @@ pub(super) const DAMAGES: [Damage; 31] = [
             }
             stream[at] = true;
             Some(sample.slots_of_stream(&stream))
+        },
+    },
+    Damage {
+        name: "randomizer left running over the blocks", // words of other bits
+        numbers: &[0, 16, 18],
+        slots: |_, sample| {
+            let (stream, k) = (sample.stream(), sample.run.block_bits());
+            if stream.len() == k {
+                return None;
+            }
+            let running = word::randomize(&stream);
+            let read = running.chunks(k).flat_map(word::randomize);
+            Some(sample.slots_of_stream(&read.collect::<Vec<bool>>()))
         },
     },
     Damage {

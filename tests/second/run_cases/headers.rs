@@ -57,7 +57,7 @@ pub(super) fn some_header(rng: &mut Rng, sizes: &Sizes, index: u64) -> Header {
     let frames = rng.pick(&[1, 2, 3, 5, 64, any]);
     let bits_of_frames = (blocks - 1) * k + 1 + rng.next() % k;
     let frame_bytes = (bits_of_frames / frames / 8)
-        .saturating_sub(8)
+        .saturating_sub(4)
         .clamp(1, 2048);
     let any = 1 + rng.next() % 32;
     let marker = rng.pick(&[1, 2, 32, any]);
@@ -82,7 +82,7 @@ fn no_fill(header: Header, fours: u64) -> Header {
     Header {
         rate: 1,
         frames: 53,
-        frame_bytes: 71 * fours - 8,
+        frame_bytes: 71 * fours - 4,
         ..header
     }
 }

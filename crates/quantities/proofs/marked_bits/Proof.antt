@@ -1,4 +1,4 @@
--- 64 marked frames of 16,448 bits are far below 2^64.
+-- 64 marked frames of 16,416 bits are far below 2^64.
 use mathlib.Core.Path.{refl}
 use Prim.Native.Nat.{_*_, _≤_}
 use native.Mathlib.Omega.{arith}
@@ -19,7 +19,7 @@ mul-result-2 : tie.Need-mul-result-2
 unfolding markedBits
 mul-result-2 c =
     let f = c .before .before .args .f in
-    let most : f .frames * span (f .size) ≤ 1052672 = marked-most f (c .before .before .pre) in
+    let most : f .frames * span (f .size) ≤ 1050624 = marked-most f (c .before .before .pre) in
     omega arith
 
 returns : tie.Need-returns

@@ -1,4 +1,4 @@
--- At most 211 · 7,560 symbols and 4,161,536 places between them.
+-- At most 210 · 7,560 symbols and 4,161,536 places between them.
 use mathlib.Core.Path.{_≡_, ap₂}
 use Prim.Native.Nat.{ℕ, _+_, _*_}
 use native.Mathlib.Omega.{arith}

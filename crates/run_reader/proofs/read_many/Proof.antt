@@ -21,9 +21,9 @@ read-in-requires c κs =
     let v = s .pre .valid in
     record {
       entered = s .pre;
-      words-fit = let n = blocks-most f v in let l = length-replicate {A = ℕ} 398791 0 in omega arith;
-      empty = empty-room 398791;
-      blocks-fit = let n = most-blocks f v in let l = length-replicate {A = ℕ} 132086 0 in omega arith;
+      words-fit = let n = blocks-most f v in let l = length-replicate {A = ℕ} 396901 0 in omega arith;
+      empty = empty-room 396901;
+      blocks-fit = let n = most-blocks f v in let l = length-replicate {A = ℕ} 131880 0 in omega arith;
     }
 
 same-length : tie.Need-same-length

@@ -38,11 +38,11 @@ abbrev μ-loop : tie.MeasureT-loop
 μ-loop f words blocks₀ n h j₀ blocks j = n - j
 
 -- block j lies in its room, which no run fills with more
-inside : (s : tie.Start Inv-loop μ-loop) (n h j : ℕ) → n ≡ blockCount (s .args .f) → h ≡ blockBytes (s .args .f .rate) → j < n → (j * h + h ≤ length (s .args .blocks .now)) × (j * h + h ≤ 132086)
+inside : (s : tie.Start Inv-loop μ-loop) (n h j : ℕ) → n ≡ blockCount (s .args .f) → h ≡ blockBytes (s .args .f .rate) → j < n → (j * h + h ≤ length (s .args .blocks .now)) × (j * h + h ≤ 131880)
 inside s n h j en eh l =
     let a : (j + 1) * h ≤ n * h = mul-le-mul (let k : j + 1 ≤ n = omega arith in k) (le-refl h) in
     let b : n * h ≤ length (s .args .blocks .now) = rw (en, eh) (s .pre .blocks-fit) in
-    let c : n * h ≤ 132086 = rw (en, eh) (most-blocks (s .args .f) (s .pre .valid)) in
+    let c : n * h ≤ 131880 = rw (en, eh) (most-blocks (s .args .f) (s .pre .valid)) in
     (omega arith, omega arith)
 
 block-count-requires : tie.Need-block-count-requires Inv-loop μ-loop

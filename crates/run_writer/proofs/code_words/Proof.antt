@@ -21,7 +21,7 @@ Inv-loop f frames space₀ words₀ n j₀ space words j =
 abbrev μ-loop : tie.MeasureT-loop
 μ-loop f frames space₀ words₀ n j₀ space words j = n - j
 
-few : (s : tie.Start Inv-loop μ-loop) (n : ℕ) → n ≡ blockCount (s .args .f) → n ≤ 211
+few : (s : tie.Start Inv-loop μ-loop) (n : ℕ) → n ≡ blockCount (s .args .f) → n ≤ 210
 few s n e = omega (arith, blocks-most (s .args .f) (s .pre .valid))
 
 block-count-requires : tie.Need-block-count-requires Inv-loop μ-loop

@@ -17,7 +17,7 @@ slice-aggregate-write-in-2 c = search needs
 
 write-in-requires : tie.Need-write-in-requires
 write-in-requires c κs =
-    record { entered = c .before .before .before .before .before .pre; space-is = refl; words-fit = let few : blockCount (c .before .before .before .before .before .args .q .fields) ≤ 211 = blocks-most (c .before .before .before .before .before .args .q .fields) (c .before .before .before .before .before .pre .valid) in let l = length-replicate {A = ℕ} 398790 0 in omega arith }
+    record { entered = c .before .before .before .before .before .pre; space-is = refl; words-fit = let few : blockCount (c .before .before .before .before .before .args .q .fields) ≤ 210 = blocks-most (c .before .before .before .before .before .args .q .fields) (c .before .before .before .before .before .pre .valid) in let l = length-replicate {A = ℕ} 396900 0 in omega arith }
 
 same-length : tie.Need-same-length
 same-length c = search needs

@@ -8,7 +8,7 @@ use lib.Bits.{bitXor, xor-zero-r, xor-self}
 use borrow.Author.Tests.{ne-eqb}
 use Rattle.bits.specs.Choice.{bool, bool-lt, bool-yes}
 use Rattle.bits.specs.Sum.{xor-bit, xor-cancel}
-use Rattle.bits.specs.Pack.{Bits, val, bitAt, bit-lt, val-same, val-bits, cut-in}
+use Rattle.bits.specs.Pack.{Bits, val, bitAt, val-same, val-bits, cut-in}
 use Rattle.sizes.specs.Rate.{infoBits, inputBits, blockBytes}
 use Rattle.crc.specs.Check.{register, register-lt, register-same, checkBit, checked-block, checked-check}
 use Rattle.crc.specs.Found.{DifferWithin, registers-differ, field-zero}
@@ -35,8 +35,10 @@ field-behind rate block =
 -- blocks that differ, and only within 32 consecutive bits, have different check fields
 pub checks-differ : (rate : ℕ) (a b : List ℕ) (start : ℕ) → DifferWithin (bitAt a) (bitAt b) (infoBits rate) start
     → (i : ℕ) → i < infoBits rate → (bitAt a i ≡ bitAt b i → ⊥) → checkField rate a ≡ checkField rate b → ⊥
-unfolding checkField takenIn
-checks-differ rate a b start within i l ne = registers-differ (bitAt a) (bitAt b) (bit-lt a) (bit-lt b) (infoBits rate) start within i l ne
+unfolding checkField
+checks-differ rate a b start within i l ne =
+    registers-differ (takenIn a) (takenIn b) (Laws.taken-bits a) (Laws.taken-bits b) (infoBits rate) start
+    (λ j u no. within j u (λ e. no (Laws.taken-same a b j e))) i l (λ e. ne (Laws.taken-one a b i e))
 
 -- k + 32 bits whose last 32 are the check of the others leave a register of zeros, as the block with its check does
 zero-behind : (rate : ℕ) (block : List ℕ) → register (checkedBlock rate block) (infoBits rate + 32) ≡ 0

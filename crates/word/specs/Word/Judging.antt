@@ -2,27 +2,20 @@
 use mathlib.Core.Path.{_≡_, refl, sym, ap, _∙_}
 use mathlib.Core.Bool.{true}
 use mathlib.Core.List.{List}
-use Prim.Native.Nat.{ℕ, _+_, _*_, _<_}
-use native.Mathlib.Omega.{arith}
+use Prim.Native.Nat.{ℕ, _+_, _<_}
 use lib.Dec.{eqb}
 use lib.ListN.{getD}
 use borrow.Author.Tests.{eq-eqb, ne-eqb}
 use Rattle.bits.specs.First.{upTo}
-use Rattle.bits.specs.Pack.{val, bitAt, cut, Bits, bit-bytes, cut-in, cut-bits}
-use Rattle.sizes.specs.Rate.{infoBits, blockBytes, block-size}
+use Rattle.bits.specs.Pack.{val, bitAt}
+use Rattle.sizes.specs.Rate.{infoBits}
 use Rattle.sizes.specs.Sizes.{wordBits}
 use Rattle.crc.specs.Check.{register, register-same}
 use Rattle.convolution.specs.Code.{encode}
 use Rattle.word.specs.Word.{packedBlock, agrees, firstWrong, endsInZeros, checkRight, judged}
+use Rattle.word.specs.Word.Lists.{packed-bit}
 use Rattle.word.specs.Word.Answers as Answers
 use Rattle.answers.specs.declared.Answer.the-variants.{Done, No}
-
--- the bits of a packed block
-pub packed-bit : (rate : ℕ) (x : ℕ → ℕ) → rate < 3 → Bits x → (i : ℕ) → i < infoBits rate → bitAt (packedBlock rate x) i ≡ x i
-unfolding packedBlock
-packed-bit rate x h b i l =
-    let size : 8 * blockBytes rate ≡ infoBits rate + 2 = block-size rate h in
-    bit-bytes (blockBytes rate) (cut (infoBits rate) x) (cut-bits (infoBits rate) x b) i (omega arith) ∙ cut-in (infoBits rate) x i l
 
 -- the place that a scan found, and where the block ends
 module _ (rate : ℕ) (coded input : List ℕ) (at k : ℕ) (found : at ≡ upTo (λ j. eqb (getD coded j 0) (encode rate (λ i. getD input i 0) j)) 0 wordBits) (ek : k ≡ infoBits rate) where

@@ -1,7 +1,7 @@
 -- What holds of words. Only this file and those beside it open the definitions of `Word`.
 use mathlib.Core.Path.{_≡_, refl, sym, ap, ap₂, _∙_}
 use mathlib.Core.Bool.{true}
-use mathlib.Core.List.{List}
+use mathlib.Core.List.{List, []}
 use mathlib.Core.Logic.{⊎-elim}
 use Prim.Native.Nat.{ℕ, _+_, _-_, _*_, _/_, _%_, _^_, _≤_, _<_}
 use native.Mathlib.Omega.{arith}
@@ -10,36 +10,51 @@ use lib.Dec.{eqb}
 use lib.ListN.{length, getD}
 use borrow.Author.Tests.{eq-eqb, eqb-true}
 use Rattle.bits.specs.Choice.{bool, lt-or-le}
-use Rattle.bits.specs.Sum.{sum3}
+use Rattle.bits.specs.Sum.{sum3, xor-same, same-xor}
 use Rattle.bits.specs.Table.{both-true, tab, getD-tab, tab-same}
 use Rattle.bits.specs.First.{none-fails, all-pass}
 use Rattle.bits.specs.Pack.{val, bitAt, bytesOf, cut, Bytes, Bits, bit-lt, bit-bytes, bit-val, val-bits, val-same, bytes-made, bytes-same, bytes-are, length-bytes, cut-in, cut-past, cut-bits, cut-same, cut-sum3}
-use Rattle.sizes.specs.Rate.{infoBits, inputBits, blockBytes, block-size}
+use Rattle.sizes.specs.Rate.{infoBits, inputBits, blockBytes, inputsPer, codedPer, block-size}
 use Rattle.sizes.specs.Sizes.{wordBits, wordBytes}
-use Rattle.crc.specs.Check.{register, register-same, register-lt, checkBit, checked, checked-block, checked-check, checked-bits, checked-same, checked-sum3}
+use Rattle.crc.specs.Check.{advance, register, register-same, register-lt, checkBit, checked, checked-block, checked-check, checked-bits, checked-same, checked-sum3}
 use Rattle.crc.specs.Difference.{checkedChange, checked-plus, change-same}
-use Rattle.convolution.specs.Code.{terminated, encode, encode-bits, encode-same, encode-plus, decode-bits, decode-same, decode-encode}
+use Rattle.convolution.specs.Code.{terminated, stepOf, first, second, delay, encode, encode-bits, encode-same, encode-plus, decode-bits, decode-same, decode-encode}
 use Rattle.interleaver.specs.Interleaver.{place, interleave, deinterleave, interleave-bits, deinterleave-bits, interleave-same, deinterleave-same, deinterleave-interleave, interleave-deinterleave, interleave-plus, deinterleave-plus}
 use Rattle.accumulator.specs.Accumulator.{accumulate, differentiate, accumulate-bits, differentiate-bits, accumulate-same, differentiate-same, accumulate-plus, differentiate-plus, differentiate-accumulate, accumulate-differentiate}
-use Rattle.randomizer.specs.Randomizer.{sequence, window, next, randomize, randomize-bits, randomize-same, randomize-twice, randomize-plus, randomize-sum3}
+use Rattle.randomizer.specs.Randomizer.{sequence, window, next, randomize, randomize-bits, randomize-same, randomize-twice, randomize-sum3, randomize-differ}
 use Rattle.word.specs.Word.{SameBits, Packed, takenIn, checkedBlock, inputOf, codedOf, shuffled, wordOf, carriedOn, codedIn, inputIn, packedBlock, blockIn, agrees, firstWrong, endsInZeros, checkRight}
 
--- ---- the order of steps 6 and 7: where all coded bits are 0, the word is step 7's sequence, FF 48 ..
+-- ---- the order of the steps, in worked values
 
-pub order-example : val (shuffled (λ i. 0)) 16 ≡ 0xFF48
-unfolding shuffled randomize accumulate interleave sequence window next val
+-- step 7 before step 2: of a block of zeros step 2 takes in step 7's sequence, FF 48 .., and the register after its first 16 bits is this
+pub order-example-2 : (val (checkedBlock 0 []) 16 ≡ 0xFF48) × (register (takenIn []) 16 ≡ 0x9D5BC5BB)
+unfolding checkedBlock checked takenIn register advance randomize sequence window next bitAt infoBits val
+order-example-2 = (refl, refl)
+
+-- all of them, in their order: the word of a block of zeros at rate 1/3 begins with the byte CE
+pub order-example : val (shuffled (codedOf 0 [])) 8 ≡ 0xCE
+unfolding shuffled accumulate interleave place codedOf encode stepOf first second delay inputsPer codedPer inputOf checkedBlock checked takenIn randomize sequence window next bitAt infoBits cut val
 order-example = refl
 
--- and of step 5 before step 6: coded bit 221 alone goes to place 1, and from there on the accumulator turns every bit over
-pub order-example-5 : val (shuffled (λ i. bool (eqb i 221))) 16 ≡ 0x80B7
-unfolding shuffled randomize accumulate interleave place sequence window next val
+-- step 5 before step 6, and nothing behind it: coded bit 221 alone goes to place 1, and from there on the accumulator turns every bit over
+pub order-example-5 : val (shuffled (λ i. bool (eqb i 221))) 16 ≡ 0x7FFF
+unfolding shuffled accumulate interleave place val
 order-example-5 = refl
 
 -- ---- bits all the way
 
 pub taken-bits : (block : List ℕ) → Bits (takenIn block)
 unfolding takenIn
-taken-bits block = bit-lt block
+taken-bits block = randomize-bits (bitAt block) (bit-lt block)
+
+-- step 7 adds the same to all blocks: where their bits are the same, so are those that step 2 takes in, and only there
+pub taken-same : (a b : List ℕ) (i : ℕ) → bitAt a i ≡ bitAt b i → takenIn a i ≡ takenIn b i
+unfolding takenIn
+taken-same a b i e = randomize-same (bitAt a) (bitAt b) i e
+
+pub taken-one : (a b : List ℕ) (i : ℕ) → takenIn a i ≡ takenIn b i → bitAt a i ≡ bitAt b i
+unfolding takenIn
+taken-one a b i e = same-xor (bitAt a i) (bitAt b i) (sym (randomize-differ (bitAt a) (bitAt b) i) ∙ xor-same (takenIn a i) (takenIn b i) e)
 
 pub checked-block-bits : (rate : ℕ) (block : List ℕ) → Bits (checkedBlock rate block)
 unfolding checkedBlock
@@ -55,36 +70,30 @@ coded-bits rate block = encode-bits rate (inputOf rate block) (input-bits rate b
 
 pub shuffled-bits : (c : ℕ → ℕ) → Bits c → Bits (shuffled c)
 unfolding shuffled
-shuffled-bits c h =
-    randomize-bits (accumulate (interleave c)) (accumulate-bits (interleave c) (interleave-bits c h))
+shuffled-bits c h = accumulate-bits (interleave c) (interleave-bits c h)
 
 pub coded-in-bits : (word : List ℕ) → Bits (codedIn word)
 unfolding codedIn
-coded-in-bits word =
-    deinterleave-bits (differentiate (randomize (bitAt word)))
-    (differentiate-bits (randomize (bitAt word)) (randomize-bits (bitAt word) (bit-lt word)))
+coded-in-bits word = deinterleave-bits (differentiate (bitAt word)) (differentiate-bits (bitAt word) (bit-lt word))
 
 pub input-in-bits : (rate : ℕ) (word : List ℕ) → Bits (inputIn rate word)
 unfolding inputIn
 input-in-bits rate word = decode-bits rate (codedIn word) (coded-in-bits word)
 
--- ---- steps 5 to 7 and their undoing
+-- ---- steps 5 and 6 and their undoing
 
 -- coded bits that agree make the same word
 pub shuffled-same : (c d : ℕ → ℕ) → ((x : ℕ) → x < wordBits → c x ≡ d x) → (j : ℕ) → shuffled c j ≡ shuffled d j
 unfolding shuffled
-shuffled-same c d h j =
-    randomize-same (accumulate (interleave c)) (accumulate (interleave d)) j
-    (accumulate-same (interleave c) (interleave d) j (λ i l. interleave-same c d h i))
+shuffled-same c d h j = accumulate-same (interleave c) (interleave d) j (λ i l. interleave-same c d h i)
 
 -- the coded bits of a word that was made of coded bits
 pub coded-back : (c : ℕ → ℕ) → Bits c → (x : ℕ) → x < wordBits → codedIn (bytesOf wordBytes (shuffled c)) x ≡ c x
 unfolding codedIn shuffled
 coded-back c h x l =
-    deinterleave-same (differentiate (randomize (bitAt (bytesOf wordBytes (shuffled c))))) (interleave c) (λ j k.
-    differentiate-same (randomize (bitAt (bytesOf wordBytes (shuffled c)))) (accumulate (interleave c)) j (λ i b.
-    randomize-same (bitAt (bytesOf wordBytes (shuffled c))) (shuffled c) i (bit-bytes wordBytes (shuffled c) (shuffled-bits c h) i (omega arith))
-    ∙ randomize-twice (accumulate (interleave c)) i)
+    deinterleave-same (differentiate (bitAt (bytesOf wordBytes (shuffled c)))) (interleave c) (λ j k.
+    differentiate-same (bitAt (bytesOf wordBytes (shuffled c))) (accumulate (interleave c)) j (λ i b.
+    bit-bytes wordBytes (shuffled c) (shuffled-bits c h) i (omega arith))
     ∙ differentiate-accumulate (interleave c) j) x
     ∙ deinterleave-interleave c x l
 
@@ -94,24 +103,20 @@ unfolding codedIn shuffled
 word-again word e b =
     sym (bytes-made wordBytes (shuffled (codedIn word)) word e b (λ j l.
     sym
-    (randomize-same (accumulate (interleave (codedIn word))) (randomize (bitAt word)) j
-    (accumulate-same (interleave (codedIn word)) (differentiate (randomize (bitAt word))) j (λ i k.
-    interleave-deinterleave (differentiate (randomize (bitAt word))) i (omega arith))
-    ∙ accumulate-differentiate (randomize (bitAt word)) j)
-    ∙ randomize-twice (bitAt word) j)))
+    (accumulate-same (interleave (codedIn word)) (differentiate (bitAt word)) j (λ i k.
+    interleave-deinterleave (differentiate (bitAt word)) i (omega arith))
+    ∙ accumulate-differentiate (bitAt word) j)))
 
--- steps 5 to 7 on packed bytes, one after another, as the code takes them
-pub shuffled-made : (c : ℕ → ℕ) (w1 w2 w3 : List ℕ) → Bits c → w1 ≡ bytesOf wordBytes (interleave c) → w2 ≡ bytesOf (length w1) (accumulate (bitAt w1))
-    → w3 ≡ bytesOf wordBytes (randomize (bitAt w2)) → w3 ≡ bytesOf wordBytes (shuffled c)
+-- steps 5 and 6 on packed bytes, one after another, as the code takes them
+pub shuffled-made : (c : ℕ → ℕ) (w1 w2 : List ℕ) → Bits c → w1 ≡ bytesOf wordBytes (interleave c) → w2 ≡ bytesOf (length w1) (accumulate (bitAt w1))
+    → w2 ≡ bytesOf wordBytes (shuffled c)
 unfolding shuffled
-shuffled-made c w1 w2 w3 h e1 e2 e3 =
+shuffled-made c w1 w2 h e1 e2 =
     let n1 : length w1 ≡ wordBytes = ap length e1 ∙ length-bytes wordBytes (interleave c) in
-    e3 ∙ bytes-same wordBytes (randomize (bitAt w2)) (shuffled c) (λ j l.
-    randomize-same (bitAt w2) (accumulate (interleave c)) j
-    (ap (λ (w : List ℕ). bitAt w j) e2
-    ∙ bit-bytes (length w1) (accumulate (bitAt w1)) (accumulate-bits (bitAt w1) (bit-lt w1)) j (omega arith)
-    ∙ accumulate-same (bitAt w1) (interleave c) j (λ i k.
-    ap (λ (w : List ℕ). bitAt w i) e1 ∙ bit-bytes wordBytes (interleave c) (interleave-bits c h) i (omega arith))))
+    e2 ∙ ap (λ (n : ℕ). bytesOf n (accumulate (bitAt w1))) n1
+    ∙ bytes-same wordBytes (accumulate (bitAt w1)) (shuffled c) (λ j l.
+    accumulate-same (bitAt w1) (interleave c) j (λ i k.
+    ap (λ (w : List ℕ). bitAt w i) e1 ∙ bit-bytes wordBytes (interleave c) (interleave-bits c h) i (omega arith)))
 
 -- the word of a list of coded bits
 pub word-from : (rate : ℕ) (block coded : List ℕ) → coded ≡ tab wordBits (codedOf rate block) → bytesOf wordBytes (shuffled (λ j. getD coded j 0)) ≡ wordOf rate block
@@ -121,41 +126,34 @@ word-from rate block coded e =
     shuffled-same (λ j. getD coded j 0) (codedOf rate block) (λ x k.
     ap (λ (xs : List ℕ). getD xs x 0) e ∙ getD-tab wordBits (codedOf rate block) x k) j)
 
--- and steps 7 to 5 undone
-pub coded-made : (word w0 w1 w2 coded : List ℕ) → w0 ≡ word → w1 ≡ bytesOf wordBytes (randomize (bitAt w0)) → w2 ≡ bytesOf (length w1) (differentiate (bitAt w1))
-    → coded ≡ tab wordBits (deinterleave (bitAt w2)) → coded ≡ tab wordBits (codedIn word)
+-- and steps 6 and 5 undone
+pub coded-made : (word w0 w1 coded : List ℕ) → length word ≡ wordBytes → w0 ≡ word → w1 ≡ bytesOf (length w0) (differentiate (bitAt w0))
+    → coded ≡ tab wordBits (deinterleave (bitAt w1)) → coded ≡ tab wordBits (codedIn word)
 unfolding codedIn
-coded-made word w0 w1 w2 coded e0 e1 e2 e3 =
-    let n1 : length w1 ≡ wordBytes = ap length e1 ∙ length-bytes wordBytes (randomize (bitAt w0)) in
-    e3 ∙ tab-same wordBits (deinterleave (bitAt w2)) (codedIn word) (λ x l.
-    deinterleave-same (bitAt w2) (differentiate (randomize (bitAt word))) (λ j k.
-    ap (λ (w : List ℕ). bitAt w j) e2
-    ∙ bit-bytes (length w1) (differentiate (bitAt w1)) (differentiate-bits (bitAt w1) (bit-lt w1)) j (omega arith)
-    ∙ differentiate-same (bitAt w1) (randomize (bitAt word)) j (λ i b.
-    ap (λ (w : List ℕ). bitAt w i) (e1 ∙ ap (λ (w : List ℕ). bytesOf wordBytes (randomize (bitAt w))) e0)
-    ∙ bit-bytes wordBytes (randomize (bitAt word)) (randomize-bits (bitAt word) (bit-lt word)) i (omega arith))) x)
+coded-made word w0 w1 coded n0 e0 e1 e2 =
+    e2 ∙ tab-same wordBits (deinterleave (bitAt w1)) (codedIn word) (λ x l.
+    deinterleave-same (bitAt w1) (differentiate (bitAt word)) (λ j k.
+    ap (λ (w : List ℕ). bitAt w j) (e1 ∙ ap (λ (w : List ℕ). bytesOf (length w) (differentiate (bitAt w))) e0)
+    ∙ bit-bytes (length word) (differentiate (bitAt word)) (differentiate-bits (bitAt word) (bit-lt word)) j (omega arith)) x)
 
--- bits added to a word are added, as steps 7, 6 and 5 undone leave them, to its coded bits
+-- bits added to a word are added, as steps 6 and 5 undone leave them, to its coded bits
 pub coded-plus : (word other : List ℕ) (e : ℕ → ℕ) → ((j : ℕ) → j < wordBits → bitAt other j ≡ bitXor (bitAt word j) (e j))
     → (x : ℕ) → codedIn other x ≡ bitXor (codedIn word x) (deinterleave (differentiate e) x)
 unfolding codedIn
 coded-plus word other e h x =
-    deinterleave-same (differentiate (randomize (bitAt other))) (λ j. bitXor (differentiate (randomize (bitAt word)) j) (differentiate e j)) (λ j l.
-    differentiate-same (randomize (bitAt other)) (λ i. bitXor (randomize (bitAt word) i) (e i)) j (λ i k.
-    randomize-same (bitAt other) (λ i. bitXor (bitAt word i) (e i)) i (h i (omega arith)) ∙ randomize-plus (bitAt word) e i)
-    ∙ differentiate-plus (randomize (bitAt word)) e j) x
-    ∙ deinterleave-plus (differentiate (randomize (bitAt word))) (differentiate e) x
+    deinterleave-same (differentiate (bitAt other)) (λ j. bitXor (differentiate (bitAt word) j) (differentiate e j)) (λ j l.
+    differentiate-same (bitAt other) (λ i. bitXor (bitAt word i) (e i)) j (λ i k. h i (omega arith))
+    ∙ differentiate-plus (bitAt word) e j) x
+    ∙ deinterleave-plus (differentiate (bitAt word)) (differentiate e) x
 
 -- the word of the sum of three is the sum of the three words, bit by bit
 pub shuffled-sum3 : (c d e : ℕ → ℕ) (j : ℕ) → shuffled (λ x. sum3 (c x) (d x) (e x)) j ≡ sum3 (shuffled c j) (shuffled d j) (shuffled e j)
 unfolding shuffled
 shuffled-sum3 c d e j =
-    randomize-same (accumulate (interleave (λ x. sum3 (c x) (d x) (e x)))) (λ i. sum3 (accumulate (interleave c) i) (accumulate (interleave d) i) (accumulate (interleave e) i)) j
-    (accumulate-same (interleave (λ x. sum3 (c x) (d x) (e x))) (λ i. sum3 (interleave c i) (interleave d i) (interleave e i)) j (λ i l.
+    accumulate-same (interleave (λ x. sum3 (c x) (d x) (e x))) (λ i. sum3 (interleave c i) (interleave d i) (interleave e i)) j (λ i l.
     interleave-plus (λ x. bitXor (c x) (d x)) e i ∙ ap (λ (b : ℕ). bitXor b (interleave e i)) (interleave-plus c d i))
     ∙ accumulate-plus (λ i. bitXor (interleave c i) (interleave d i)) (interleave e) j
-    ∙ ap (λ (b : ℕ). bitXor b (accumulate (interleave e) j)) (accumulate-plus (interleave c) (interleave d) j))
-    ∙ randomize-sum3 (accumulate (interleave c)) (accumulate (interleave d)) (accumulate (interleave e)) j
+    ∙ ap (λ (b : ℕ). bitXor b (accumulate (interleave e) j)) (accumulate-plus (interleave c) (interleave d) j)
 
 -- the input bits of the sum, and its coded bits
 pub coded-sum3 : (rate : ℕ) (a b c s : List ℕ) → rate < 3 → ((i : ℕ) → i < infoBits rate → bitAt s i ≡ sum3 (bitAt a i) (bitAt b i) (bitAt c i))
@@ -167,60 +165,87 @@ coded-sum3 rate a b c s h e j l =
     let y : ℕ → ℕ = inputOf rate b in
     let z : ℕ → ℕ = inputOf rate c in
     encode-same rate (inputOf rate s) (λ i. sum3 (x i) (y i) (z i)) h (λ i u.
-    cut-same (k + 32) (checked k (bitAt s)) (λ i. sum3 (checked k (bitAt a) i) (checked k (bitAt b) i) (checked k (bitAt c) i)) (λ i v.
-    checked-same k (bitAt s) (λ i. sum3 (bitAt a i) (bitAt b i) (bitAt c i)) e i
-    ∙ checked-sum3 k (bitAt a) (bitAt b) (bitAt c) (bit-lt a) (bit-lt b) (bit-lt c) i) i
-    ∙ cut-sum3 (k + 32) (checked k (bitAt a)) (checked k (bitAt b)) (checked k (bitAt c)) i) j l
+    cut-same (k + 32) (checked k (takenIn s)) (λ i. sum3 (checked k (takenIn a) i) (checked k (takenIn b) i) (checked k (takenIn c) i)) (λ i v.
+    checked-same k (takenIn s) (λ i. sum3 (takenIn a i) (takenIn b i) (takenIn c i)) (λ i m.
+    randomize-same (bitAt s) (λ i. sum3 (bitAt a i) (bitAt b i) (bitAt c i)) i (e i m) ∙ randomize-sum3 (bitAt a) (bitAt b) (bitAt c) i) i
+    ∙ checked-sum3 k (takenIn a) (takenIn b) (takenIn c) (taken-bits a) (taken-bits b) (taken-bits c) i) i
+    ∙ cut-sum3 (k + 32) (checked k (takenIn a)) (checked k (takenIn b)) (checked k (takenIn c)) i) j l
     ∙ encode-plus rate (λ i. bitXor (x i) (y i)) z j
     ∙ ap (λ (b : ℕ). bitXor b (encode rate z j)) (encode-plus rate x y j)
 
 -- ---- blocks
 
--- the three parts of the input bits
-pub input-block : (rate : ℕ) (block : List ℕ) (i : ℕ) → i < infoBits rate → inputOf rate block i ≡ bitAt block i
-unfolding inputOf checkedBlock takenIn
-input-block rate block i l =
-    cut-in (infoBits rate + 32) (checked (infoBits rate) (bitAt block)) i (omega arith) ∙ checked-block (infoBits rate) (bitAt block) i l
+-- the three parts that steps 2 and 3 make of k bits x
+module _ (k : ℕ) (x : ℕ → ℕ) (i : ℕ) where
+  pub part-block : i < k → terminated (k + 32) (checked k x) i ≡ x i
+  part-block l = cut-in (k + 32) (checked k x) i (omega arith) ∙ checked-block k x i l
 
-pub input-check : (rate : ℕ) (block : List ℕ) (i : ℕ) → i < 32 → inputOf rate block (infoBits rate + i) ≡ checkBit (register (bitAt block) (infoBits rate)) i
-unfolding inputOf checkedBlock takenIn
-input-check rate block i l =
-    let e : infoBits rate + i - infoBits rate ≡ i = omega arith in
-    cut-in (infoBits rate + 32) (checked (infoBits rate) (bitAt block)) (infoBits rate + i) (omega arith)
-    ∙ checked-check (infoBits rate) (bitAt block) (infoBits rate + i) (omega arith)
-    ∙ ap (checkBit (register (bitAt block) (infoBits rate))) e
+  pub part-check : i < 32 → terminated (k + 32) (checked k x) (k + i) ≡ checkBit (register x k) i
+  part-check l =
+      let e : k + i - k ≡ i = omega arith in
+      cut-in (k + 32) (checked k x) (k + i) (omega arith) ∙ checked-check k x (k + i) (omega arith) ∙ ap (checkBit (register x k)) e
+
+  pub part-end : k + 32 ≤ i → terminated (k + 32) (checked k x) i ≡ 0
+  part-end l = cut-past (k + 32) (checked k x) i l
+
+-- and those of the input bits
+pub input-block : (rate : ℕ) (block : List ℕ) (i : ℕ) → i < infoBits rate → inputOf rate block i ≡ takenIn block i
+unfolding inputOf checkedBlock
+input-block rate block i l = part-block (infoBits rate) (takenIn block) i l
+
+pub input-check : (rate : ℕ) (block : List ℕ) (i : ℕ) → i < 32 → inputOf rate block (infoBits rate + i) ≡ checkBit (register (takenIn block) (infoBits rate)) i
+unfolding inputOf checkedBlock
+input-check rate block i l = part-check (infoBits rate) (takenIn block) i l
 
 pub input-end : (rate : ℕ) (block : List ℕ) (i : ℕ) → infoBits rate + 32 ≤ i → inputOf rate block i ≡ 0
-unfolding inputOf checkedBlock takenIn
-input-end rate block i l = cut-past (infoBits rate + 32) (checked (infoBits rate) (bitAt block)) i l
+unfolding inputOf checkedBlock
+input-end rate block i l = part-end (infoBits rate) (takenIn block) i l
 
--- where two blocks differ, their input bits differ by what the difference of their k bits makes, and so do their coded bits
+-- a block with the sequence added to its bytes, as the code takes it in
+pub taken-made : (rate : ℕ) (block w0 w1 : List ℕ) → length block ≡ blockBytes rate → w0 ≡ block → w1 ≡ bytesOf (length w0) (randomize (bitAt w0))
+    → w1 ≡ bytesOf (blockBytes rate) (takenIn block)
+unfolding takenIn
+taken-made rate block w0 w1 n e0 e1 =
+    e1 ∙ ap (λ (w : List ℕ). bytesOf (length w) (randomize (bitAt w))) e0 ∙ ap (λ (m : ℕ). bytesOf m (randomize (bitAt block))) n
+
+-- its input bits
+pub input-taken : (rate : ℕ) (block taken : List ℕ) → rate < 3 → taken ≡ bytesOf (blockBytes rate) (takenIn block)
+    → (i : ℕ) → terminated (infoBits rate + 32) (checked (infoBits rate) (bitAt taken)) i ≡ inputOf rate block i
+unfolding inputOf checkedBlock
+input-taken rate block taken h e =
+    let k : ℕ = infoBits rate in
+    let b : 8 * blockBytes rate ≡ k + 2 = block-size rate h in
+    cut-same (k + 32) (checked k (bitAt taken)) (checked k (takenIn block)) (λ i l.
+    checked-same k (bitAt taken) (takenIn block) (λ i u.
+    ap (λ (w : List ℕ). bitAt w i) e ∙ bit-bytes (blockBytes rate) (takenIn block) (taken-bits block) i (omega arith)) i)
+
+-- where two blocks differ, their input bits differ by what the difference of their k bits makes, and so do their coded bits: step 7 adds the same to both
 input-plus : (rate : ℕ) (a b : List ℕ) (i : ℕ)
-    → bitXor (inputOf rate a i) (inputOf rate b i) ≡ terminated (infoBits rate + 32) (checkedChange (infoBits rate) (λ i. bitXor (bitAt a i) (bitAt b i))) i
-unfolding inputOf checkedBlock takenIn
+    → bitXor (inputOf rate a i) (inputOf rate b i) ≡ terminated (infoBits rate + 32) (checkedChange (infoBits rate) (λ i. bitXor (takenIn a i) (takenIn b i))) i
+unfolding inputOf checkedBlock
 input-plus rate a b i =
     let k : ℕ = infoBits rate in
-    let d : ℕ → ℕ = checkedChange k (λ i. bitXor (bitAt a i) (bitAt b i)) in
+    let d : ℕ → ℕ = checkedChange k (λ i. bitXor (takenIn a i) (takenIn b i)) in
     ⊎-elim
     (λ (l : i < k + 32).
-    ap₂ bitXor (cut-in (k + 32) (checked k (bitAt a)) i l) (cut-in (k + 32) (checked k (bitAt b)) i l)
-    ∙ checked-plus k (bitAt a) (bitAt b) (bit-lt a) (bit-lt b) i
+    ap₂ bitXor (cut-in (k + 32) (checked k (takenIn a)) i l) (cut-in (k + 32) (checked k (takenIn b)) i l)
+    ∙ checked-plus k (takenIn a) (takenIn b) (taken-bits a) (taken-bits b) i
     ∙ sym (cut-in (k + 32) d i l))
     (λ (l : k + 32 ≤ i).
-    ap₂ bitXor (cut-past (k + 32) (checked k (bitAt a)) i l) (cut-past (k + 32) (checked k (bitAt b)) i l)
+    ap₂ bitXor (cut-past (k + 32) (checked k (takenIn a)) i l) (cut-past (k + 32) (checked k (takenIn b)) i l)
     ∙ sym (cut-past (k + 32) d i l))
     (lt-or-le i (k + 32))
 
 pub coded-change : (rate : ℕ) (a b : List ℕ) (d : ℕ → ℕ) → rate < 3 → ((i : ℕ) → i < infoBits rate → bitXor (bitAt a i) (bitAt b i) ≡ d i)
     → (j : ℕ) → j < wordBits → bitXor (codedOf rate a j) (codedOf rate b j) ≡ encode rate (terminated (infoBits rate + 32) (checkedChange (infoBits rate) d)) j
-unfolding codedOf
+unfolding codedOf takenIn
 coded-change rate a b d h e j l =
     let k : ℕ = infoBits rate in
-    let x : ℕ → ℕ = λ i. bitXor (bitAt a i) (bitAt b i) in
+    let x : ℕ → ℕ = λ i. bitXor (takenIn a i) (takenIn b i) in
     sym (encode-plus rate (inputOf rate a) (inputOf rate b) j)
     ∙ encode-same rate (λ i. bitXor (inputOf rate a i) (inputOf rate b i)) (terminated (k + 32) (checkedChange k d)) h (λ i u.
     input-plus rate a b i
-    ∙ cut-same (k + 32) (checkedChange k x) (checkedChange k d) (λ i v. change-same k x d e i) i) j l
+    ∙ cut-same (k + 32) (checkedChange k x) (checkedChange k d) (λ i v. change-same k x d (λ i w. randomize-differ (bitAt a) (bitAt b) i ∙ e i w) i) i) j l
 
 -- ---- any k + 32 bits, carried on from step 3: the input bits come back, and questions 13 and 14 are passed
 
@@ -267,12 +292,22 @@ input-back rate block h i l =
     ap (λ (w : List ℕ). inputIn rate w i) (word-carried rate block) ∙ carried-input rate (checkedBlock rate block) (checked-block-bits rate block) h i l
 
 -- the k bits of the block that is read from a word
-pub block-bit : (rate : ℕ) (word : List ℕ) → rate < 3 → (i : ℕ) → i < infoBits rate → bitAt (blockIn rate word) i ≡ inputIn rate word i
+block-in-bits : (rate : ℕ) (word : List ℕ) → Bits (randomize (inputIn rate word))
+block-in-bits rate word = randomize-bits (inputIn rate word) (input-in-bits rate word)
+
+pub block-bit : (rate : ℕ) (word : List ℕ) → rate < 3 → (i : ℕ) → i < infoBits rate → bitAt (blockIn rate word) i ≡ randomize (inputIn rate word) i
 unfolding blockIn packedBlock
 block-bit rate word h i l =
     let b : 8 * blockBytes rate ≡ infoBits rate + 2 = block-size rate h in
-    bit-bytes (blockBytes rate) (cut (infoBits rate) (inputIn rate word)) (cut-bits (infoBits rate) (inputIn rate word) (input-in-bits rate word)) i (omega arith)
-    ∙ cut-in (infoBits rate) (inputIn rate word) i l
+    let x : ℕ → ℕ = randomize (inputIn rate word) in
+    bit-bytes (blockBytes rate) (cut (infoBits rate) x) (cut-bits (infoBits rate) x (block-in-bits rate word)) i (omega arith)
+    ∙ cut-in (infoBits rate) x i l
+
+-- step 2 takes in the input bits that were read
+taken-again : (rate : ℕ) (word : List ℕ) → rate < 3 → (i : ℕ) → i < infoBits rate → takenIn (blockIn rate word) i ≡ inputIn rate word i
+unfolding takenIn
+taken-again rate word h i l =
+    randomize-same (bitAt (blockIn rate word)) (randomize (inputIn rate word)) i (block-bit rate word h i l) ∙ randomize-twice (inputIn rate word) i
 
 -- ---- a written word passes each question
 
@@ -287,25 +322,30 @@ unfolding checkRight inputBits checkBit
 passes-15 rate block h =
     let x : ℕ → ℕ = inputIn rate (wordOf rate block) in
     let k : ℕ = infoBits rate in
-    let r : ℕ = register (bitAt block) k in
+    let r : ℕ = register (takenIn block) k in
     eq-eqb (val (λ i. x (k + i)) 32) (register x k)
     (val-same (λ i. x (k + i)) (λ i. r / 2 ^ (32 - 1 - i) % 2) 32 (λ i l. input-back rate block h (k + i) (omega arith) ∙ input-check rate block i l)
-    ∙ val-bits r 32 (register-lt (bitAt block) (bit-lt block) k)
-    ∙ register-same (bitAt block) x k (λ i l. sym (input-back rate block h i (omega arith) ∙ input-block rate block i l)))
+    ∙ val-bits r 32 (register-lt (takenIn block) (taken-bits block) k)
+    ∙ register-same (takenIn block) x k (λ i l. sym (input-back rate block h i (omega arith) ∙ input-block rate block i l)))
 
 -- and gives its block back: the k bits, and all of it where its spare bits were 0
+bit-back : (rate : ℕ) (block : List ℕ) → rate < 3 → (i : ℕ) → i < infoBits rate → randomize (inputIn rate (wordOf rate block)) i ≡ bitAt block i
+unfolding inputBits takenIn
+bit-back rate block h i l =
+    randomize-same (inputIn rate (wordOf rate block)) (takenIn block) i (input-back rate block h i (omega arith) ∙ input-block rate block i l)
+    ∙ randomize-twice (bitAt block) i
+
 pub bits-back : (rate : ℕ) (block : List ℕ) → rate < 3 → SameBits rate (blockIn rate (wordOf rate block)) block
-unfolding inputBits
-bits-back rate block h i l =
-    block-bit rate (wordOf rate block) h i l ∙ input-back rate block h i (omega arith) ∙ input-block rate block i l
+bits-back rate block h i l = block-bit rate (wordOf rate block) h i l ∙ bit-back rate block h i l
 
 pub block-back : (rate : ℕ) (block : List ℕ) → rate < 3 → Packed rate block → blockIn rate (wordOf rate block) ≡ block
-unfolding blockIn packedBlock inputBits
+unfolding blockIn packedBlock
 block-back rate block h p =
-    sym (bytes-made (blockBytes rate) (cut (infoBits rate) (inputIn rate (wordOf rate block))) block (p .size) (p .bytes) (λ j l.
+    let x : ℕ → ℕ = randomize (inputIn rate (wordOf rate block)) in
+    sym (bytes-made (blockBytes rate) (cut (infoBits rate) x) block (p .size) (p .bytes) (λ j l.
     ⊎-elim
-    (λ (b : j < infoBits rate). sym (cut-in (infoBits rate) (inputIn rate (wordOf rate block)) j b ∙ input-back rate block h j (omega arith) ∙ input-block rate block j b))
-    (λ (b : infoBits rate ≤ j). p .spare j b l ∙ sym (cut-past (infoBits rate) (inputIn rate (wordOf rate block)) j b))
+    (λ (b : j < infoBits rate). sym (cut-in (infoBits rate) x j b ∙ bit-back rate block h j b))
+    (λ (b : infoBits rate ≤ j). p .spare j b l ∙ sym (cut-past (infoBits rate) x j b))
     (lt-or-le j (infoBits rate))))
 
 -- ---- a word that passes them was written
@@ -341,12 +381,13 @@ sound rate word e13 e14 e15 =
 pub block-packed : (rate : ℕ) (word : List ℕ) → Packed rate (blockIn rate word)
 unfolding blockIn packedBlock
 block-packed rate word =
-    let x : ℕ → ℕ = cut (infoBits rate) (inputIn rate word) in
-    let b : Bits x = cut-bits (infoBits rate) (inputIn rate word) (input-in-bits rate word) in
+    let y : ℕ → ℕ = randomize (inputIn rate word) in
+    let x : ℕ → ℕ = cut (infoBits rate) y in
+    let b : Bits x = cut-bits (infoBits rate) y (block-in-bits rate word) in
     record {
       size = length-bytes (blockBytes rate) x;
       bytes = bytes-are (blockBytes rate) x b;
-      spare = λ i l u. bit-bytes (blockBytes rate) x b i u ∙ cut-past (infoBits rate) (inputIn rate word) i l;
+      spare = λ i l u. bit-bytes (blockBytes rate) x b i u ∙ cut-past (infoBits rate) y i l;
     }
 
 -- its input bits are those read
@@ -357,12 +398,12 @@ input-again rate word h s i l =
     let x : ℕ → ℕ = inputIn rate word in
     let b : List ℕ = blockIn rate word in
     ⊎-elim
-    (λ (u : i < k). input-block rate b i u ∙ block-bit rate word h i u)
+    (λ (u : i < k). input-block rate b i u ∙ taken-again rate word h i u)
     (λ (u : k ≤ i). ⊎-elim
     (λ (v : i < k + 32).
     let e : k + (i - k) ≡ i = omega arith in
     ap (inputOf rate b) (sym e) ∙ input-check rate b (i - k) (omega arith)
-    ∙ ap (λ (r : ℕ). checkBit r (i - k)) (register-same (bitAt b) x k (λ t w. block-bit rate word h t w) ∙ sym (s .check))
+    ∙ ap (λ (r : ℕ). checkBit r (i - k)) (register-same (takenIn b) x k (λ t w. taken-again rate word h t w) ∙ sym (s .check))
     ∙ bit-val (λ t. x (k + t)) (λ t. input-in-bits rate word (k + t)) (31 - (i - k)) (i - k) 32 (omega arith)
     ∙ ap x e)
     (λ (v : k + 32 ≤ i). input-end rate b i v ∙ sym (last i v l))
@@ -414,7 +455,8 @@ word-same rate a b h e =
     bytes-same wordBytes (shuffled (codedOf rate a)) (shuffled (codedOf rate b)) (λ j l.
     shuffled-same (codedOf rate a) (codedOf rate b) (λ x u.
     encode-same rate (inputOf rate a) (inputOf rate b) h (λ i v.
-    cut-same (infoBits rate + 32) (checkedBlock rate a) (checkedBlock rate b) (λ i w. checked-same (infoBits rate) (bitAt a) (bitAt b) e i) i) x u) j)
+    cut-same (infoBits rate + 32) (checkedBlock rate a) (checkedBlock rate b) (λ i w.
+    checked-same (infoBits rate) (takenIn a) (takenIn b) (λ i m. taken-same a b i (e i m)) i) i) x u) j)
 
 -- a list of bytes with the right bits is the word
 pub word-is : (rate : ℕ) (block xs : List ℕ) → length xs ≡ wordBytes → Bytes xs → ((j : ℕ) → j < wordBits → bitAt xs j ≡ shuffled (codedOf rate block) j) → xs ≡ wordOf rate block

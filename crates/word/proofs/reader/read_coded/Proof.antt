@@ -9,7 +9,7 @@ use Rattle.bits.specs.Table.{tab, length-tab, tab-bits}
 use Rattle.sizes.specs.Rate.{inputBits, input-room, block-room}
 use Rattle.convolution.specs.Code.{decode, decode-bits}
 use Rattle.answers.specs.Answer.{after}
-use Rattle.word.specs.Word.Lists.{judged-list, packed-list}
+use Rattle.word.specs.Word.Lists.{judged-list, undone-list}
 use borrow.Author.Needs.{needs}
 use Rattle.word.proofs.reader.read_coded.Statement.{statement}
 use Rattle.word.proofs.reader.read_coded.Tie as tie
@@ -111,7 +111,7 @@ returns c =
     let x : ℕ → ℕ = decode (s .args .rate) y in
     let e : take n (xs ++ drop n (s .args .room .now)) ≡ tab (inputBits (s .args .rate)) x = part s n en xs (d .decode .kept .1 .1 .0) ∙ d .decode .ensures in (
       t .ensures .0 ∙ judged-list (s .args .rate) y x _ (s .pre .rate-is) e,
-      t .ensures .1 ∙ ap (λ (b : List ℕ). after (t .result) b (s .args .block .now)) (packed-list (s .args .rate) x _ e),
+      t .ensures .1 ∙ ap (λ (b : List ℕ). after (t .result) b (s .args .block .now)) (undone-list (s .args .rate) x _ e),
     )
 
 pub read-coded-spec : {M : Type 1} → statement M

@@ -1,14 +1,16 @@
--- The input bits are packed aside and judged; the block is copied from there on acceptance, and otherwise left alone.
+-- The input bits are packed aside and judged; the block is given out from there on acceptance, and otherwise left alone.
 use mathlib.Core.Path.{_≡_, sym, ap, _∙_}
+use mathlib.Core.List.{List}
 use Prim.Native.Nat.{ℕ}
 use native.Mathlib.Omega.{arith}
 use lib.ListN.{length, getD}
 use lib.Seq.{length-take-le}
-use Rattle.bits.specs.Table.{copied}
+use Rattle.bits.specs.Pack.{bitAt}
 use Rattle.sizes.specs.Rate.{inputBits, block-room}
+use Rattle.randomizer.specs.Randomizer.{randomize}
 use Rattle.answers.specs.Answer.{after}
 use Rattle.word.specs.Word.{packedBlock}
-use Rattle.word.specs.Word.Lists.{packed-made, front-bits}
+use Rattle.word.specs.Word.Lists.{packed-made, front-bits, undone-packed}
 use Rattle.answers.proofs.Refused.{kept}
 use Rattle.answers.specs.declared.Answer.the-variants.{Done, No}
 use borrow.Author.Needs.{needs}
@@ -54,8 +56,8 @@ same-length c = search needs
 returns : tie.Need-returns
 returns c = (c .before .before .judge .ensures, kept (c .before .before .judge .result) _ _ (c .before .match .keys2))
 
-copy-requires : tie.Need-copy-requires
-copy-requires c κs = search needs
+give-out-requires : tie.Need-give-out-requires
+give-out-requires c κs = search needs
 
 same-length-2 : tie.Need-same-length-2
 same-length-2 c = search needs
@@ -73,10 +75,10 @@ returns-2 c =
     p .pack .ensures ∙ packed-made (s .args .rate) (s .args .input .now) (length (s .args .packed .now)) _ (s .pre .packed-is) (p .before .before .before .info-bits .ensures) in
     let done : j .judge .result ≡ Done = c .before .before .before .before .before .enum-told .given .1 in (
       j .judge .ensures,
-      c .before .before .copy .ensures .1
-          ∙ copied (p .pack .last .1 .0) (s .args .block .now) (s .pre .block-is ∙ sym (s .pre .packed-is) ∙ sym (p .pack .kept .1 .0))
-          ∙ packed
-          ∙ ap (λ (a : _). after a (packedBlock (s .args .rate) x) (s .args .block .now)) (sym done),
+      c .before .before .give-out .ensures
+          ∙ ap (λ (b : List ℕ). packedBlock (s .args .rate) (randomize (bitAt b))) packed
+          ∙ undone-packed (s .args .rate) x (s .pre .rate-is) (s .pre .input-bits)
+          ∙ ap (λ (a : _). after a (packedBlock (s .args .rate) (randomize x)) (s .args .block .now)) (sym done),
     )
 
 pub settle-spec : {M : Type 1} → statement M
@@ -91,7 +93,7 @@ settle-spec =
     enum-told-2
     same-length
     returns
-    copy-requires
+    give-out-requires
     same-length-2
     same-length-3
     returns-2)

@@ -15,6 +15,9 @@ slice-aggregate-encode c = search needs
 slice-aggregate-encode-2 : tie.Need-slice-aggregate-encode-2
 slice-aggregate-encode-2 c = search needs
 
+slice-aggregate-encode-3 : tie.Need-slice-aggregate-encode-3
+slice-aggregate-encode-3 c = search needs
+
 encode-requires : tie.Need-encode-requires
 encode-requires c κs = search needs
 
@@ -23,10 +26,10 @@ slice-aggregate-shuffle c = search needs
 
 shuffle-requires : tie.Need-shuffle-requires
 shuffle-requires c κs =
-    let s = c .before .before .before .before .before .before .before .before .before in
+    let s = c .before .before .before .before .before .before .before .before .before .before .before in
     let r = s .args .rate in
     let b = s .args .block .now in
-    let e = c .before .before .before .before .encode .ensures in
+    let e = c .before .before .before .before .before .encode .ensures in
     record {
       coded-is = ap length e ∙ length-tab wordBits (codedOf r b);
       bits-are = λ i. rw e (tab-bits wordBits (codedOf r b) (coded-bits r b) i);
@@ -38,9 +41,9 @@ same-length c = search needs
 
 returns : tie.Need-returns
 returns c =
-    let s = c .before .before .before .before .before .before .before .before .before .before .before .before in
+    let s = c .before .before .before .before .before .before .before .before .before .before .before .before .before .before in
     c .before .before .shuffle .ensures
-    ∙ word-from (s .args .rate) (s .args .block .now) _ (c .before .before .before .before .before .before .before .encode .ensures)
+    ∙ word-from (s .args .rate) (s .args .block .now) _ (c .before .before .before .before .before .before .before .before .encode .ensures)
 
 pub code-spec : {M : Type 1} → statement M
 code-spec =
@@ -48,6 +51,7 @@ code-spec =
     (tie.spec
     slice-aggregate-encode
     slice-aggregate-encode-2
+    slice-aggregate-encode-3
     encode-requires
     slice-aggregate-shuffle
     shuffle-requires

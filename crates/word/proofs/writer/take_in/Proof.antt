@@ -1,74 +1,45 @@
--- The block's bits, the check's and two zeros stand one after another, as `inputOf` has them.
-use mathlib.Core.Path.{_∙_}
-use native.Mathlib.Omega.{arith}
-use lib.ListN.{length-set}
-use Rattle.sizes.specs.Rate.{block-size, input-room}
-use Rattle.word.specs.Word.Lists.{input-made}
+-- The block is copied and the sequence added to the copy, which steps 2 and 3 take on.
+use mathlib.Core.Path.{_≡_, sym, _∙_}
+use mathlib.Core.List.{List}
+use Prim.Native.Nat.{ℕ}
+use Rattle.bits.specs.Table.{copied}
+use Rattle.word.specs.Word.Laws.{taken-made, input-taken}
 use borrow.Author.Needs.{needs}
 use Rattle.word.proofs.writer.take_in.Statement.{statement}
 use Rattle.word.proofs.writer.take_in.Tie as tie
 
-info-bits-requires : tie.Need-info-bits-requires
-info-bits-requires c κs = search needs
+copy-requires : tie.Need-copy-requires
+copy-requires c κs = search needs
 
-check-requires : tie.Need-check-requires
-check-requires c κs = let s = c .before .before .before in omega (arith, block-size (s .args .rate) (s .pre .rate-is))
+randomize-requires : tie.Need-randomize-requires
+randomize-requires c κs = search needs
 
-unpack-requires : tie.Need-unpack-requires
-unpack-requires c κs =
-    let s = c .before .before .before .before .before in
-    omega (arith, block-size (s .args .rate) (s .pre .rate-is), input-room (s .args .rate) (s .pre .rate-is))
-
-cast-put-number : tie.Need-cast-put-number
-cast-put-number c = search needs
-
-put-number-requires : tie.Need-put-number-requires
-put-number-requires c κs =
-    let s = c .before .before .before .before .before .before .before .before .before in
-    omega (arith, input-room (s .args .rate) (s .pre .rate-is), c .before .before .before .unpack .kept .1 .1 .0)
-
-add-room : tie.Need-add-room
-add-room c = let s = c .before .before .before .before .before .before .before .before .before .before .before .before in omega (arith, input-room (s .args .rate) (s .pre .rate-is))
-
-slice-write-room : tie.Need-slice-write-room
-slice-write-room c =
-    let s = c .before .before .before .before .before .before .before .before .before .before .before .before in
-    omega (arith, input-room (s .args .rate) (s .pre .rate-is), c .before .before .put-number .kept .0, c .before .before .before .before .before .before .unpack .kept .1 .1 .0)
-
-add-room-2 : tie.Need-add-room-2
-add-room-2 c = let s = c .before .before .before .before .before .before .before .before .before .before .before .before in omega (arith, input-room (s .args .rate) (s .pre .rate-is))
-
-slice-write-room-2 : tie.Need-slice-write-room-2
-slice-write-room-2 c =
-    let s = c .before .before .before .before .before .before .before .before .before .before .before .before in
-    simp length-set (omega (arith, input-room (s .args .rate) (s .pre .rate-is), c .before .before .put-number .kept .0, c .before .before .before .before .before .before .unpack .kept .1 .1 .0))
+add-check-requires : tie.Need-add-check-requires
+add-check-requires c κs = search needs
 
 same-length : tie.Need-same-length
-same-length c =
-    simp length-set (c .before .before .put-number .kept .0 ∙ c .before .before .before .before .before .before .unpack .kept .1 .1 .0)
+same-length c = search needs
+
+same-length-2 : tie.Need-same-length-2
+same-length-2 c = search needs
 
 returns : tie.Need-returns
 returns c =
-    let s = c .before .before .before .before .before .before .before .before .before .before .before .before in
-    let u = c .before .before .before .before .before .before .unpack in
-    input-made (s .args .rate) (s .args .block .now) (u .last .1 .1 .0) (c .before .before .put-number .last .0) _ _
-    (c .before .before .before .before .before .before .before .before .before .info-bits .ensures)
-    (c .before .before .before .before .before .before .before .before .check .ensures)
-    (omega (arith, input-room (s .args .rate) (s .pre .rate-is), u .kept .1 .1 .0))
-    (u .ensures) (c .before .before .put-number .ensures)
+    let p = c .before .before .before .before .before .before .before .before .before .before .before in
+    let s = p .before .before .before .before .before in
+    let a = s .args in
+    let w = c .before .before .before .before .before .before .before .randomize in
+    let e = taken-made (a .rate) (a .block .now) (p .copy .last .1 .0) (w .last .0) (s .pre .block-is)
+    (p .copy .ensures .1 ∙ copied (a .block .now) (a .taken .now) (s .pre .taken-is ∙ sym (s .pre .block-is))) (w .ensures) in
+    λ i l. c .before .before .add-check .ensures i l ∙ input-taken (a .rate) (a .block .now) (w .last .0) (s .pre .rate-is) e i
 
 pub take-in-spec : {M : Type 1} → statement M
 take-in-spec =
     tie.close
     (tie.spec
-    info-bits-requires
-    check-requires
-    unpack-requires
-    cast-put-number
-    put-number-requires
-    add-room
-    slice-write-room
-    add-room-2
-    slice-write-room-2
+    copy-requires
+    randomize-requires
+    add-check-requires
     same-length
+    same-length-2
     returns)
