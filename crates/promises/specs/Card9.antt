@@ -28,6 +28,10 @@ use Rattle.capture.specs.Capture.{wordOut}
 use Rattle.capture.specs.Answer.{slotsSay}
 use Rattle.run.specs.Run as runs
 use Rattle.run.specs.Return as run-laws
+use Rattle.pass.specs.Pass as passes
+use Rattle.pass.specs.Answers as pass-laws
+use Rattle.spread.specs.Spread.{spreadSays}
+use Rattle.spread.specs.Answers as spread-laws
 
 -- Where questions 1 to 8 are passed, the marked frames and the fill bits are all bits of the blocks, and the fill bits are fewer than k.
 pub few-fill-bits : (header marker : List ℕ) (framesLength slotsLength : ℕ) → callSays header marker framesLength slotsLength ≡ Done
@@ -68,3 +72,12 @@ run-write-not-17 header marker frames n = run-laws.write-fits header marker fram
 
 pub run-read-not-17 : (header marker slots : List ℕ) (n : ℕ) → numberOf (runs.readSays header marker slots n) ≡ 17 → ⊥
 run-read-not-17 header marker slots n = run-laws.read-fits header marker slots n .listed
+
+pub pass-write-not-17 : (rate : ℕ) (blocks : List ℕ) (n : ℕ) → numberOf (passes.writeSays rate blocks n) ≡ 17 → ⊥
+pass-write-not-17 rate blocks n = pass-laws.write-fits rate blocks n .listed
+
+pub pass-read-not-17 : (rate : ℕ) (slice : List ℕ) (n : ℕ) → numberOf (passes.readSays rate slice n) ≡ 17 → ⊥
+pass-read-not-17 rate slice n = pass-laws.read-fits rate slice n .listed
+
+pub spread-not-17 : (rate bit n : ℕ) → numberOf (spreadSays rate bit n) ≡ 17 → ⊥
+spread-not-17 rate bit n = spread-laws.spread-fits rate bit n .listed

@@ -1,7 +1,9 @@
 pub mod Demand1
 pub mod Demand2
 pub mod Demand3
+pub mod Edges
 pub mod Card2
+pub mod Card3
 pub mod Card4
 pub mod Card7
 pub mod Card9

@@ -1,4 +1,4 @@
-// The run reader: slots to frames. Questions 1 to 8, then 9 to 18, and the frames once all are
+// The run reader: slots to frames. Questions 1 to 8, then 9 to 16 and 18, and the frames once all are
 // answered yes.
 use answers::Answer;
 use header::Fields;

@@ -18,7 +18,7 @@ use Rattle.sizes.specs.Rate.{infoBits, inputBits, blockBytes, inputsPer, codedP
 use Rattle.sizes.specs.Sizes.{wordBits, wordBytes}
 use Rattle.crc.specs.Check.{advance, register, register-same, register-lt, checkBit, checked, checked-block, checked-check, checked-bits, checked-same, checked-sum3}
 use Rattle.crc.specs.Difference.{checkedChange, checked-plus, change-same}
-use Rattle.convolution.specs.Code.{terminated, stepOf, first, second, delay, encode, encode-bits, encode-same, encode-plus, decode-bits, decode-same, decode-encode}
+use Rattle.convolution.specs.Code.{terminated, stepOf, first, second, delay, encode, encode-bits, encode-same, encode-plus, decode, decode-bits, decode-same, decode-encode}
 use Rattle.interleaver.specs.Interleaver.{place, interleave, deinterleave, interleave-bits, deinterleave-bits, interleave-same, deinterleave-same, deinterleave-interleave, interleave-deinterleave, interleave-plus, deinterleave-plus}
 use Rattle.accumulator.specs.Accumulator.{accumulate, differentiate, accumulate-bits, differentiate-bits, accumulate-same, differentiate-same, accumulate-plus, differentiate-plus, differentiate-accumulate, accumulate-differentiate}
 use Rattle.randomizer.specs.Randomizer.{sequence, window, next, randomize, randomize-bits, randomize-same, randomize-twice, randomize-sum3, randomize-differ}
@@ -35,6 +35,20 @@ order-example-2 = (refl, refl)
 pub order-example : val (shuffled (codedOf 0 [])) 8 ≡ 0xCE
 unfolding shuffled accumulate interleave place codedOf encode stepOf first second delay inputsPer codedPer inputOf checkedBlock checked takenIn randomize sequence window next bitAt infoBits cut val
 order-example = refl
+
+-- the whole way in one line, and the coded bits taken back out
+pub word-steps : (rate : ℕ) (block : List ℕ)
+    → wordOf rate block ≡ bytesOf wordBytes (accumulate (interleave (encode rate (terminated (infoBits rate + 32) (checked (infoBits rate) (randomize (bitAt block)))))))
+unfolding wordOf codedOf inputOf shuffled checkedBlock takenIn
+word-steps rate block = refl
+
+pub coded-steps : (word : List ℕ) → codedIn word ≡ deinterleave (differentiate (bitAt word))
+unfolding codedIn
+coded-steps word = refl
+
+pub block-steps : (rate : ℕ) (word : List ℕ) → blockIn rate word ≡ bytesOf (blockBytes rate) (cut (infoBits rate) (randomize (decode rate (codedIn word))))
+unfolding blockIn packedBlock inputIn
+block-steps rate word = refl
 
 -- step 5 before step 6, and nothing behind it: coded bit 221 alone goes to place 1, and from there on the accumulator turns every bit over
 pub order-example-5 : val (shuffled (λ i. bool (eqb i 221))) 16 ≡ 0x7FFF
