@@ -144,6 +144,14 @@ sooner-same : (n r x y : ℕ) → y % n ≡ r → sooner n r x y ≡ ltb y x
 unfolding sooner
 sooner-same n r x y h = rw (eq-eqb (y % n) r h) refl
 
+-- before its first place the residues below it are done
+sooner-below : (n r y : ℕ) → sooner n r 0 y ≡ ltb (y % n) r
+sooner-below n r y =
+    ⊎-elim
+    (λ (h : y % n ≡ r). let a : 0 ≤ y = omega arith in let b : r ≤ y % n = omega arith in sooner-same n r 0 y h ∙ le-ltb y 0 a ∙ sym (le-ltb (y % n) r b))
+    (λ (h : y % n ≡ r → ⊥). sooner-other n r 0 y h)
+    (eq-or-ne (y % n) r)
+
 -- a stride on, one place more is before
 sooner-on : (n r x y : ℕ) → x % n ≡ r → (y ≡ x → ⊥) → sooner n r x y ≡ sooner n r (x + n) y
 sooner-on n r x y e ne =
@@ -286,6 +294,30 @@ module _ (p : Plan) (word : ℕ → List ℕ) (j : ℕ) where
       let all : sooner n n 0 y ≡ true = sooner-other n n 0 y (λ z. omega arith) ∙ lt-ltb (y % n) n low in
       ap (λ (t : Bool). pick t (placed p word y) 0) all ∙ sym (cut-in end (symbolAt p word) s m ∙ ap (symbolAt p word) e ∙ row-place k l))
       (λ l. let m : end ≤ s = omega arith in sym (cut-past end (symbolAt p word) s m))
+
+  -- residues that have no symbol in the row
+  residues-none : (a c s : ℕ) → a ≤ c → ((y : ℕ) → j * p .symbols ≤ y → y < j * p .symbols + p .symbols → a ≤ y % stride (p .rows) → y % stride (p .rows) < c → placed p word y ≡ 0)
+      → soFar p word j a 0 s ≡ soFar p word j c 0 s
+  residues-none a c s order h =
+      same-row a 0 c 0 s (λ y from to e.
+      let n : ℕ = stride (p .rows) in
+      let v : ℕ = y % n in
+      ⊎-elim
+      (λ (l : v < a). let m : v < c = omega arith in rw (sooner-below n a y, sooner-below n c y, lt-ltb v a l, lt-ltb v c m) refl)
+      (λ (l : a ≤ v). ⊎-elim
+      (λ (m : v < c). rw (sooner-below n a y, sooner-below n c y, le-ltb v a l, lt-ltb v c m) (sym (h y from to l m)))
+      (λ (m : c ≤ v). rw (sooner-below n a y, sooner-below n c y, le-ltb v a l, le-ltb v c m) refl)
+      (lt-or-le v c))
+      (lt-or-le v a))
+
+  module _ (fine : Fine p) where
+    pub residues-late : (k s : ℕ) → ((r : ℕ) → r < k → delay (p .rows) (p .step) (r % p .rows) + total p ≤ j * p .symbols) → soFar p word j 0 0 s ≡ soFar p word j k 0 s
+    residues-late k s h =
+        residues-none 0 k s (omega arith) (λ y from to a l. let q = h (y % stride (p .rows)) l in placed-late p fine word (y % stride (p .rows)) y refl (omega arith))
+
+    pub residues-early : (k s : ℕ) → k ≤ stride (p .rows) → ((r : ℕ) → k ≤ r → r < stride (p .rows) → j * p .symbols + p .symbols ≤ delay (p .rows) (p .step) (r % p .rows)) → soFar p word j k 0 s ≡ soFar p word j (stride (p .rows)) 0 s
+    residues-early k s most h =
+        residues-none k (stride (p .rows)) s most (λ y from to a l. let q = h (y % stride (p .rows)) a l in placed-early p fine word (y % stride (p .rows)) y refl (omega arith))
 
   module _ (fine : Fine p) (r : ℕ) (small : r < stride (p .rows)) where
     -- the first place of the residue that can be hit

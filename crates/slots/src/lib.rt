@@ -1,11 +1,12 @@
 // Steps 8 to 10: the words' symbols, spread by the channel interleaver, with markers before every row, as slots with one pulse to a symbol.
 use plan::Plan;
 ghost use mathlib.Core.Path.{_≡_};
-ghost use Prim.Native.Nat.{ℕ, _+_, _*_, _^_, _≤_, _<_};
+ghost use Prim.Native.Nat.{ℕ, _+_, _*_, _%_, _^_, _≤_, _<_};
 ghost use mathlib.Core.List.{List};
 ghost use lib.ListN.{length};
 ghost use Rattle.plan.specs.Plan.{Fine, unit, total, slotBytes};
 ghost use Rattle.bits.specs.Change.{flipBit};
+ghost use Rattle.channel.specs.Places.{delay};
 ghost use Rattle.bits.specs.Pieces.{piece};
 ghost use Rattle.sizes.specs.Sizes.{wordBytes};
 ghost use Rattle.slots.specs.Slots.{dataAt, slotsOf};
@@ -101,15 +102,47 @@ fn put_residue(p: Plan, words: &[u8], row: usize, c: usize, r: usize, slots: &mu
     }
 }
 
-// The pulses of a row's symbols.
+// Residues below this one have had all their symbols before place `start`.
+fn residues_from(rows: usize, step: usize, total: usize, start: usize) -> usize
+    requires { ⌜ (rows ≤ 128) × (step ≤ 256) × (start < 2 ^ 32) ⌝ }
+    ensures { λ k. ⌜ ((r : ℕ) → r < k → delay rows step (r % rows) + total ≤ start) ⌝ }
+{
+    if start < total {
+        return 0;
+    }
+    (start - total) / bits::scan::most(step * rows, 1) + 1
+}
+
+// Residues from this one on, below n, have none before place `end`.
+fn residues_to(rows: usize, step: usize, end: usize, n: usize) -> usize
+    requires { ⌜ (rows ≤ 128) × (step ≤ 256) × (1 ≤ end) ⌝ }
+    ensures { λ k. ⌜ (k ≤ n) × ((r : ℕ) → k ≤ r → r < n → end ≤ delay rows step (r % rows)) ⌝ }
+{
+    let back = step * rows;
+    if n != rows {
+        return n;
+    }
+    if back == 0 {
+        return n;
+    }
+    bits::scan::least(n, (end - 1) / back + 1)
+}
+
+// The pulses of a row's symbols. Most residues of a long run have none in it.
 fn put_residues(p: Plan, words: &[u8], row: usize, slots: &mut [u8])
     requires { ⌜ Lent p (now words) (now slots) × (row < p .lines) ⌝ }
     ensures { λ _. ⌜ ((end : ℕ) → Holds p (front p (piece wordBytes (now (words .entry))) (row * unit p + p .count)) end (now (slots .entry)) → Holds p (front p (piece wordBytes (now (words .entry))) ((row + 1) * unit p)) end (now (slots .exit))) ⌝ }
 {
-    let n = stride_of(p.rows);
-    let c = row * p.symbols % n;
-    let mut r = 0;
-    while r < n {
+    let rows = p.rows;
+    let step = p.step;
+    let symbols = p.symbols;
+    let n = stride_of(rows);
+    let start = row * symbols;
+    let c = start % n;
+    let to = residues_to(rows, step, start + symbols, n);
+    let from = residues_from(rows, step, p.words * symbols, start);
+    let mut r = bits::scan::least(from, to);
+    while r < to {
         put_residue(p, words, row, c, r, slots);
         r += 1;
     }
