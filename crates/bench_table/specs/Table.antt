@@ -40,7 +40,7 @@ plan m mark = record {
   rows = 1;
   step = 1;
   lines = 1;
-  count = 1;
+  markers = 1;
   marks = mark ∷ replicate 31 0;
 }
 

@@ -39,7 +39,7 @@ module _ (p : Plan) (fine : Fine p) (b : List ℕ) where
           most = known .most;
           ahead = λ q. ap (λ (x : ℕ). upTo (restZero p b) x (symbolCount p)) (sym s)
               ∙ first-skip (restZero p b) (to - from) (symbolCount p) from (omega arith)
-              (λ k a l. rest-zero (p .rows) (p .step) (total p) (p .symbols) (p .count) (symbolIn p b) k (h k a (omega arith)))
+              (λ k a l. rest-zero (p .rows) (p .step) (total p) (p .symbols) (p .markers) (symbolIn p b) k (h k a (omega arith)))
               ∙ known .ahead q;
           here = known .here;
           took = λ q. took-zeros p fine b words from to order h (known .took q);

@@ -33,14 +33,14 @@ module _ (p : Plan) (fine : Fine p) (b : List ℕ) where
   stands t = symbolOf p (place p t)
 
   stands-lt : (t : ℕ) → t < total p → stands t < symbolCount p
-  stands-lt = returns.stands-lt (p .rows) (p .step) (total p) (p .symbols) (p .count) (p .lines) (fine .rows-least) (bounds p fine .symbols-least) (fine .lines-are)
+  stands-lt = returns.stands-lt (p .rows) (p .step) (total p) (p .symbols) (p .markers) (p .lines) (fine .rows-least) (bounds p fine .symbols-least) (fine .lines-are)
 
   stands-one : (t u : ℕ) → stands t ≡ stands u → t ≡ u
   stands-one t u e =
       place-one (p .rows) (p .step) t u
-      (sym (place-sym (p .symbols) (p .count) (bounds p fine .symbols-least) (place p t))
-      ∙ ap (channel.placeAt (p .symbols) (p .count)) e
-      ∙ place-sym (p .symbols) (p .count) (bounds p fine .symbols-least) (place p u))
+      (sym (place-sym (p .symbols) (p .markers) (bounds p fine .symbols-least) (place p t))
+      ∙ ap (channel.placeAt (p .symbols) (p .markers)) e
+      ∙ place-sym (p .symbols) (p .markers) (bounds p fine .symbols-least) (place p u))
 
   -- the symbol of a bit of the words
   of-bit : (y : ℕ) → y < p .words * wordBits → y / p .bits < total p
@@ -81,13 +81,13 @@ module _ (p : Plan) (fine : Fine p) (b : List ℕ) where
     took-zeros from to order h = took-skip from to order (λ t l a m. h (stands t) a m)
 
     -- marker symbols
-    pub took-marks : (line from to : ℕ) → from ≤ to → line * unit p ≤ from → (from < to → to ≤ line * unit p + p .count) → Took p b from words → Took p b to words
+    pub took-marks : (line from to : ℕ) → from ≤ to → line * unit p ≤ from → (from < to → to ≤ line * unit p + p .markers) → Took p b from words → Took p b to words
     took-marks line from to order low high =
         took-skip from to order (λ t l a m.
         let some : from < to = omega arith in
         let top = high some in
-        let e : stands t % unit p ≡ stands t - line * unit p = in-line (p .symbols) (p .count) line (stands t) (omega arith) (let g = bounds p fine .symbols-least in omega arith) in
-        let f = sym-mod (p .symbols) (p .count) (bounds p fine .symbols-least) (place p t) in
+        let e : stands t % unit p ≡ stands t - line * unit p = in-line (p .symbols) (p .markers) line (stands t) (omega arith) (let g = bounds p fine .symbols-least in omega arith) in
+        let f = sym-mod (p .symbols) (p .markers) (bounds p fine .symbols-least) (place p t) in
         absurd (omega arith))
 
     -- place i of a line
@@ -96,17 +96,17 @@ module _ (p : Plan) (fine : Fine p) (b : List ℕ) where
       x = line * p .symbols + i
 
       abbrev s : ℕ
-      s = line * unit p + (p .count + i)
+      s = line * unit p + (p .markers + i)
 
       at : symbolOf p x ≡ s
       unfolding channel.symbolOf
-      at = ap₂ (λ (u v : ℕ). u * unit p + (p .count + v)) (digits-div line inside) (digits-mod line inside)
+      at = ap₂ (λ (u v : ℕ). u * unit p + (p .markers + v)) (digits-div line inside) (digits-mod line inside)
 
       back : (t : ℕ) → stands t ≡ s → place p t ≡ x
       back t e =
-          sym (place-sym (p .symbols) (p .count) (bounds p fine .symbols-least) (place p t))
-          ∙ ap (channel.placeAt (p .symbols) (p .count)) (e ∙ sym at)
-          ∙ place-sym (p .symbols) (p .count) (bounds p fine .symbols-least) x
+          sym (place-sym (p .symbols) (p .markers) (bounds p fine .symbols-least) (place p t))
+          ∙ ap (channel.placeAt (p .symbols) (p .markers)) (e ∙ sym at)
+          ∙ place-sym (p .symbols) (p .markers) (bounds p fine .symbols-least) x
 
       pub took-unhit : total p ≤ hitBy p x → Took p b s words → Took p b (s + 1) words
       took-unhit none =

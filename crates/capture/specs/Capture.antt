@@ -22,14 +22,14 @@ firstBadGroup p b = pulses.firstBadGroup (p .order) (p .group) (symbolCount p) b
 
 -- question 11: is symbol s, if it is a marker symbol, the right one? And the first that is not
 abbrev pub markRight : Plan → List ℕ → ℕ → Bool
-markRight p b s = channel.markRight (p .symbols) (p .count) (p .marks) (symbolIn p b) s
+markRight p b s = channel.markRight (p .symbols) (p .markers) (p .marks) (symbolIn p b) s
 
 unfoldable pub firstBadMark : Plan → List ℕ → ℕ
 firstBadMark p b = upTo (markRight p b) 0 (symbolCount p)
 
 -- question 12: is symbol s, if it stands at a place that is not hit, 0? And the first that is not
 abbrev pub restZero : Plan → List ℕ → ℕ → Bool
-restZero p b s = channel.restZero (p .rows) (p .step) (total p) (p .symbols) (p .count) (symbolIn p b) s
+restZero p b s = channel.restZero (p .rows) (p .step) (total p) (p .symbols) (p .markers) (symbolIn p b) s
 
 unfoldable pub firstBadRest : Plan → List ℕ → ℕ
 firstBadRest p b = upTo (restZero p b) 0 (symbolCount p)

@@ -60,7 +60,7 @@ module _ (p : Plan) (fine : Fine p) where
   sizes = bounds p fine
 
   stands-lt : (t : ℕ) → t < total p → symbolOf p (place p t) < symbolCount p
-  stands-lt = channel.stands-lt (p .rows) (p .step) (total p) (p .symbols) (p .count) (p .lines) (fine .rows-least) (sizes .symbols-least) (fine .lines-are)
+  stands-lt = channel.stands-lt (p .rows) (p .step) (total p) (p .symbols) (p .markers) (p .lines) (fine .rows-least) (sizes .symbols-least) (fine .lines-are)
 
   -- ---- written slots
   module _ (word : ℕ → List ℕ) where
@@ -80,18 +80,18 @@ module _ (p : Plan) (fine : Fine p) where
     unfolding firstBadMark
     pass-marks =
         all-pass (markRight p (slotsOf p word)) (symbolCount p) (λ s l.
-        channel.mark-passes (p .rows) (p .step) (total p) (p .symbols) (p .count) (p .lines) (fine .rows-least) (sizes .symbols-least) (fine .lines-are) (p .marks) (dataAt p word) (symbolIn p (slotsOf p word)) s (read-slots s l))
+        channel.mark-passes (p .rows) (p .step) (total p) (p .symbols) (p .markers) (p .lines) (fine .rows-least) (sizes .symbols-least) (fine .lines-are) (p .marks) (dataAt p word) (symbolIn p (slotsOf p word)) s (read-slots s l))
 
     pass-rest : firstBadRest p (slotsOf p word) ≡ symbolCount p
     unfolding firstBadRest
     pass-rest =
         all-pass (restZero p (slotsOf p word)) (symbolCount p) (λ s l.
-        channel.rest-passes (p .rows) (p .step) (total p) (p .symbols) (p .count) (p .lines) (fine .rows-least) (sizes .symbols-least) (fine .lines-are) (p .marks) (dataAt p word) (symbolIn p (slotsOf p word)) s (read-slots s l))
+        channel.rest-passes (p .rows) (p .step) (total p) (p .symbols) (p .markers) (p .lines) (fine .rows-least) (sizes .symbols-least) (fine .lines-are) (p .marks) (dataAt p word) (symbolIn p (slotsOf p word)) s (read-slots s l))
 
     data-found : (t : ℕ) → t < total p → dataIn p (slotsOf p word) t ≡ dataAt p word t
     data-found t l =
         read-slots (symbolOf p (place p t)) (stands-lt t l)
-        ∙ channel.stands (p .rows) (p .step) (total p) (p .symbols) (p .count) (p .lines) (fine .rows-least) (sizes .symbols-least) (fine .lines-are) (p .marks) (dataAt p word) t l
+        ∙ channel.stands (p .rows) (p .step) (total p) (p .symbols) (p .markers) (p .lines) (fine .rows-least) (sizes .symbols-least) (fine .lines-are) (p .marks) (dataAt p word) t l
 
   -- ---- good slots
   module _ (b : List ℕ) (clean : Clean p b) where
@@ -105,7 +105,7 @@ module _ (p : Plan) (fine : Fine p) where
     symbol-again : (s : ℕ) → s < symbolCount p → symbolIn p b s ≡ symbolAt p (wordOut p b) s
     unfolding firstBadMark firstBadRest
     symbol-again s l =
-        channel.read-again (p .rows) (p .step) (total p) (p .symbols) (p .count) (p .lines) (fine .rows-least) (sizes .symbols-least) (fine .lines-are) (p .marks) (dataAt p (wordOut p b)) (symbolIn p b) data-read s
+        channel.read-again (p .rows) (p .step) (total p) (p .symbols) (p .markers) (p .lines) (fine .rows-least) (sizes .symbols-least) (fine .lines-are) (p .marks) (dataAt p (wordOut p b)) (symbolIn p b) data-read s
         (none-fails (markRight p b) (symbolCount p) (clean .marks) s l)
         (none-fails (restZero p b) (symbolCount p) (clean .rest) s l)
 

@@ -19,7 +19,7 @@ pub fn judge(p: plan::Plan, b: &[u8], words: &mut [u8]) -> Answer
     ensures { λ r. ⌜ r ≡ slotsSay p (now (b .entry)) ⌝ }
     ensures { λ r. ⌜ (r ≡ Done → (j : ℕ) → j < p .words → piece wordBytes (now (words .exit)) j ≡ wordOut p (now (b .entry)) j) ⌝ }
 {
-    let n = p.lines * (p.symbols + p.count);
+    let n = p.lines * (p.symbols + p.markers);
     let end = 8 * b.len();
     if bits::scan::first_one(b, n * p.group, end) != end {
         return Answer::No(9, 0);

@@ -9,10 +9,10 @@ ghost use Rattle.capture.specs.Capture.{markRight, firstBadMark};
 
 // Marker symbol w of a line. Each group has one pulse, so that the slot of the right symbol tells.
 fn mark_right(p: plan::Plan, b: &[u8], line: usize, w: usize) -> u8
-    requires { ⌜ Grouped p (now b) × (line < p .lines) × (w < p .count) ⌝ }
+    requires { ⌜ Grouped p (now b) × (line < p .lines) × (w < p .markers) ⌝ }
     ensures { λ r. ⌜ r ≡ bool (markRight p (now (b .entry)) (line * unit p + w)) ⌝ }
 {
-    let s = line * (p.symbols + p.count) + w;
+    let s = line * (p.symbols + p.markers) + w;
     let q = p.marks[w] as usize;
     bits::packing::bit_at(b, s * p.group + q)
 }
@@ -20,12 +20,12 @@ fn mark_right(p: plan::Plan, b: &[u8], line: usize, w: usize) -> u8
 // The first wrong marker symbol of a line, or the symbol behind them.
 fn bad_mark_in(p: plan::Plan, b: &[u8], line: usize) -> usize
     requires { ⌜ Grouped p (now b) × (line < p .lines) ⌝ }
-    ensures { λ r. ⌜ r ≡ upTo (markRight p (now (b .entry))) (line * unit p) (line * unit p + p .count) ⌝ }
+    ensures { λ r. ⌜ r ≡ upTo (markRight p (now (b .entry))) (line * unit p) (line * unit p + p .markers) ⌝ }
 {
-    let first = line * (p.symbols + p.count);
-    let count = p.count;
+    let first = line * (p.symbols + p.markers);
+    let markers = p.markers;
     let mut w = 0;
-    while w < count {
+    while w < markers {
         if mark_right(p, b, line, w) == 0 {
             return first + w;
         }
@@ -39,13 +39,13 @@ pub fn first_bad_mark(p: plan::Plan, b: &[u8]) -> usize
     requires { ⌜ Grouped p (now b) ⌝ }
     ensures { λ r. ⌜ r ≡ firstBadMark p (now (b .entry)) ⌝ }
 {
-    let unit = p.symbols + p.count;
-    let count = p.count;
+    let unit = p.symbols + p.markers;
+    let markers = p.markers;
     let lines = p.lines;
     let mut line = 0;
     while line < lines {
         let s = bad_mark_in(p, b, line);
-        if s < line * unit + count {
+        if s < line * unit + markers {
             return s;
         }
         line += 1;

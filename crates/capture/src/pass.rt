@@ -48,7 +48,7 @@ pub fn find(p: plan::Plan, b: &[u8], words: &mut [u8]) -> Faults
     ensures { λ r. ⌜ r .group ≡ firstBadGroup p (now (b .entry)) ⌝ }
     ensures { λ r. ⌜ (r .group ≡ symbolCount p → Known p (now (b .entry)) (symbolCount p) (r .rest) (now (words .exit))) ⌝ }
 {
-    let n = p.lines * (p.symbols + p.count);
+    let n = p.lines * (p.symbols + p.markers);
     let count = 320 / p.group;
     let whole = n / count;
     let given = pulses::groups::zeros(p.group);

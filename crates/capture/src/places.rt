@@ -12,13 +12,13 @@ ghost use Rattle.capture.specs.Pass.{Known};
 // Place i of a line, which is c modulo N, of all places. Its group has one pulse, so that the first
 // slot tells of a 0.
 fn take_place(p: plan::Plan, b: &[u8], line: usize, i: usize, c: usize, words: &mut [u8]) -> u8
-    requires { ⌜ Captured p (now b) × (line < p .lines) × (i < p .symbols) × (c ≡ (line * p .symbols + i) % p .rows) × (symbolIn p (now b) (line * unit p + (p .count + i)) < p .order) × Took p (now b) (line * unit p + (p .count + i)) (now words) ⌝ }
-    ensures { λ r. ⌜ r ≡ bool (restZero p (now (b .entry)) (line * unit p + (p .count + i))) ⌝ }
-    ensures { λ _. ⌜ Took p (now (b .entry)) (line * unit p + (p .count + i) + 1) (now (words .exit)) ⌝ }
+    requires { ⌜ Captured p (now b) × (line < p .lines) × (i < p .symbols) × (c ≡ (line * p .symbols + i) % p .rows) × (symbolIn p (now b) (line * unit p + (p .markers + i)) < p .order) × Took p (now b) (line * unit p + (p .markers + i)) (now words) ⌝ }
+    ensures { λ r. ⌜ r ≡ bool (restZero p (now (b .entry)) (line * unit p + (p .markers + i))) ⌝ }
+    ensures { λ _. ⌜ Took p (now (b .entry)) (line * unit p + (p .markers + i) + 1) (now (words .exit)) ⌝ }
 {
     let symbols = p.symbols;
     let total = p.words * symbols;
-    let s = line * (symbols + p.count) + (p.count + i);
+    let s = line * (symbols + p.markers) + (p.markers + i);
     let t = channel::hit_by(p.rows, p.step, total, line * symbols + i, c);
     if t < total {
         let q = pulses::numbers::seen(p.order, p.group, b, s);
@@ -37,7 +37,7 @@ fn take_in(p: plan::Plan, b: &[u8], line: usize, from: usize, to: usize, words: 
 {
     let symbols = p.symbols;
     let rows = p.rows;
-    let first = line * (symbols + p.count) + p.count;
+    let first = line * (symbols + p.markers) + p.markers;
     let mut s = bits::scan::most(from, first);
     let mut c = (line * symbols + (s - first)) % rows;
     while s < to {
@@ -56,7 +56,7 @@ fn take(p: plan::Plan, b: &[u8], from: usize, to: usize, words: &mut [u8]) -> us
     ensures { λ r. ⌜ r ≡ upTo (restZero p (now (b .entry))) from to ⌝ }
     ensures { λ r. ⌜ (to ≤ r → Took p (now (b .entry)) to (now (words .exit))) ⌝ }
 {
-    let unit = p.symbols + p.count;
+    let unit = p.symbols + p.markers;
     let line = from / unit;
     let end = line * unit + unit;
     let mid = bits::scan::least(to, end);
@@ -83,7 +83,7 @@ pub fn rest_after(
     requires { ⌜ Stretch p (now b) from to × (from < to) × Known p (now b) from rest (now words) ⌝ }
     ensures { λ r. ⌜ Known p (now (b .entry)) to r (now (words .exit)) ⌝ }
 {
-    let n = p.lines * (p.symbols + p.count);
+    let n = p.lines * (p.symbols + p.markers);
     if rest < n {
         return rest;
     }

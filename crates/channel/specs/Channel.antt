@@ -1,4 +1,4 @@
--- Steps 8 and 9, the markers of step 10, and the way back with questions 11 and 12, over plain numbers: m bits to a symbol (`bits`), S symbols to a word (`symbols`), N and B of the channel interleaver (`rows`, `step`), C·S symbols in all (`total`), W marker symbols before every S places (`count`).
+-- Steps 8 and 9, the markers of step 10, and the way back with questions 11 and 12, over plain numbers: m bits to a symbol (`bits`), S symbols to a word (`symbols`), N and B of the channel interleaver (`rows`, `step`), C·S symbols in all (`total`), W marker symbols before every S places (`markers`).
 -- The words are a function: word j is a list of 1,890 bytes.
 use mathlib.Core.Path.{_≡_, refl}
 use mathlib.Core.Bool.{Bool, true, not}
@@ -30,23 +30,23 @@ placed rows step total symbol x = pick (ltb (hitBy rows step total x) total) (sy
 
 -- Step 10: W marker symbols stand before every S places. The place at which symbol s, markers counted, stands; and the symbol that stands at place x
 unfoldable pub placeAt : ℕ → ℕ → ℕ → ℕ
-placeAt symbols count s = s / (symbols + count) * symbols + (s % (symbols + count) - count)
+placeAt symbols markers s = s / (symbols + markers) * symbols + (s % (symbols + markers) - markers)
 
 unfoldable pub symbolOf : ℕ → ℕ → ℕ → ℕ
-symbolOf symbols count x = x / symbols * (symbols + count) + (count + x % symbols)
+symbolOf symbols markers x = x / symbols * (symbols + markers) + (markers + x % symbols)
 
 -- symbol s: a marker symbol, or what stands at its place
 unfoldable pub marked : ℕ → ℕ → List ℕ → (ℕ → ℕ) → ℕ → ℕ
-marked symbols count marks standing s = pick (ltb (s % (symbols + count)) count) (getD marks (s % (symbols + count)) 0) (standing (placeAt symbols count s))
+marked symbols markers marks standing s = pick (ltb (s % (symbols + markers)) markers) (getD marks (s % (symbols + markers)) 0) (standing (placeAt symbols markers s))
 
 -- Question 11: is symbol s, if it is a marker symbol, the right one? `read` are the symbols that were read
 unfoldable pub markRight : ℕ → ℕ → List ℕ → (ℕ → ℕ) → ℕ → Bool
-markRight symbols count marks read s = pick (ltb (s % (symbols + count)) count) (eqb (getD marks (s % (symbols + count)) 0) (read s)) true
+markRight symbols markers marks read s = pick (ltb (s % (symbols + markers)) markers) (eqb (getD marks (s % (symbols + markers)) 0) (read s)) true
 
 -- Question 12: is symbol s, if it stands at a place that is not hit, 0?
 unfoldable pub restZero : ℕ → ℕ → ℕ → ℕ → ℕ → (ℕ → ℕ) → ℕ → Bool
-restZero rows step total symbols count read s =
-    pick (ltb (s % (symbols + count)) count) true (pick (ltb (hitBy rows step total (placeAt symbols count s)) total) true (eqb 0 (read s)))
+restZero rows step total symbols markers read s =
+    pick (ltb (s % (symbols + markers)) markers) true (pick (ltb (hitBy rows step total (placeAt symbols markers s)) total) true (eqb 0 (read s)))
 
 -- and back: bit y of word j is bit y mod m of the symbol that holds it
 unfoldable pub wordBit : ℕ → ℕ → (ℕ → ℕ) → ℕ → ℕ → ℕ

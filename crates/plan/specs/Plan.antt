@@ -20,7 +20,7 @@ planOf q = record {
   rows = q .fields .rows;
   step = q .fields .step;
   lines = quantities.lineCount (q .fields);
-  count = q .markers;
+  markers = q .markers;
   marks = q .marks;
 }
 
@@ -30,7 +30,7 @@ planIn header marker = planOf (parametersOf (fieldsOf header) marker)
 
 -- the symbols of a line with its markers
 abbrev pub unit : Plan → ℕ
-unit p = p .symbols + p .count
+unit p = p .symbols + p .markers
 
 -- the symbols of all words (C·S), and all symbols with markers
 abbrev pub total : Plan → ℕ
@@ -55,8 +55,8 @@ pub record Fine (p : Plan) : Type 0 where
   pub rows-most : p .rows ≤ 128
   pub step-most : p .step ≤ 256
   pub lines-are : p .lines * p .symbols ≡ total p + (p .rows - 1) * (p .step * p .rows)
-  pub count-least : 1 ≤ p .count
-  pub count-most : p .count ≤ 32
+  pub markers-least : 1 ≤ p .markers
+  pub markers-most : p .markers ≤ 32
   pub marks-are : length (p .marks) ≡ 32
   pub marks-below : (i : ℕ) → getD (p .marks) i 0 < p .order
   pub symbols-bound : symbolCount p < 2 ^ 23

@@ -30,7 +30,7 @@ pub struct Plan {
     // R, the lines of S places that those of step 9 make
     pub lines: usize,
     // W, the marker symbols before each
-    pub count: usize,
+    pub markers: usize,
     pub marks: [u8; 32],
 }
 
@@ -55,7 +55,7 @@ pub fn plan_of(q: Parameters) -> Plan
         rows: f.rows,
         step: f.step,
         lines,
-        count: q.markers,
+        markers: q.markers,
         marks,
     }
 }

@@ -96,11 +96,11 @@ module _ (header marker frames : List ℕ) where
       placed-rest (p .rows) (p .step) (total p) step8 x (rw e (le-refl (total p)))
 
   -- of every W + S symbols the first W are the marker symbols, and the others stand at S places in a row
-  pub marker-is : (line w : ℕ) → w < planIn header marker .count → step10 (line * unit (planIn header marker) + w) ≡ getD (planIn header marker .marks) w 0
-  marker-is line w l = let p : Plan = planIn header marker in line-mark (p .symbols) (p .count) (p .marks) standing line w l
+  pub marker-is : (line w : ℕ) → w < planIn header marker .markers → step10 (line * unit (planIn header marker) + w) ≡ getD (planIn header marker .marks) w 0
+  marker-is line w l = let p : Plan = planIn header marker in line-mark (p .symbols) (p .markers) (p .marks) standing line w l
 
-  pub place-is : (line k : ℕ) → k < planIn header marker .symbols → step10 (line * unit (planIn header marker) + (planIn header marker .count + k)) ≡ standing (line * planIn header marker .symbols + k)
-  place-is line k l = let p : Plan = planIn header marker in line-place (p .symbols) (p .count) (p .marks) standing line k l
+  pub place-is : (line k : ℕ) → k < planIn header marker .symbols → step10 (line * unit (planIn header marker) + (planIn header marker .markers + k)) ≡ standing (line * planIn header marker .symbols + k)
+  place-is line k l = let p : Plan = planIn header marker in line-place (p .symbols) (p .markers) (p .marks) standing line k l
 
   -- slot r of symbol s has a pulse if it is the symbol, and there is none behind the last symbol
   pub slot-is : (s r : ℕ) → r < planIn header marker .group → s < symbolCount (planIn header marker) → slot (s * planIn header marker .group + r) ≡ bool (eqb r (step10 s))

@@ -1,3 +1,3 @@
 pub mod Moves
 pub mod Zeros
-pub mod Rows
+pub mod Lines

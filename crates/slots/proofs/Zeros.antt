@@ -1,4 +1,4 @@
--- Zeros' slots, laid forty bytes by forty: what a row begins with.
+-- Zeros' slots, laid forty bytes by forty: what a line begins with.
 use mathlib.Core.Path.{_≡_, refl, sym, ap, ap₂, _∙_}
 use mathlib.Core.List.{List}
 use mathlib.Core.Logic.{⊎-elim}

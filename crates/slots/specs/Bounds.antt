@@ -21,7 +21,7 @@ pub record Bounds (p : Plan) : Type 0 where
   pub order-most : p .order ≤ 256
   pub group-least : p .order ≤ p .group
   pub group-most : p .group ≤ 320
-  pub count-most : p .count ≤ 32
+  pub markers-most : p .markers ≤ 32
   pub back-most : p .step * p .rows ≤ 32768
   pub places : p .lines * p .symbols ≤ symbolCount p
   pub words : total p ≤ p .lines * p .symbols
@@ -41,7 +41,7 @@ bounds p fine =
       order-most = order;
       group-least = omega arith;
       group-most = omega arith;
-      count-most = fine .count-most;
+      markers-most = fine .markers-most;
       back-most = mul-le-mul (fine .step-most) (fine .rows-most);
       places = omega arith;
       words = let e = fine .lines-are in omega arith;

@@ -20,7 +20,7 @@ placed-below p fine word x =
 
 pub symbol-below : (p : Plan) → Fine p → (word : ℕ → List ℕ) (s : ℕ) → symbolAt p word s < p .order
 symbol-below p fine word s =
-    markers.marked-below (p .symbols) (p .count) (p .marks) (placed p word) (p .order) (fine .marks-below) (placed-below p fine word) s
+    markers.marked-below (p .symbols) (p .markers) (p .marks) (placed p word) (p .order) (fine .marks-below) (placed-below p fine word) s
 
 pub length-slots : (p : Plan) (word : ℕ → List ℕ) → length (slotsOf p word) ≡ slotBytes p
 unfolding slotsOf
@@ -33,7 +33,7 @@ bytes-slots p word = pulses.bytes-slots (p .group) (symbolCount p) (symbolAt p w
 -- the same words give the same symbols, and the same slots
 pub symbol-same : (p : Plan) (word other : ℕ → List ℕ) → ((j : ℕ) → j < p .words → word j ≡ other j) → (s : ℕ) → symbolAt p word s ≡ symbolAt p other s
 symbol-same p word other h =
-    markers.marked-same (p .symbols) (p .count) (p .marks) (placed p word) (placed p other)
+    markers.marked-same (p .symbols) (p .markers) (p .marks) (placed p word) (placed p other)
     (places.placed-same (p .rows) (p .step) (total p) (dataAt p word) (dataAt p other)
     (symbols.data-same (p .bits) (p .symbols) (p .words) word other h))
 

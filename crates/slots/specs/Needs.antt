@@ -16,8 +16,8 @@ pub record Lent (p : Plan) (words slots : List ℕ) : Type 0 where
   pub given : Given p words
   pub room : length slots ≡ slotBytes p
 
--- a residue, r, of a row whose first place has residue c
-pub record Residue (p : Plan) (row c r : ℕ) : Type 0 where
-  pub line : row < p .lines
-  pub start : c ≡ row * p .symbols % stride (p .rows)
+-- a residue, r, of a line whose first place has residue c
+pub record Residue (p : Plan) (line c r : ℕ) : Type 0 where
+  pub inside : line < p .lines
+  pub start : c ≡ line * p .symbols % stride (p .rows)
   pub small : r < stride (p .rows)

@@ -22,13 +22,13 @@ placed p word x = channel.placed (p .rows) (p .step) (total p) (dataAt p word) x
 
 -- Step 10: the place of symbol s, markers counted, the symbol at place x, and symbol s itself
 abbrev pub placeAt : Plan → ℕ → ℕ
-placeAt p s = channel.placeAt (p .symbols) (p .count) s
+placeAt p s = channel.placeAt (p .symbols) (p .markers) s
 
 abbrev pub symbolOf : Plan → ℕ → ℕ
-symbolOf p x = channel.symbolOf (p .symbols) (p .count) x
+symbolOf p x = channel.symbolOf (p .symbols) (p .markers) x
 
 abbrev pub symbolAt : Plan → (ℕ → List ℕ) → ℕ → ℕ
-symbolAt p word s = channel.marked (p .symbols) (p .count) (p .marks) (placed p word) s
+symbolAt p word s = channel.marked (p .symbols) (p .markers) (p .marks) (placed p word) s
 
 -- slot x, and all slots, packed
 abbrev pub slotBit : Plan → (ℕ → List ℕ) → ℕ → ℕ

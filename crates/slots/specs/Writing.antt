@@ -21,9 +21,9 @@ pub record Holds (p : Plan) (f : ℕ → ℕ) (end : ℕ) (slots : List ℕ) : T
 abbrev pub front : Plan → (ℕ → List ℕ) → ℕ → ℕ → ℕ
 front p word n s = cut n (symbolAt p word) s
 
--- the bytes that the slots before row j begin
-abbrev pub rowEnd : Plan → ℕ → ℕ
-rowEnd p j = (j * unit p * p .group + 7) / 8
+-- the bytes that the slots before line j begin
+abbrev pub lineEnd : Plan → ℕ → ℕ
+lineEnd p j = (j * unit p * p .group + 7) / 8
 
 -- ---- zeros
 
@@ -43,7 +43,7 @@ pub record Zeros (group : ℕ) (z : List ℕ) : Type 0 where
   pub repeats : Repeats z
   pub slot : (i : ℕ) → i < 320 → bitAt z i ≡ bool (eqb (i % group) 0)
 
--- ---- the places of a row, residue by residue
+-- ---- the places of a line, residue by residue
 
 -- how far apart two places are whose pulses are moved one after the other
 unfoldable pub stride : ℕ → ℕ
@@ -53,9 +53,9 @@ stride rows = pick (eqb rows 1) 8 rows
 unfoldable pub sooner : ℕ → ℕ → ℕ → ℕ → Bool
 sooner n r x y = pick (eqb (y % n) r) (ltb y x) (ltb (y % n) r)
 
--- the symbols before row j, its markers, and those of its places that come before place x of residue r
+-- the symbols before line j, its markers, and those of its places that come before place x of residue r
 unfoldable pub soFar : Plan → (ℕ → List ℕ) → ℕ → ℕ → ℕ → ℕ → ℕ
 soFar p word j r x s =
-    let first : ℕ = j * unit p + p .count in
+    let first : ℕ = j * unit p + p .markers in
     let y : ℕ = j * p .symbols + (s - first) in
     cut (first + p .symbols) (λ s. pick (ltb s first) (symbolAt p word s) (pick (sooner (stride (p .rows)) r x y) (symbolAt p word s) 0)) s

@@ -1,4 +1,4 @@
-// Steps 8 to 10: the words' symbols, spread by the channel interleaver, with markers before every row, as slots with one pulse to a symbol.
+// Steps 8 to 10: the words' symbols, spread by the channel interleaver, with markers before every line, as slots with one pulse to a symbol.
 use plan::Plan;
 ghost use mathlib.Core.Path.{_≡_};
 ghost use Prim.Native.Nat.{ℕ, _+_, _*_, _%_, _^_, _≤_, _<_};
@@ -11,7 +11,7 @@ ghost use Rattle.bits.specs.Pieces.{piece};
 ghost use Rattle.sizes.specs.Sizes.{wordBytes};
 ghost use Rattle.slots.specs.Slots.{dataAt, slotsOf};
 ghost use Rattle.slots.specs.Needs.{Given, Lent, Residue};
-ghost use Rattle.slots.specs.Writing.{Holds, front, rowEnd, Repeats, Laid, Zeros, stride, soFar};
+ghost use Rattle.slots.specs.Writing.{Holds, front, lineEnd, Repeats, Laid, Zeros, stride, soFar};
 
 // Zeros' slots in the bytes from `from` up to `to`: they repeat every forty bytes.
 fn lay_zeros(zeros: &[u8], slots: &mut [u8], from: usize, to: usize)
@@ -27,7 +27,7 @@ fn lay_zeros(zeros: &[u8], slots: &mut [u8], from: usize, to: usize)
     }
 }
 
-// Many forties of them, so that a row is laid in few parts.
+// Many forties of them, so that a line is laid in few parts.
 fn fill_zeros(group: usize, zeros: &mut [u8])
     requires { ⌜ (1 ≤ group) × (group ≤ 320) × (40 ≤ length (now zeros)) ⌝ }
     ensures { λ _. ⌜ Zeros group (now (zeros .exit)) ⌝ }
@@ -46,16 +46,16 @@ fn move_pulse(slots: &mut [u8], x: usize, q: usize)
     bits::change::flip(slots, x + q);
 }
 
-// The pulses of the marker symbols before a row.
-fn put_marks(p: Plan, row: usize, slots: &mut [u8])
-    requires { ⌜ Fine p × (row < p .lines) × (length (now slots) ≡ slotBytes p) ⌝ }
-    ensures { λ _. ⌜ ((word : ℕ → List ℕ) (end : ℕ) → Holds p (front p word (row * unit p)) end (now (slots .entry)) → Holds p (front p word (row * unit p + p .count)) end (now (slots .exit))) ⌝ }
+// The pulses of the marker symbols before a line.
+fn put_marks(p: Plan, line: usize, slots: &mut [u8])
+    requires { ⌜ Fine p × (line < p .lines) × (length (now slots) ≡ slotBytes p) ⌝ }
+    ensures { λ _. ⌜ ((word : ℕ → List ℕ) (end : ℕ) → Holds p (front p word (line * unit p)) end (now (slots .entry)) → Holds p (front p word (line * unit p + p .markers)) end (now (slots .exit))) ⌝ }
 {
     let group = p.group;
-    let count = p.count;
-    let first = row * (p.symbols + count);
+    let markers = p.markers;
+    let first = line * (p.symbols + markers);
     let mut k = 0;
-    while k < count {
+    while k < markers {
         let mark = p.marks[k] as usize;
         move_pulse(slots, (first + k) * group, mark);
         k += 1;
@@ -78,19 +78,19 @@ fn stride_of(rows: usize) -> usize
     if rows == 1 { 8 } else { rows }
 }
 
-// Step 9, the places of a row that are r modulo the stride: from the first that is hit, symbol after symbol.
-fn put_residue(p: Plan, words: &[u8], row: usize, c: usize, r: usize, slots: &mut [u8])
-    requires { ⌜ Lent p (now words) (now slots) × Residue p row c r ⌝ }
-    ensures { λ _. ⌜ ((end : ℕ) → Holds p (soFar p (piece wordBytes (now (words .entry))) row r 0) end (now (slots .entry)) → Holds p (soFar p (piece wordBytes (now (words .entry))) row (r + 1) 0) end (now (slots .exit))) ⌝ }
+// Step 9, the places of a line that are r modulo the stride: from the first that is hit, symbol after symbol.
+fn put_residue(p: Plan, words: &[u8], line: usize, c: usize, r: usize, slots: &mut [u8])
+    requires { ⌜ Lent p (now words) (now slots) × Residue p line c r ⌝ }
+    ensures { λ _. ⌜ ((end : ℕ) → Holds p (soFar p (piece wordBytes (now (words .entry))) line r 0) end (now (slots .entry)) → Holds p (soFar p (piece wordBytes (now (words .entry))) line (r + 1) 0) end (now (slots .exit))) ⌝ }
 {
     let rows = p.rows;
     let symbols = p.symbols;
     let group = p.group;
-    let count = p.count;
+    let markers = p.markers;
     let step = p.step;
     let all = p.words * symbols;
-    let start = row * symbols;
-    let skip = row * count + count;
+    let start = line * symbols;
+    let skip = line * markers + markers;
     let delay = r % rows * (step * rows);
     let end = bits::scan::least(start + symbols, delay + all);
     let n = stride_of(rows);
@@ -128,49 +128,49 @@ fn residues_to(rows: usize, step: usize, end: usize, n: usize) -> usize
     bits::scan::least(n, (end - 1) / back + 1)
 }
 
-// The pulses of a row's symbols. Most residues of a long run have none in it.
-fn put_residues(p: Plan, words: &[u8], row: usize, slots: &mut [u8])
-    requires { ⌜ Lent p (now words) (now slots) × (row < p .lines) ⌝ }
-    ensures { λ _. ⌜ ((end : ℕ) → Holds p (front p (piece wordBytes (now (words .entry))) (row * unit p + p .count)) end (now (slots .entry)) → Holds p (front p (piece wordBytes (now (words .entry))) ((row + 1) * unit p)) end (now (slots .exit))) ⌝ }
+// The pulses of a line's symbols. Most residues of a long run have none in it.
+fn put_residues(p: Plan, words: &[u8], line: usize, slots: &mut [u8])
+    requires { ⌜ Lent p (now words) (now slots) × (line < p .lines) ⌝ }
+    ensures { λ _. ⌜ ((end : ℕ) → Holds p (front p (piece wordBytes (now (words .entry))) (line * unit p + p .markers)) end (now (slots .entry)) → Holds p (front p (piece wordBytes (now (words .entry))) ((line + 1) * unit p)) end (now (slots .exit))) ⌝ }
 {
     let rows = p.rows;
     let step = p.step;
     let symbols = p.symbols;
     let n = stride_of(rows);
-    let start = row * symbols;
+    let start = line * symbols;
     let c = start % n;
     let to = residues_to(rows, step, start + symbols, n);
     let from = residues_from(rows, step, p.words * symbols, start);
     let mut r = bits::scan::least(from, to);
     while r < to {
-        put_residue(p, words, row, c, r, slots);
+        put_residue(p, words, line, c, r, slots);
         r += 1;
     }
 }
 
-// A row with its markers. Its zeros are laid here, so that they are still in the cache when the pulses are moved.
-fn put_row(p: Plan, words: &[u8], zeros: &[u8], row: usize, slots: &mut [u8])
-    requires { ⌜ Given p (now words) × Zeros (p .group) (now zeros) × (row < p .lines) × Holds p (front p (piece wordBytes (now words)) (row * unit p)) (rowEnd p row) (now slots) ⌝ }
-    ensures { λ _. ⌜ Holds p (front p (piece wordBytes (now (words .entry))) ((row + 1) * unit p)) (rowEnd p (row + 1)) (now (slots .exit)) ⌝ }
+// A line with its markers. Its zeros are laid here, so that they are still in the cache when the pulses are moved.
+fn put_line(p: Plan, words: &[u8], zeros: &[u8], line: usize, slots: &mut [u8])
+    requires { ⌜ Given p (now words) × Zeros (p .group) (now zeros) × (line < p .lines) × Holds p (front p (piece wordBytes (now words)) (line * unit p)) (lineEnd p line) (now slots) ⌝ }
+    ensures { λ _. ⌜ Holds p (front p (piece wordBytes (now (words .entry))) ((line + 1) * unit p)) (lineEnd p (line + 1)) (now (slots .exit)) ⌝ }
 {
-    let unit = p.symbols + p.count;
+    let unit = p.symbols + p.markers;
     let group = p.group;
-    let from = (row * unit * group + 7) / 8;
-    let to = ((row + 1) * unit * group + 7) / 8;
+    let from = (line * unit * group + 7) / 8;
+    let to = ((line + 1) * unit * group + 7) / 8;
     lay_zeros(zeros, slots, from, to);
-    put_marks(p, row, slots);
-    put_residues(p, words, row, slots);
+    put_marks(p, line, slots);
+    put_residues(p, words, line, slots);
 }
 
-fn put_rows(p: Plan, words: &[u8], zeros: &[u8], slots: &mut [u8])
+fn put_lines(p: Plan, words: &[u8], zeros: &[u8], slots: &mut [u8])
     requires { ⌜ Lent p (now words) (now slots) × Zeros (p .group) (now zeros) ⌝ }
-    ensures { λ _. ⌜ Holds p (front p (piece wordBytes (now (words .entry))) (p .lines * unit p)) (rowEnd p (p .lines)) (now (slots .exit)) ⌝ }
+    ensures { λ _. ⌜ Holds p (front p (piece wordBytes (now (words .entry))) (p .lines * unit p)) (lineEnd p (p .lines)) (now (slots .exit)) ⌝ }
 {
     let lines = p.lines;
-    let mut row = 0;
-    while row < lines {
-        put_row(p, words, zeros, row, slots);
-        row += 1;
+    let mut line = 0;
+    while line < lines {
+        put_line(p, words, zeros, line, slots);
+        line += 1;
     }
 }
 
@@ -180,9 +180,9 @@ pub fn write(p: Plan, words: &[u8], slots: &mut [u8])
     ensures { λ _. ⌜ now (slots .exit) ≡ slotsOf p (piece wordBytes (now (words .entry))) ⌝ }
 {
     let group = p.group;
-    let end = p.lines * (p.symbols + p.count) * group;
+    let end = p.lines * (p.symbols + p.markers) * group;
     let mut zeros = [0u8; 16000];
     fill_zeros(group, &mut zeros);
-    put_rows(p, words, &zeros, slots);
+    put_lines(p, words, &zeros, slots);
     bits::change::clear_spare(slots, end);
 }

@@ -32,7 +32,7 @@ returns c =
       rows = q .fields .rows;
       step = q .fields .step;
       lines = c .line-count .ensures i;
-      count = q .markers;
+      markers = q .markers;
       marks = q .marks;
     }
 

@@ -11,29 +11,29 @@ use Rattle.plan.specs.Plan.{unit, symbolCount, slotBytes}
 use Rattle.slots.specs.Slots.{placed}
 use Rattle.slots.specs.Writing.{Holds, front}
 use Rattle.slots.proofs.Moves.{inside}
-use Rattle.slots.proofs.Rows.{sizes, holds-is, holds-next}
+use Rattle.slots.proofs.Lines.{sizes, holds-is, holds-next}
 use Rattle.slots.proofs.put_marks.Statement.{statement}
 use Rattle.slots.proofs.put_marks.Tie as tie
 
 abbrev Inv-loop : tie.InvT-loop
-Inv-loop row slots₀ p group count first k₀ slots k =
-    (k ≤ count) × (length slots ≡ length slots₀) × ((word : ℕ → List ℕ) (end : ℕ) → Holds p (front p word (row * unit p)) end slots₀ → Holds p (front p word (row * unit p + k)) end slots)
+Inv-loop line slots₀ p group markers first k₀ slots k =
+    (k ≤ markers) × (length slots ≡ length slots₀) × ((word : ℕ → List ℕ) (end : ℕ) → Holds p (front p word (line * unit p)) end slots₀ → Holds p (front p word (line * unit p + k)) end slots)
 
 abbrev μ-loop : tie.MeasureT-loop
-μ-loop row slots₀ p group count first k₀ slots k = count - k
+μ-loop line slots₀ p group markers first k₀ slots k = markers - k
 
 add-first : tie.Need-add-first Inv-loop μ-loop
 add-first c =
     let s = c .before in
     let p = s .args .t1 in
-    let z = sizes p (s .pre .0) (s .args .row) 0 (s .pre .1) in
+    let z = sizes p (s .pre .0) (s .args .line) 0 (s .pre .1) in
     omega arith
 
 mul-first : tie.Need-mul-first Inv-loop μ-loop
 mul-first c =
     let s = c .before in
     let p = s .args .t1 in
-    let z = sizes p (s .pre .0) (s .args .row) 0 (s .pre .1) in
+    let z = sizes p (s .pre .0) (s .args .line) 0 (s .pre .1) in
     omega arith
 
 loop-holds : tie.Need-loop-holds Inv-loop μ-loop
@@ -49,24 +49,24 @@ add-move-pulse : tie.Need-add-move-pulse Inv-loop μ-loop
 add-move-pulse c =
     let s = c .before .before .before .before .before in
     let p = s .args .t1 in
-    let z = sizes p (s .pre .0) (s .args .row) 0 (s .pre .1) in
+    let z = sizes p (s .pre .0) (s .args .line) 0 (s .pre .1) in
     omega arith
 
 mul-move-pulse : tie.Need-mul-move-pulse Inv-loop μ-loop
 mul-move-pulse c =
     let s = c .before .before .before .before .before in
     let p = s .args .t1 in
-    let z = sizes p (s .pre .0) (s .args .row) 0 (s .pre .1) in
-    let k : s .args .row * unit p + c .before .before .before .loop .k ≤ symbolCount p = omega arith in
+    let z = sizes p (s .pre .0) (s .args .line) 0 (s .pre .1) in
+    let k : s .args .line * unit p + c .before .before .before .loop .k ≤ symbolCount p = omega arith in
     omega (arith, mul-le-mul k (le-refl (p .group)))
 
 move-pulse-requires : tie.Need-move-pulse-requires Inv-loop μ-loop
 move-pulse-requires c κs =
     let s = c .before .before .before .before .before in
     let p = s .args .t1 in
-    let z = sizes p (s .pre .0) (s .args .row) 0 (s .pre .1) in
+    let z = sizes p (s .pre .0) (s .args .line) 0 (s .pre .1) in
     let l = c .before .before .before .loop in
-    let at : ℕ = s .args .row * unit p + l .k in
+    let at : ℕ = s .args .line * unit p + l .k in
     let k : at < symbolCount p = omega arith in
     let q : getD (p .marks) (l .k) 0 < p .group = let b = s .pre .0 .marks-below (l .k) in omega arith in
     let room : length (l .slots) ≡ slotBytes p = l .inv .1 ∙ s .pre .2 in
@@ -83,17 +83,17 @@ loop-again : tie.Need-loop-again Inv-loop μ-loop
 loop-again c =
     let s = c .before .before .before .before .before .before .before .before in
     let p = s .args .t1 in
-    let z = sizes p (s .pre .0) (s .args .row) 0 (s .pre .1) in
+    let z = sizes p (s .pre .0) (s .args .line) 0 (s .pre .1) in
     let l = c .before .before .before .before .before .before .loop in
     let o = c .before .before .move-pulse in
-    let at : ℕ = s .args .row * unit p + l .k in
+    let at : ℕ = s .args .line * unit p + l .k in
     let k : at < symbolCount p = omega arith in
     let q : getD (p .marks) (l .k) 0 < p .group = let b = s .pre .0 .marks-below (l .k) in omega arith in (
       search needs,
       o .kept .0 ∙ l .inv .1,
-      λ word end h. holds-is p word (at + 1) (s .args .row * unit p + (l .k + 1)) end (o .last .0) (omega arith)
+      λ word end h. holds-is p word (at + 1) (s .args .line * unit p + (l .k + 1)) end (o .last .0) (omega arith)
           (holds-next p word at end (getD (p .marks) (l .k) 0) (l .slots) (o .last .0) k q
-          (sym (line-mark (p .symbols) (p .count) (p .marks) (placed p word) (s .args .row) (l .k) (omega arith))) (l .inv .2 word end h) (o .ensures) (λ i. omega (arith, c .slice-known2 .given i))),
+          (sym (line-mark (p .symbols) (p .markers) (p .marks) (placed p word) (s .args .line) (l .k) (omega arith))) (l .inv .2 word end h) (o .ensures) (λ i. omega (arith, c .slice-known2 .given i))),
     )
 
 same-length : tie.Need-same-length Inv-loop μ-loop

@@ -1,4 +1,4 @@
--- The residues below r are done; those before the first and behind the last have no symbol in the row.
+-- The residues below r are done; those before the first and behind the last have no symbol in the line.
 use mathlib.Core.Path.{_≡_, refl, sym, ap, _∙_}
 use Prim.Native.Nat.{ℕ, _+_, _-_, _*_, _%_, _≤_, _<_}
 use native.Mathlib.Omega.{arith}
@@ -9,19 +9,19 @@ use Rattle.channel.specs.Places.{delay}
 use Rattle.plan.specs.Plan.{unit}
 use Rattle.slots.specs.Writing.{Holds, front, stride, soFar}
 use Rattle.slots.proofs.Moves.{holds-same}
-use Rattle.slots.proofs.Rows.{sizes, row-begun, row-ended, residues-late, residues-early}
+use Rattle.slots.proofs.Lines.{sizes, line-begun, line-ended, residues-late, residues-early}
 use Rattle.slots.proofs.put_residues.Statement.{statement}
 use Rattle.slots.proofs.put_residues.Tie as tie
 use Rattle.bits.specs.Pieces.{piece}
 use Rattle.sizes.specs.Sizes.{wordBytes}
 
 abbrev Inv-loop : tie.InvT-loop
-Inv-loop p words row slots₀ rows step symbols n start c to from r₀ slots r =
+Inv-loop p words line slots₀ rows step symbols n start c to from r₀ slots r =
     (r ≤ to) × (length slots ≡ length slots₀)
-    × ((e : ℕ) → Holds p (front p (piece wordBytes words) (row * unit p + p .count)) e slots₀ → Holds p (soFar p (piece wordBytes words) row r 0) e slots)
+    × ((e : ℕ) → Holds p (front p (piece wordBytes words) (line * unit p + p .markers)) e slots₀ → Holds p (soFar p (piece wordBytes words) line r 0) e slots)
 
 abbrev μ-loop : tie.MeasureT-loop
-μ-loop p words row slots₀ rows step symbols n start c to from r₀ slots r = to - r
+μ-loop p words line slots₀ rows step symbols n start c to from r₀ slots r = to - r
 
 stride-of-requires : tie.Need-stride-of-requires Inv-loop μ-loop
 stride-of-requires c κs = search needs
@@ -29,40 +29,40 @@ stride-of-requires c κs = search needs
 mul-start : tie.Need-mul-start Inv-loop μ-loop
 mul-start c =
     let s = c .before .before .before in
-    let z = sizes (s .args .p) (s .pre .0 .given .fine) (s .args .row) 0 (s .pre .1) in
+    let z = sizes (s .args .p) (s .pre .0 .given .fine) (s .args .line) 0 (s .pre .1) in
     omega arith
 
 rem-c : tie.Need-rem-c Inv-loop μ-loop
 rem-c c =
     let s = c .before .before .before in
-    let z = sizes (s .args .p) (s .pre .0 .given .fine) (s .args .row) 0 (s .pre .1) in
+    let z = sizes (s .args .p) (s .pre .0 .given .fine) (s .args .line) 0 (s .pre .1) in
     let n = c .stride-of .ensures in
     omega arith
 
 add-residues-to : tie.Need-add-residues-to Inv-loop μ-loop
 add-residues-to c =
     let s = c .before .before .before in
-    let z = sizes (s .args .p) (s .pre .0 .given .fine) (s .args .row) 0 (s .pre .1) in
+    let z = sizes (s .args .p) (s .pre .0 .given .fine) (s .args .line) 0 (s .pre .1) in
     omega arith
 
 residues-to-requires : tie.Need-residues-to-requires Inv-loop μ-loop
 residues-to-requires c κs =
     let s = c .before .before .before in
     let f = s .pre .0 .given .fine in
-    let z = sizes (s .args .p) f (s .args .row) 0 (s .pre .1) in
+    let z = sizes (s .args .p) f (s .args .line) 0 (s .pre .1) in
     (f .rows-most, f .step-most, omega arith)
 
 mul-residues-from : tie.Need-mul-residues-from Inv-loop μ-loop
 mul-residues-from c =
     let s = c .before .before .before .before .before in
-    let z = sizes (s .args .p) (s .pre .0 .given .fine) (s .args .row) 0 (s .pre .1) in
+    let z = sizes (s .args .p) (s .pre .0 .given .fine) (s .args .line) 0 (s .pre .1) in
     omega arith
 
 residues-from-requires : tie.Need-residues-from-requires Inv-loop μ-loop
 residues-from-requires c κs =
     let s = c .before .before .before .before .before in
     let f = s .pre .0 .given .fine in
-    let z = sizes (s .args .p) f (s .args .row) 0 (s .pre .1) in
+    let z = sizes (s .args .p) f (s .args .line) 0 (s .pre .1) in
     (f .rows-most, f .step-most, omega arith)
 
 least-requires : tie.Need-least-requires Inv-loop μ-loop
@@ -78,7 +78,7 @@ loop-holds c =
     let l = least .ensures ∙ lesser-min (from .result) ((c .before .before .before) .residues-to .result) in (
       omega arith,
       refl,
-      λ e h. holds-same p _ _ e _ (λ x. row-begun p word (s .args .row) x ∙ residues-late p word (s .args .row) (s .pre .0 .given .fine) (least .result) x (λ r k. from .ensures r (omega arith))) h,
+      λ e h. holds-same p _ _ e _ (λ x. line-begun p word (s .args .line) x ∙ residues-late p word (s .args .line) (s .pre .0 .given .fine) (least .result) x (λ r k. from .ensures r (omega arith))) h,
     )
 
 put-residue-requires : tie.Need-put-residue-requires Inv-loop μ-loop
@@ -92,7 +92,7 @@ put-residue-requires c κs =
     let t = (c .before) .loop-test .taken in
     let most : to .result ≤ stride-is .result = to .ensures .0 in (
       record { given = s .pre .0 .given; room = l .inv .1 ∙ s .pre .0 .room },
-      record { line = s .pre .1; start = ap (λ (m : ℕ). s .args .row * p .symbols % m) n; small = rw (sym n) (omega arith) },
+      record { inside = s .pre .1; start = ap (λ (m : ℕ). s .args .line * p .symbols % m) n; small = rw (sym n) (omega arith) },
     )
 
 add-r : tie.Need-add-r Inv-loop μ-loop
@@ -122,9 +122,9 @@ returns c =
     let n : (c .before .before .before .before .before .before) .stride-of .result ≡ stride (p .rows) = (c .before .before .before .before .before .before) .stride-of .ensures in
     let all : l .r ≡ to .result = let t = c .loop-test .left in let m = l .inv .0 in omega arith in
     let most : to .result ≤ stride (p .rows) = let m = to .ensures .0 in omega arith in
-    let none : (r : ℕ) → to .result ≤ r → r < stride (p .rows) → s .args .row * p .symbols + p .symbols ≤ delay (p .rows) (p .step) (r % p .rows) = λ r a k. to .ensures .1 r a (omega arith) in
+    let none : (r : ℕ) → to .result ≤ r → r < stride (p .rows) → s .args .line * p .symbols + p .symbols ≤ delay (p .rows) (p .step) (r % p .rows) = λ r a k. to .ensures .1 r a (omega arith) in
     λ e h. holds-same p _ _ e (l .slots)
-    (λ x. residues-early p word (s .args .row) f (to .result) x most none ∙ row-ended p word (s .args .row) (f .rows-least) x)
+    (λ x. residues-early p word (s .args .line) f (to .result) x most none ∙ line-ended p word (s .args .line) (f .rows-least) x)
     (rw all at (l .inv .2 e h))
 
 pub put-residues-spec : {M : Type 1} → statement M

@@ -2,7 +2,7 @@
 use native.Mathlib.Omega.{arith}
 use borrow.Author.Needs.{needs}
 use Rattle.slots.specs.Bounds.{bounds}
-use Rattle.slots.proofs.Rows.{holds-all}
+use Rattle.slots.proofs.Lines.{holds-all}
 use Rattle.slots.proofs.write.Statement.{statement}
 use Rattle.slots.proofs.write.Tie as tie
 use Rattle.bits.specs.Pieces.{piece}
@@ -23,11 +23,11 @@ slice-aggregate-fill-zeros c = search needs
 fill-zeros-requires : tie.Need-fill-zeros-requires
 fill-zeros-requires c κs = let s = c .before .before .before .before .before in let k = bounds (s .args .p) (s .pre .given .fine) in (omega arith, omega arith, omega arith)
 
-slice-aggregate-put-rows : tie.Need-slice-aggregate-put-rows
-slice-aggregate-put-rows c = search needs
+slice-aggregate-put-lines : tie.Need-slice-aggregate-put-lines
+slice-aggregate-put-lines c = search needs
 
-put-rows-requires : tie.Need-put-rows-requires
-put-rows-requires c κs = search needs
+put-lines-requires : tie.Need-put-lines-requires
+put-lines-requires c κs = search needs
 
 clear-spare-requires : tie.Need-clear-spare-requires
 clear-spare-requires c κs = search needs
@@ -36,7 +36,7 @@ same-length : tie.Need-same-length
 same-length c = search needs
 
 returns : tie.Need-returns
-returns c = let s = c .before .before .before .before .before .before .before .before .before .before .before .before .before .before .before .before in holds-all (s .args .p) (s .pre .given .fine) (piece wordBytes (s .args .words .now)) _ _ (c .before .before .before .before .before .before .put-rows .ensures) (c .before .before .clear-spare .ensures) (λ i. omega (arith, c .slice-known3 .given i))
+returns c = let s = c .before .before .before .before .before .before .before .before .before .before .before .before .before .before .before .before in holds-all (s .args .p) (s .pre .given .fine) (piece wordBytes (s .args .words .now)) _ _ (c .before .before .before .before .before .before .put-lines .ensures) (c .before .before .clear-spare .ensures) (λ i. omega (arith, c .slice-known3 .given i))
 
 pub write-spec : {M : Type 1} → statement M
 write-spec =
@@ -47,8 +47,8 @@ write-spec =
     mul-end-2
     slice-aggregate-fill-zeros
     fill-zeros-requires
-    slice-aggregate-put-rows
-    put-rows-requires
+    slice-aggregate-put-lines
+    put-lines-requires
     clear-spare-requires
     same-length
     returns)

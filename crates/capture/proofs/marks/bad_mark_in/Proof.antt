@@ -14,10 +14,10 @@ use Rattle.capture.proofs.marks.bad_mark_in.Statement.{statement}
 use Rattle.capture.proofs.marks.bad_mark_in.Tie as tie
 
 abbrev Inv-loop : tie.InvT-loop
-Inv-loop p b line first count w₀ w = (w ≤ count) × (upTo (markRight p b) (first + w) (first + count) ≡ upTo (markRight p b) first (first + count))
+Inv-loop p b line first markers w₀ w = (w ≤ markers) × (upTo (markRight p b) (first + w) (first + markers) ≡ upTo (markRight p b) first (first + markers))
 
 abbrev μ-loop : tie.MeasureT-loop
-μ-loop p b line first count w₀ w = count - w
+μ-loop p b line first markers w₀ w = markers - w
 
 -- the sizes that the needs rest on
 known : (s : tie.Start Inv-loop μ-loop) → Bounds (s .args .p) × (s .args .line * unit (s .args .p) + unit (s .args .p) ≤ symbolCount (s .args .p))
@@ -35,7 +35,7 @@ loop-holds c =
     let r = known (c .before .before) in
     let first : ℕ = a .line * unit (a .p) in
     let e : first + 0 ≡ first = omega arith in
-    (search needs, ap (λ (x : ℕ). upTo (markRight (a .p) (a .b .now)) x (first + a .p .count)) e)
+    (search needs, ap (λ (x : ℕ). upTo (markRight (a .p) (a .b .now)) x (first + a .p .markers)) e)
 
 mark-right-requires : tie.Need-mark-right-requires Inv-loop μ-loop
 mark-right-requires c κs =
@@ -53,7 +53,7 @@ returns c =
     let l = c .before .before .before .loop in
     let t : ℕ → Bool = markRight (a .p) (a .b .now) in
     let first : ℕ = a .line * unit (a .p) in
-    let end : ℕ = first + a .p .count in
+    let end : ℕ = first + a .p .markers in
     sym (first-here t end (first + l .w) (omega arith) (bool-no (t (first + l .w)) (sym (c .before .mark-right .ensures) ∙ c .if1 .taken))) ∙ l .inv .1
 
 add-w : tie.Need-add-w Inv-loop μ-loop
@@ -69,7 +69,7 @@ loop-again c =
     let l = c .before .before .before .loop in
     let t : ℕ → Bool = markRight (a .p) (a .b .now) in
     let first : ℕ = a .line * unit (a .p) in
-    let end : ℕ = first + a .p .count in
+    let end : ℕ = first + a .p .markers in
     let e : first + (l .w + 1) ≡ first + l .w + 1 = omega arith in (
       search needs,
       ap (λ (x : ℕ). upTo t x end) e
@@ -87,7 +87,7 @@ returns-2 c =
     let l = c .before .loop in
     let t : ℕ → Bool = markRight (a .p) (a .b .now) in
     let first : ℕ = a .line * unit (a .p) in
-    let end : ℕ = first + a .p .count in
+    let end : ℕ = first + a .p .markers in
     let e : first + l .w ≡ end = omega arith in
     e ∙ sym (first-end t end (first + l .w) (omega arith) (omega arith)) ∙ l .inv .1
 

@@ -13,10 +13,10 @@ use Rattle.capture.proofs.marks.first_bad_mark.Statement.{statement}
 use Rattle.capture.proofs.marks.first_bad_mark.Tie as tie
 
 abbrev Inv-loop : tie.InvT-loop
-Inv-loop p b unit count lines line₀ line = Sought (markRight p b) unit (lines * unit) lines line
+Inv-loop p b unit markers lines line₀ line = Sought (markRight p b) unit (lines * unit) lines line
 
 abbrev μ-loop : tie.MeasureT-loop
-μ-loop p b unit count lines line₀ line = lines - line
+μ-loop p b unit markers lines line₀ line = lines - line
 
 -- the sizes that the needs rest on
 known : (s : tie.Start Inv-loop μ-loop) (line : ℕ) → line < s .args .p .lines → Bounds (s .args .p) × (line * unit (s .args .p) + unit (s .args .p) ≤ symbolCount (s .args .p))
@@ -44,7 +44,7 @@ returns c =
     let l = c .before .before .before .loop in
     let p = s .args .p in
     let r = known s (l .line) (omega arith) in
-    sought-fails _ _ _ _ (l .line) (l .inv) (l .line * unit p + p .count) _ (omega arith) (omega arith) (omega arith) (c .before .bad-mark-in .ensures) (omega arith)
+    sought-fails _ _ _ _ (l .line) (l .inv) (l .line * unit p + p .markers) _ (omega arith) (omega arith) (omega arith) (c .before .bad-mark-in .ensures) (omega arith)
 
 add-line : tie.Need-add-line Inv-loop μ-loop
 add-line c = search needs
@@ -58,8 +58,8 @@ loop-again c =
     let l = c .before .before .before .loop in
     let p = s .args .p in
     let r = known s (l .line) (omega arith) in
-    sought-more _ _ _ _ (l .line) (l .inv) (l .line * unit p + p .count) _ (omega arith) (omega arith) (omega arith) (c .before .bad-mark-in .ensures) (omega arith) (omega arith)
-    (mark-else (p .symbols) (p .count) (l .line) (p .marks) (symbolIn p (s .args .b .now)))
+    sought-more _ _ _ _ (l .line) (l .inv) (l .line * unit p + p .markers) _ (omega arith) (omega arith) (omega arith) (c .before .bad-mark-in .ensures) (omega arith) (omega arith)
+    (mark-else (p .symbols) (p .markers) (l .line) (p .marks) (symbolIn p (s .args .b .now)))
 
 mul-result : tie.Need-mul-result Inv-loop μ-loop
 mul-result c =

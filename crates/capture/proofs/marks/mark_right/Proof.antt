@@ -54,7 +54,7 @@ returns c =
     let v : ℕ = getD (a .t1 .marks) (a .w) 0 in
     c .bit-at .ensures
     ∙ tells (a .t1 .order) (a .t1 .group) (symbolCount (a .t1)) (omega arith) (a .b .now) (h .0 .passed) s v (omega arith) (omega arith)
-    ∙ ap bool (sym (mark-here (a .t1 .symbols) (a .t1 .count) (a .line) (a .t1 .marks) (symbolIn (a .t1) (a .b .now)) (a .w) (h .2)))
+    ∙ ap bool (sym (mark-here (a .t1 .symbols) (a .t1 .markers) (a .line) (a .t1 .marks) (symbolIn (a .t1) (a .b .now)) (a .w) (h .2)))
 
 pub mark-right-spec : {M : Type 1} → statement M
 mark-right-spec =

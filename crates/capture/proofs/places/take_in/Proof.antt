@@ -21,7 +21,7 @@ use Rattle.capture.proofs.places.take_in.Tie as tie
 
 abbrev Inv-loop : tie.InvT-loop
 Inv-loop p b line from to words₀ symbols rows first s₀ c₀ words s c =
-    (from ≤ s) × (line * unit p + p .count ≤ s) × (c ≡ (line * p .symbols + (s - (line * unit p + p .count))) % p .rows) × ((k : ℕ) → from ≤ k → k < s → k < to → restZero p b k ≡ true)
+    (from ≤ s) × (line * unit p + p .markers ≤ s) × (c ≡ (line * p .symbols + (s - (line * unit p + p .markers))) % p .rows) × ((k : ℕ) → from ≤ k → k < s → k < to → restZero p b k ≡ true)
     × (length words ≡ length words₀) × Took p b (min s to) words
 
 abbrev μ-loop : tie.MeasureT-loop
@@ -69,7 +69,7 @@ loop-holds c =
       omega arith,
       omega arith,
       refl,
-      λ k g l m. rest-else (p .symbols) (p .count) (a .line) (p .rows) (p .step) (total p) (symbolIn p (a .b .now)) k (omega arith) (omega arith),
+      λ k g l m. rest-else (p .symbols) (p .markers) (a .line) (p .rows) (p .step) (total p) (symbolIn p (a .b .now)) k (omega arith) (omega arith),
       refl,
       took-marks p (h .0 .captured .fine) (a .b .now) (a .words .now) (a .line) (a .from) _ (omega arith) low (λ q. omega arith) (h .4),
     )
@@ -86,7 +86,7 @@ take-place-requires c κs =
     let t = c .before .loop-test .taken in
     let end = h .3 in
     let first = l .inv .1 in
-    let e : s .args .line * unit p + (p .count + (l .s - (s .args .line * unit p + p .count))) ≡ l .s = omega arith in
+    let e : s .args .line * unit p + (p .markers + (l .s - (s .args .line * unit p + p .markers))) ≡ l .s = omega arith in
     let m : min (l .s) (s .args .to) ≡ l .s = omega arith in
     (h .0 .captured, h .1, omega arith, l .inv .2, rw e (h .0 .passed (l .s) (l .inv .0) (omega arith)), rw e (rw m at (l .inv .5)))
 
@@ -102,8 +102,8 @@ returns c =
     let g = c .before .before .before .before .before .loop-test .taken in
     let t : ℕ → Bool = restZero p (a .b .now) in
     let first = l .inv .1 in
-    let e : a .line * unit p + (p .count + (l .s - (a .line * unit p + p .count))) ≡ l .s = omega arith in
-    let here : t (l .s) ≡ false = ap t (sym e) ∙ bool-no (t (a .line * unit p + (p .count + (l .s - (a .line * unit p + p .count))))) (sym (c .before .before .before .take-place .ensures .0) ∙ c .if1 .taken) in
+    let e : a .line * unit p + (p .markers + (l .s - (a .line * unit p + p .markers))) ≡ l .s = omega arith in
+    let here : t (l .s) ≡ false = ap t (sym e) ∙ bool-no (t (a .line * unit p + (p .markers + (l .s - (a .line * unit p + p .markers))))) (sym (c .before .before .before .take-place .ensures .0) ∙ c .if1 .taken) in
     (sym (found-at t (a .from) (a .to) (l .s) (l .inv .0) g (λ k f m. l .inv .3 k f m (omega arith)) here), λ q. absurd (omega arith))
 
 next-requires : tie.Need-next-requires Inv-loop μ-loop
@@ -112,7 +112,7 @@ next-requires c κs =
     let p = s .args .p in
     let l = c .before .before .before .before .before .before .loop in
     let f = s .pre .0 .captured .fine in
-    (rw (l .inv .2) (mod-lt (s .args .line * p .symbols + (l .s - (s .args .line * unit p + p .count))) (f .rows-least)), f .rows-most)
+    (rw (l .inv .2) (mod-lt (s .args .line * p .symbols + (l .s - (s .args .line * unit p + p .markers))) (f .rows-least)), f .rows-most)
 
 add-s : tie.Need-add-s Inv-loop μ-loop
 add-s c = search needs
@@ -131,11 +131,11 @@ loop-again c =
     let t : ℕ → Bool = restZero p (a .b .now) in
     let first = l .inv .1 in
     let from = l .inv .0 in
-    let x : ℕ = a .line * p .symbols + (l .s - (a .line * unit p + p .count)) in
-    let f : x + 1 ≡ a .line * p .symbols + (l .s + 1 - (a .line * unit p + p .count)) = omega arith in
-    let e : a .line * unit p + (p .count + (l .s - (a .line * unit p + p .count))) ≡ l .s = omega arith in
-    let m : a .line * unit p + (p .count + (l .s - (a .line * unit p + p .count))) + 1 ≡ min (l .s + 1) (a .to) = omega arith in
-    let here : t (l .s) ≡ true = ap t (sym e) ∙ bool-yes (t (a .line * unit p + (p .count + (l .s - (a .line * unit p + p .count))))) (λ z. c .before .if1 .left (o .ensures .0 ∙ z)) in (
+    let x : ℕ = a .line * p .symbols + (l .s - (a .line * unit p + p .markers)) in
+    let f : x + 1 ≡ a .line * p .symbols + (l .s + 1 - (a .line * unit p + p .markers)) = omega arith in
+    let e : a .line * unit p + (p .markers + (l .s - (a .line * unit p + p .markers))) ≡ l .s = omega arith in
+    let m : a .line * unit p + (p .markers + (l .s - (a .line * unit p + p .markers))) + 1 ≡ min (l .s + 1) (a .to) = omega arith in
+    let here : t (l .s) ≡ true = ap t (sym e) ∙ bool-yes (t (a .line * unit p + (p .markers + (l .s - (a .line * unit p + p .markers))))) (λ z. c .before .if1 .left (o .ensures .0 ∙ z)) in (
       omega arith,
       omega arith,
       remainder-on x (p .rows) (l .c) (c .next .result) (l .inv .2) (c .next .ensures) ∙ ap (λ (y : ℕ). y % p .rows) f,

@@ -17,12 +17,12 @@ use Rattle.capture.proofs.places.take_place.Statement.{statement}
 use Rattle.capture.proofs.places.take_place.Tie as tie
 
 -- the sizes that the needs rest on
-known : (s : tie.Start) → (s .args .line * unit (s .args .p) + unit (s .args .p) ≤ symbolCount (s .args .p)) × Held (s .args .p) (s .args .b .now) (s .args .line * unit (s .args .p) + (s .args .p .count + s .args .i))
+known : (s : tie.Start) → (s .args .line * unit (s .args .p) + unit (s .args .p) ≤ symbolCount (s .args .p)) × Held (s .args .p) (s .args .b .now) (s .args .line * unit (s .args .p) + (s .args .p .markers + s .args .i))
 known s =
     let a = s .args in
     let h = s .pre in
     let u = line-in (unit (a .p)) (a .p .lines) (a .line) (h .1) in
-    (u, held (a .p) (h .0 .fine) (a .b .now) (h .0 .long) (a .line * unit (a .p) + (a .p .count + a .i)) (omega arith))
+    (u, held (a .p) (h .0 .fine) (a .b .now) (h .0 .long) (a .line * unit (a .p) + (a .p .markers + a .i)) (omega arith))
 
 mul-total : tie.Need-mul-total
 mul-total c = search needs
@@ -57,7 +57,7 @@ seen-requires c κs =
     let a = s .args in
     let h = s .pre in
     let r = known s in
-    let at : ℕ = a .line * unit (a .p) + (a .p .count + a .i) in
+    let at : ℕ = a .line * unit (a .p) + (a .p .markers + a .i) in
     (fewer (a .p .order) (a .p .group) (symbolCount (a .p)) (a .b .now) (lies (a .p) (h .0 .fine) (a .b .now) (h .0 .long)) (at + 1) (omega arith), h .4)
 
 put-symbol-requires : tie.Need-put-symbol-requires
@@ -79,7 +79,7 @@ returns c =
     let h = s .pre in
     let e = c .before .before .before .before .before .before .hit-by .ensures in
     let hit : hitBy (a .p) (a .line * a .p .symbols + a .i) < total (a .p) = let t = c .before .before .before .before .before .if1 .taken in omega arith in (
-      ap bool (sym (rest-hit (a .p .symbols) (a .p .count) (a .line) (a .p .rows) (a .p .step) (total (a .p)) (symbolIn (a .p) (a .b .now)) (a .i) (h .2) hit)),
+      ap bool (sym (rest-hit (a .p .symbols) (a .p .markers) (a .line) (a .p .rows) (a .p .step) (total (a .p)) (symbolIn (a .p) (a .b .now)) (a .i) (h .2) hit)),
       took-hit (a .p) (h .0 .fine) (a .b .now) (a .words .now) (a .line) (a .i) (h .2) _ hit (rw (e, c .before .before .before .before .seen .ensures) at (c .before .before .put-symbol .ensures)) (h .5),
     )
 
@@ -95,12 +95,12 @@ returns-2 c =
     let a = s .args in
     let h = s .pre in
     let r = known s in
-    let k : ℕ = a .line * unit (a .p) + (a .p .count + a .i) in
+    let k : ℕ = a .line * unit (a .p) + (a .p .markers + a .i) in
     let e : k * a .p .group ≡ k * a .p .group + 0 = omega arith in
     let none : total (a .p) ≤ hitBy (a .p) (a .line * a .p .symbols + a .i) = let d = c .before .before .before .hit-by .ensures in let l = c .before .before .if1 .left in omega arith in (
       c .bit-at .ensures ∙ ap (bitAt (a .b .now)) e
           ∙ group-got (a .p .order) (a .p .group) (omega arith) (a .b .now) k (h .4) .slot 0 (omega arith)
-          ∙ ap bool (sym (rest-unhit (a .p .symbols) (a .p .count) (a .line) (a .p .rows) (a .p .step) (total (a .p)) (symbolIn (a .p) (a .b .now)) (a .i) (h .2) none)),
+          ∙ ap bool (sym (rest-unhit (a .p .symbols) (a .p .markers) (a .line) (a .p .rows) (a .p .step) (total (a .p)) (symbolIn (a .p) (a .b .now)) (a .i) (h .2) none)),
       took-unhit (a .p) (h .0 .fine) (a .b .now) (a .words .now) (a .line) (a .i) (h .2) none (h .5),
     )
 

@@ -1,4 +1,4 @@
--- A row of places, residue by residue: places of one residue have one delay, so that their symbols follow one another; a place that is not hit holds 0, as it was laid.
+-- A line of places, residue by residue: places of one residue have one delay, so that their symbols follow one another; a place that is not hit holds 0, as it was laid.
 use mathlib.Core.Path.{_≡_, refl, sym, ap, _∙_}
 use mathlib.Core.Bool.{Bool, true, false}
 use mathlib.Core.List.{List}
@@ -12,7 +12,7 @@ use borrow.Author.Tests.{lt-ltb, le-ltb, eq-eqb, ne-eqb}
 use Rattle.bits.specs.Change.{flipBit, Ends}
 use Rattle.bits.specs.Choice.{pick, lt-or-le, eq-or-ne}
 use Rattle.bits.specs.Pack.{bitAt, Bytes, bytes-made, cut, cut-in, cut-past}
-use Rattle.channel.specs.Markers.{line-place}
+use Rattle.channel.specs.Markers.{line-in, line-place}
 use Rattle.channel.specs.Places.{delay, source, hit-is, placed-hit, placed-rest, same-apart}
 use Rattle.pulses.specs.Pulses as pulses
 use Rattle.plan.specs.declared.Plan.{Plan}
@@ -20,12 +20,12 @@ use Rattle.plan.specs.Plan.{Fine, unit, total, symbolCount, slotBytes}
 use Rattle.slots.specs.Bounds.{Bounds, bounds, delay-most}
 use Rattle.slots.specs.Laws.{placed-below}
 use Rattle.slots.specs.Slots.{dataAt, hitBy, placed, symbolAt, slotBit, slotsOf}
-use Rattle.slots.specs.Writing.{Holds, front, rowEnd, stride, sooner, soFar}
+use Rattle.slots.specs.Writing.{Holds, front, lineEnd, stride, sooner, soFar}
 use Rattle.slots.proofs.Moves.{holds-moved}
 
--- ---- rows
+-- ---- lines
 
--- the numbers of row j, of which a residue r is put
+-- the numbers of line j, of which a residue r is put
 pub record Sizes (p : Plan) (j r : ℕ) : Type 0 where
   pub of-plan : Bounds p
   pub places : j * p .symbols + p .symbols < 2 ^ 23
@@ -35,19 +35,15 @@ pub record Sizes (p : Plan) (j r : ℕ) : Type 0 where
   pub stride-least : 1 ≤ stride (p .rows)
   pub stride-most : stride (p .rows) ≤ 128
 
--- the symbols before and in row j are among all
-pub row-inside : (p : Plan) (j : ℕ) → j < p .lines → j * unit p + unit p ≤ symbolCount p
-row-inside p j l = let k : j + 1 ≤ p .lines = omega arith in omega (arith, mul-le-mul k (le-refl (unit p)))
+-- the slots of the symbols before line j lie within
+pub line-end-inside : (p : Plan) (j : ℕ) → j ≤ p .lines → j * unit p * p .group ≤ symbolCount p * p .group
+line-end-inside p j l = mul-le-mul (mul-le-mul l (le-refl (unit p))) (le-refl (p .group))
 
--- their slots lie within
-pub row-end-inside : (p : Plan) (j : ℕ) → j ≤ p .lines → j * unit p * p .group ≤ symbolCount p * p .group
-row-end-inside p j l = mul-le-mul (mul-le-mul l (le-refl (unit p))) (le-refl (p .group))
+pub line-end-on : (p : Plan) (j : ℕ) → j * unit p * p .group ≤ (j + 1) * unit p * p .group
+line-end-on p j = let l : j ≤ j + 1 = omega arith in mul-le-mul (mul-le-mul l (le-refl (unit p))) (le-refl (p .group))
 
-pub row-end-on : (p : Plan) (j : ℕ) → j * unit p * p .group ≤ (j + 1) * unit p * p .group
-row-end-on p j = let l : j ≤ j + 1 = omega arith in mul-le-mul (mul-le-mul l (le-refl (unit p))) (le-refl (p .group))
-
--- before the first row nothing is asked
-pub holds-none : (p : Plan) (word : ℕ → List ℕ) (slots : List ℕ) → length slots ≡ slotBytes p → Bytes slots → Holds p (front p word (0 * unit p)) (rowEnd p 0) slots
+-- before the first line nothing is asked
+pub holds-none : (p : Plan) (word : ℕ → List ℕ) (slots : List ℕ) → length slots ≡ slotBytes p → Bytes slots → Holds p (front p word (0 * unit p)) (lineEnd p 0) slots
 holds-none p word slots e b =
     let z : 0 * unit p * p .group ≡ 0 = ap (λ (n : ℕ). n * p .group) (zero-mul (unit p)) ∙ zero-mul (p .group) in
     record { room = e; bytes = b; bits = λ x l. absurd (omega arith) }
@@ -70,7 +66,7 @@ holds-next p word s end q slots after l small same h e bytes =
     h after e bytes
 
 -- with all of them, and no pulse behind them, it is the definition
-pub holds-all : (p : Plan) → Fine p → (word : ℕ → List ℕ) (slots after : List ℕ) → Holds p (front p word (p .lines * unit p)) (rowEnd p (p .lines)) slots
+pub holds-all : (p : Plan) → Fine p → (word : ℕ → List ℕ) (slots after : List ℕ) → Holds p (front p word (p .lines * unit p)) (lineEnd p (p .lines)) slots
     → Ends slots (p .lines * unit p * p .group) after → Bytes after → after ≡ slotsOf p word
 unfolding slotsOf pulses.slotsOf pulses.slotBit
 holds-all p fine word slots after h e bytes =
@@ -123,7 +119,7 @@ stride-delay rows step r x =
 pub sizes : (p : Plan) → Fine p → (j r : ℕ) → j < p .lines → Sizes p j r
 sizes p fine j r l =
     let k = bounds p fine in
-    let symbols : j * unit p + unit p ≤ symbolCount p = row-inside p j l in
+    let symbols : j * unit p + unit p ≤ symbolCount p = line-in (unit p) (p .lines) j l in
     record {
       of-plan = k;
       places = omega arith;
@@ -211,40 +207,40 @@ module _ (p : Plan) (fine : Fine p) (word : ℕ → List ℕ) (r y : ℕ) (res :
       absurd (omega arith))
       (lt-or-le y d)
 
--- ---- the symbols of a row so far
+-- ---- the symbols of a line so far
 
 module _ (p : Plan) (word : ℕ → List ℕ) (j : ℕ) where
-  row-place : (k : ℕ) → k < p .symbols → symbolAt p word (j * unit p + p .count + k) ≡ placed p word (j * p .symbols + k)
-  row-place k l =
-      let e : j * unit p + p .count + k ≡ j * unit p + (p .count + k) = omega arith in
-      ap (symbolAt p word) e ∙ line-place (p .symbols) (p .count) (p .marks) (placed p word) j k l
+  place-in-line : (k : ℕ) → k < p .symbols → symbolAt p word (j * unit p + p .markers + k) ≡ placed p word (j * p .symbols + k)
+  place-in-line k l =
+      let e : j * unit p + p .markers + k ≡ j * unit p + (p .markers + k) = omega arith in
+      ap (symbolAt p word) e ∙ line-place (p .symbols) (p .markers) (p .marks) (placed p word) j k l
 
-  so-front : (r x s : ℕ) → s < j * unit p + p .count → soFar p word j r x s ≡ symbolAt p word s
+  so-front : (r x s : ℕ) → s < j * unit p + p .markers → soFar p word j r x s ≡ symbolAt p word s
   unfolding soFar cut
   so-front r x s l =
-      let first : ℕ = j * unit p + p .count in
+      let first : ℕ = j * unit p + p .markers in
       let m : s < first + p .symbols = omega arith in
       rw (lt-ltb s (first + p .symbols) m, lt-ltb s first l) refl
 
-  so-row : (r x k : ℕ) → k < p .symbols → soFar p word j r x (j * unit p + p .count + k) ≡ pick (sooner (stride (p .rows)) r x (j * p .symbols + k)) (placed p word (j * p .symbols + k)) 0
+  so-line : (r x k : ℕ) → k < p .symbols → soFar p word j r x (j * unit p + p .markers + k) ≡ pick (sooner (stride (p .rows)) r x (j * p .symbols + k)) (placed p word (j * p .symbols + k)) 0
   unfolding soFar cut
-  so-row r x k l =
-      let first : ℕ = j * unit p + p .count in
+  so-line r x k l =
+      let first : ℕ = j * unit p + p .markers in
       let m : first + k < first + p .symbols = omega arith in
       let le : first ≤ first + k = omega arith in
       let back : first + k - first ≡ k = omega arith in
-      rw (lt-ltb (first + k) (first + p .symbols) m, le-ltb (first + k) first le, back, row-place k l) refl
+      rw (lt-ltb (first + k) (first + p .symbols) m, le-ltb (first + k) first le, back, place-in-line k l) refl
 
-  so-past : (r x s : ℕ) → j * unit p + p .count + p .symbols ≤ s → soFar p word j r x s ≡ 0
+  so-past : (r x s : ℕ) → j * unit p + p .markers + p .symbols ≤ s → soFar p word j r x s ≡ 0
   unfolding soFar cut
-  so-past r x s l = rw (le-ltb s (j * unit p + p .count + p .symbols) l) refl
+  so-past r x s l = rw (le-ltb s (j * unit p + p .markers + p .symbols) l) refl
 
-  -- each of them: before the row's places, among them, or behind them
-  by-row : (r x s v : ℕ) → (s < j * unit p + p .count → symbolAt p word s ≡ v)
-      → ((k : ℕ) → k < p .symbols → s ≡ j * unit p + p .count + k → pick (sooner (stride (p .rows)) r x (j * p .symbols + k)) (placed p word (j * p .symbols + k)) 0 ≡ v)
-      → (j * unit p + p .count + p .symbols ≤ s → 0 ≡ v) → soFar p word j r x s ≡ v
-  by-row r x s v hf hr hp =
-      let first : ℕ = j * unit p + p .count in
+  -- each of them: before the line's places, among them, or behind them
+  by-line : (r x s v : ℕ) → (s < j * unit p + p .markers → symbolAt p word s ≡ v)
+      → ((k : ℕ) → k < p .symbols → s ≡ j * unit p + p .markers + k → pick (sooner (stride (p .rows)) r x (j * p .symbols + k)) (placed p word (j * p .symbols + k)) 0 ≡ v)
+      → (j * unit p + p .markers + p .symbols ≤ s → 0 ≡ v) → soFar p word j r x s ≡ v
+  by-line r x s v hf hr hp =
+      let first : ℕ = j * unit p + p .markers in
       ⊎-elim
       (λ (a : s < first). so-front r x s a ∙ hf a)
       (λ (a : first ≤ s). ⊎-elim
@@ -252,25 +248,25 @@ module _ (p : Plan) (word : ℕ → List ℕ) (j : ℕ) where
       let k : ℕ = s - first in
       let e : s ≡ first + k = omega arith in
       let l : k < p .symbols = omega arith in
-      ap (soFar p word j r x) e ∙ so-row r x k l ∙ hr k l e)
+      ap (soFar p word j r x) e ∙ so-line r x k l ∙ hr k l e)
       (λ (b : first + p .symbols ≤ s). so-past r x s b ∙ hp b)
       (lt-or-le s (first + p .symbols)))
       (lt-or-le s first)
 
-  same-row : (r x u v s : ℕ) → ((y : ℕ) → j * p .symbols ≤ y → y < j * p .symbols + p .symbols → s ≡ j * unit p + p .count + (y - j * p .symbols)
+  same-line : (r x u v s : ℕ) → ((y : ℕ) → j * p .symbols ≤ y → y < j * p .symbols + p .symbols → s ≡ j * unit p + p .markers + (y - j * p .symbols)
       → pick (sooner (stride (p .rows)) r x y) (placed p word y) 0 ≡ pick (sooner (stride (p .rows)) u v y) (placed p word y) 0) → soFar p word j r x s ≡ soFar p word j u v s
-  same-row r x u v s h =
-      by-row r x s (soFar p word j u v s)
+  same-line r x u v s h =
+      by-line r x s (soFar p word j u v s)
       (λ l. sym (so-front u v s l))
-      (λ k l e. h (j * p .symbols + k) (omega arith) (omega arith) (omega arith) ∙ sym (ap (soFar p word j u v) e ∙ so-row u v k l))
+      (λ k l e. h (j * p .symbols + k) (omega arith) (omega arith) (omega arith) ∙ sym (ap (soFar p word j u v) e ∙ so-line u v k l))
       (λ l. sym (so-past u v s l))
 
   -- before the first residue, and behind the last
-  pub row-begun : (s : ℕ) → front p word (j * unit p + p .count) s ≡ soFar p word j 0 0 s
-  row-begun s =
+  pub line-begun : (s : ℕ) → front p word (j * unit p + p .markers) s ≡ soFar p word j 0 0 s
+  line-begun s =
       let n : ℕ = stride (p .rows) in
-      let first : ℕ = j * unit p + p .count in
-      sym (by-row 0 0 s (front p word first s) (λ l. sym (cut-in first (symbolAt p word) s l))
+      let first : ℕ = j * unit p + p .markers in
+      sym (by-line 0 0 s (front p word first s) (λ l. sym (cut-in first (symbolAt p word) s l))
       (λ k l e.
       let y : ℕ = j * p .symbols + k in
       let le : first ≤ s = omega arith in
@@ -282,24 +278,24 @@ module _ (p : Plan) (word : ℕ → List ℕ) (j : ℕ) where
       ap (λ (t : Bool). pick t (placed p word y) 0) none ∙ sym (cut-past first (symbolAt p word) s le))
       (λ l. let le : first ≤ s = omega arith in sym (cut-past first (symbolAt p word) s le)))
 
-  pub row-ended : 1 ≤ p .rows → (s : ℕ) → soFar p word j (stride (p .rows)) 0 s ≡ front p word ((j + 1) * unit p) s
-  row-ended least s =
+  pub line-ended : 1 ≤ p .rows → (s : ℕ) → soFar p word j (stride (p .rows)) 0 s ≡ front p word ((j + 1) * unit p) s
+  line-ended least s =
       let n : ℕ = stride (p .rows) in
       let end : ℕ = (j + 1) * unit p in
-      by-row n 0 s (front p word end s) (λ l. let m : s < end = omega arith in sym (cut-in end (symbolAt p word) s m))
+      by-line n 0 s (front p word end s) (λ l. let m : s < end = omega arith in sym (cut-in end (symbolAt p word) s m))
       (λ k l e.
       let y : ℕ = j * p .symbols + k in
       let m : s < end = omega arith in
       let low : y % n < n = mod-lt y (stride-least (p .rows) least) in
       let all : sooner n n 0 y ≡ true = sooner-other n n 0 y (λ z. omega arith) ∙ lt-ltb (y % n) n low in
-      ap (λ (t : Bool). pick t (placed p word y) 0) all ∙ sym (cut-in end (symbolAt p word) s m ∙ ap (symbolAt p word) e ∙ row-place k l))
+      ap (λ (t : Bool). pick t (placed p word y) 0) all ∙ sym (cut-in end (symbolAt p word) s m ∙ ap (symbolAt p word) e ∙ place-in-line k l))
       (λ l. let m : end ≤ s = omega arith in sym (cut-past end (symbolAt p word) s m))
 
-  -- residues that have no symbol in the row
+  -- residues that have no symbol in the line
   residues-none : (a c s : ℕ) → a ≤ c → ((y : ℕ) → j * p .symbols ≤ y → y < j * p .symbols + p .symbols → a ≤ y % stride (p .rows) → y % stride (p .rows) < c → placed p word y ≡ 0)
       → soFar p word j a 0 s ≡ soFar p word j c 0 s
   residues-none a c s order h =
-      same-row a 0 c 0 s (λ y from to e.
+      same-line a 0 c 0 s (λ y from to e.
       let n : ℕ = stride (p .rows) in
       let v : ℕ = y % n in
       ⊎-elim
@@ -339,7 +335,7 @@ module _ (p : Plan) (word : ℕ → List ℕ) (j : ℕ) where
         → (s : ℕ) → soFar p word j r 0 s ≡ soFar p word j r x s
     residue-begun x first res near e s =
         let n : ℕ = stride (p .rows) in
-        same-row r 0 r x s (λ y a b q. ⊎-elim
+        same-line r 0 r x s (λ y a b q. ⊎-elim
         (λ (h : y % n ≡ r).
         let z : 0 ≤ y = omega arith in
         ap (λ (t : Bool). pick t (placed p word y) 0) (sooner-same n r 0 y h ∙ le-ltb y 0 z)
@@ -359,7 +355,7 @@ module _ (p : Plan) (word : ℕ → List ℕ) (j : ℕ) where
         → (s : ℕ) → soFar p word j r x s ≡ soFar p word j (r + 1) 0 s
     residue-ended x end e far s =
         let n : ℕ = stride (p .rows) in
-        same-row r x (r + 1) 0 s (λ y a b q. ⊎-elim
+        same-line r x (r + 1) 0 s (λ y a b q. ⊎-elim
         (λ (h : y % n ≡ r).
         let next : y % n ≡ r + 1 → ⊥ = λ z. omega arith in
         let low : y % n < r + 1 = omega arith in
@@ -379,24 +375,24 @@ module _ (p : Plan) (word : ℕ → List ℕ) (j : ℕ) where
 
     -- one place more: the pulse of its symbol is moved
     pub residue-more : (x at q end : ℕ) (slots after : List ℕ) → j < p .lines → x % stride (p .rows) ≡ r → j * p .symbols ≤ x → x < j * p .symbols + p .symbols
-        → at ≡ j * p .count + p .count + x → q ≡ placed p word x → Holds p (soFar p word j r x) end slots
+        → at ≡ j * p .markers + p .markers + x → q ≡ placed p word x → Holds p (soFar p word j r x) end slots
         → after ≡ flipBit (flipBit slots (at * p .group)) (at * p .group + q) → Bytes after → Holds p (soFar p word j r (x + stride (p .rows))) end after
-    residue-more x at q end slots after line res a b place same h e bytes =
+    residue-more x at q end slots after among res a b place same h e bytes =
         let n : ℕ = stride (p .rows) in
         let k : ℕ = x - j * p .symbols in
-        let s : ℕ = j * unit p + p .count + k in
+        let s : ℕ = j * unit p + p .markers + k in
         let l : k < p .symbols = omega arith in
         let here : j * p .symbols + k ≡ x = omega arith in
         let is : at ≡ s = omega arith in
-        let inside : s < symbolCount p = omega (arith, row-inside p j line) in
+        let inside : s < symbolCount p = omega (arith, line-in (unit p) (p .lines) j among) in
         let least : 1 ≤ n = stride-least (p .rows) (fine .rows-least) in
         let le : x ≤ x = omega arith in
         let lt : x < x + n = omega arith in
         let low : q < p .group = rw same (let c = placed-below p fine word x in let d = bounds p fine .group-least in omega arith) in
         holds-moved p (soFar p word j r x) (soFar p word j r (x + n)) end s q slots inside low
-        (so-row r x k l ∙ rw (here, sooner-same n r x x res, le-ltb x x le) refl)
-        (so-row r (x + n) k l ∙ rw (here, sooner-same n r (x + n) x res, lt-ltb x (x + n) lt) (sym same))
-        (λ u ne. same-row r x r (x + n) u (λ y c d z.
+        (so-line r x k l ∙ rw (here, sooner-same n r x x res, le-ltb x x le) refl)
+        (so-line r (x + n) k l ∙ rw (here, sooner-same n r (x + n) x res, lt-ltb x (x + n) lt) (sym same))
+        (λ u ne. same-line r x r (x + n) u (λ y c d z.
         let other : y ≡ x → ⊥ = λ w. ne (omega arith) in
         ap (λ (t : Bool). pick t (placed p word y) 0) (sooner-on n r x y res other)))
         h after (e ∙ ap (λ (v : ℕ). flipBit (flipBit slots (v * p .group)) (v * p .group + q)) is) bytes

@@ -1,38 +1,38 @@
--- The rows before `row` are there.
+-- The rows before `line` are there.
 use mathlib.Core.Path.{_≡_, sym, _∙_}
 use Prim.Native.Nat.{_*_, _-_, _≤_}
 use native.Mathlib.Omega.{arith}
 use borrow.Author.Needs.{needs}
 use Rattle.plan.specs.Plan.{unit}
-use Rattle.slots.specs.Writing.{Holds, front, rowEnd}
-use Rattle.slots.proofs.Rows.{holds-none}
-use Rattle.slots.proofs.put_rows.Statement.{statement}
-use Rattle.slots.proofs.put_rows.Tie as tie
+use Rattle.slots.specs.Writing.{Holds, front, lineEnd}
+use Rattle.slots.proofs.Lines.{holds-none}
+use Rattle.slots.proofs.put_lines.Statement.{statement}
+use Rattle.slots.proofs.put_lines.Tie as tie
 use Rattle.bits.specs.Pieces.{piece}
 use Rattle.sizes.specs.Sizes.{wordBytes}
 
 abbrev Inv-loop : tie.InvT-loop
-Inv-loop p words zeros slots₀ lines row₀ slots row = (row ≤ lines) × Holds p (front p (piece wordBytes words) (row * unit p)) (rowEnd p row) slots
+Inv-loop p words zeros slots₀ lines line₀ slots line = (line ≤ lines) × Holds p (front p (piece wordBytes words) (line * unit p)) (lineEnd p line) slots
 
 abbrev μ-loop : tie.MeasureT-loop
-μ-loop p words zeros slots₀ lines row₀ slots row = lines - row
+μ-loop p words zeros slots₀ lines line₀ slots line = lines - line
 
 loop-holds : tie.Need-loop-holds Inv-loop μ-loop
 loop-holds c =
     let s = c .before .before .before in
     (search needs, holds-none (s .args .p) (piece wordBytes (s .args .words .now)) (s .args .slots .now) (s .pre .0 .room) (λ i. omega (arith, c .slice-known .given i)))
 
-put-row-requires : tie.Need-put-row-requires Inv-loop μ-loop
-put-row-requires c κs = let s = c .before .before .before .before .before .before in (s .pre .0 .given, s .pre .1, c .before .loop-test .taken, c .before .before .loop .inv .1)
+put-line-requires : tie.Need-put-line-requires Inv-loop μ-loop
+put-line-requires c κs = let s = c .before .before .before .before .before .before in (s .pre .0 .given, s .pre .1, c .before .loop-test .taken, c .before .before .loop .inv .1)
 
-add-row : tie.Need-add-row Inv-loop μ-loop
-add-row c = search needs
+add-line : tie.Need-add-line Inv-loop μ-loop
+add-line c = search needs
 
 loop-less : tie.Need-loop-less Inv-loop μ-loop
 loop-less c = search needs
 
 loop-again : tie.Need-loop-again Inv-loop μ-loop
-loop-again c = (search needs, c .before .before .put-row .ensures)
+loop-again c = (search needs, c .before .before .put-line .ensures)
 
 same-length : tie.Need-same-length Inv-loop μ-loop
 same-length c = c .before .loop .inv .1 .room ∙ sym (c .before .before .before .before .before .pre .0 .room)
@@ -40,18 +40,18 @@ same-length c = c .before .loop .inv .1 .room ∙ sym (c .before .before .before
 returns : tie.Need-returns Inv-loop μ-loop
 returns c =
     let l = c .before .loop in
-    let e : l .row ≡ c .before .before .before .before .before .args .p .lines = omega arith in
+    let e : l .line ≡ c .before .before .before .before .before .args .p .lines = omega arith in
     rw e at (l .inv .1)
 
-pub put-rows-spec : {M : Type 1} → statement M
-put-rows-spec =
+pub put-lines-spec : {M : Type 1} → statement M
+put-lines-spec =
     tie.close
     (tie.spec
     Inv-loop
     μ-loop
     loop-holds
-    put-row-requires
-    add-row
+    put-line-requires
+    add-line
     loop-less
     loop-again
     same-length

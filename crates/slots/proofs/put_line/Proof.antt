@@ -1,14 +1,14 @@
--- The zeros of the row are laid, its markers and then its symbols are put; the rows before it stay as they are.
+-- The zeros of the line are laid, its markers and then its symbols are put; the rows before it stay as they are.
 use mathlib.Core.Path.{_∙_}
 use Prim.Native.Nat.{ℕ, _+_, _*_, _≤_}
 use native.Mathlib.Omega.{arith}
 use borrow.Author.Needs.{needs}
 use Rattle.plan.specs.Plan.{unit}
-use Rattle.slots.specs.Writing.{rowEnd}
-use Rattle.slots.proofs.Rows.{sizes, row-end-inside, row-end-on}
+use Rattle.slots.specs.Writing.{lineEnd}
+use Rattle.slots.proofs.Lines.{sizes, line-end-inside, line-end-on}
 use Rattle.slots.proofs.Zeros.{holds-laid}
-use Rattle.slots.proofs.put_row.Statement.{statement}
-use Rattle.slots.proofs.put_row.Tie as tie
+use Rattle.slots.proofs.put_line.Statement.{statement}
+use Rattle.slots.proofs.put_line.Tie as tie
 use Rattle.bits.specs.Pieces.{piece}
 use Rattle.sizes.specs.Sizes.{wordBytes}
 
@@ -16,66 +16,66 @@ add-unit : tie.Need-add-unit
 add-unit c =
     let s = c .before .before .before .before in
     let p = s .args .p in
-    let z = sizes p (s .pre .0 .fine) (s .args .row) 0 (s .pre .2) in
+    let z = sizes p (s .pre .0 .fine) (s .args .line) 0 (s .pre .2) in
     omega arith
 
 mul-from : tie.Need-mul-from
 mul-from c =
     let s = c .before .before .before .before in
     let p = s .args .p in
-    let z = sizes p (s .pre .0 .fine) (s .args .row) 0 (s .pre .2) in
+    let z = sizes p (s .pre .0 .fine) (s .args .line) 0 (s .pre .2) in
     omega arith
 
 mul-from-2 : tie.Need-mul-from-2
 mul-from-2 c =
     let s = c .before .before .before .before in
     let p = s .args .p in
-    let z = sizes p (s .pre .0 .fine) (s .args .row) 0 (s .pre .2) in
-    omega (arith, row-end-inside p (s .args .row) (omega arith))
+    let z = sizes p (s .pre .0 .fine) (s .args .line) 0 (s .pre .2) in
+    omega (arith, line-end-inside p (s .args .line) (omega arith))
 
 add-from : tie.Need-add-from
 add-from c =
     let s = c .before .before .before .before in
     let p = s .args .p in
-    let z = sizes p (s .pre .0 .fine) (s .args .row) 0 (s .pre .2) in
-    omega (arith, row-end-inside p (s .args .row) (omega arith))
+    let z = sizes p (s .pre .0 .fine) (s .args .line) 0 (s .pre .2) in
+    omega (arith, line-end-inside p (s .args .line) (omega arith))
 
 add-to : tie.Need-add-to
 add-to c =
     let s = c .before .before .before .before in
     let p = s .args .p in
-    let z = sizes p (s .pre .0 .fine) (s .args .row) 0 (s .pre .2) in
+    let z = sizes p (s .pre .0 .fine) (s .args .line) 0 (s .pre .2) in
     omega arith
 
 mul-to : tie.Need-mul-to
 mul-to c =
     let s = c .before .before .before .before in
     let p = s .args .p in
-    let z = sizes p (s .pre .0 .fine) (s .args .row) 0 (s .pre .2) in
+    let z = sizes p (s .pre .0 .fine) (s .args .line) 0 (s .pre .2) in
     omega arith
 
 mul-to-2 : tie.Need-mul-to-2
 mul-to-2 c =
     let s = c .before .before .before .before in
     let p = s .args .p in
-    let z = sizes p (s .pre .0 .fine) (s .args .row) 0 (s .pre .2) in
-    omega (arith, row-end-inside p (s .args .row + 1) (omega arith))
+    let z = sizes p (s .pre .0 .fine) (s .args .line) 0 (s .pre .2) in
+    omega (arith, line-end-inside p (s .args .line + 1) (omega arith))
 
 add-to-2 : tie.Need-add-to-2
 add-to-2 c =
     let s = c .before .before .before .before in
     let p = s .args .p in
-    let z = sizes p (s .pre .0 .fine) (s .args .row) 0 (s .pre .2) in
-    omega (arith, row-end-inside p (s .args .row + 1) (omega arith))
+    let z = sizes p (s .pre .0 .fine) (s .args .line) 0 (s .pre .2) in
+    omega (arith, line-end-inside p (s .args .line + 1) (omega arith))
 
 lay-zeros-requires : tie.Need-lay-zeros-requires
 lay-zeros-requires c κs =
     let s = c .before .before .before .before .before in
     let p = s .args .p in
-    let row = s .args .row in
+    let line = s .args .line in
     let room = s .pre .3 .room in
-    let on : row * unit p * p .group ≤ (row + 1) * unit p * p .group = row-end-on p row in
-    (s .pre .1 .repeats, omega arith, omega (arith, row-end-inside p (row + 1) (omega arith)))
+    let on : line * unit p * p .group ≤ (line + 1) * unit p * p .group = line-end-on p line in
+    (s .pre .1 .repeats, omega arith, omega (arith, line-end-inside p (line + 1) (omega arith)))
 
 put-marks-requires : tie.Need-put-marks-requires
 put-marks-requires c κs = let s = c .before .before .before .before .before .before .before .before .before in (s .pre .0 .fine, s .pre .2, c .before .before .before .lay-zeros .ensures .long ∙ s .pre .3 .room)
@@ -90,16 +90,16 @@ returns : tie.Need-returns
 returns c =
     let s = c .before .before .before .before .before .before .before .before .before .before .before .before .before .before .before .before in
     let p = s .args .p in
-    let row = s .args .row in
+    let line = s .args .line in
     let w = piece wordBytes (s .args .words .now) in
     let laid = c .before .before .before .before .before .before .before .before .before .before .lay-zeros in
-    let end : ℕ = rowEnd p (row + 1) in
-    let near : row * unit p * p .group ≤ 8 * rowEnd p row = omega arith in
-    let first = holds-laid p (s .pre .0 .fine) w (row * unit p) (rowEnd p row) end _ _ _ near (s .pre .1) (s .pre .3) (laid .ensures) (λ i. omega (arith, c .before .before .before .before .before .before .before .before .slice-known2 .given i)) in
+    let end : ℕ = lineEnd p (line + 1) in
+    let near : line * unit p * p .group ≤ 8 * lineEnd p line = omega arith in
+    let first = holds-laid p (s .pre .0 .fine) w (line * unit p) (lineEnd p line) end _ _ _ near (s .pre .1) (s .pre .3) (laid .ensures) (λ i. omega (arith, c .before .before .before .before .before .before .before .before .slice-known2 .given i)) in
     c .before .before .put-residues .ensures end (c .before .before .before .before .before .before .put-marks .ensures w end first)
 
-pub put-row-spec : {M : Type 1} → statement M
-put-row-spec =
+pub put-line-spec : {M : Type 1} → statement M
+put-line-spec =
     tie.close
     (tie.spec
     add-unit
