@@ -60,11 +60,12 @@ SEED ?=
 WORDS ?=
 PASSES ?=
 RUNS ?=
+UPLINKS ?=
 
 help:
 	@echo 'make test       prove every crate (rt ci), then host-test; last line: N passed, 0 failed'
-	@echo 'make host-test  the tests outside the proofs alone; SEED=n, WORDS=n, PASSES=n and RUNS=n'
-	@echo '                choose what is compared'
+	@echo 'make host-test  the tests outside the proofs alone; SEED=n, WORDS=n, PASSES=n, RUNS=n and'
+	@echo '                UPLINKS=n choose what is compared'
 	@echo 'make demo       write a run, see its first symbols, read it back, damage it, look into it'
 	@echo 'make bench      times of the library beside plain C and beside memory'
 	@echo 'make lib        the static library and the shared one: $(LIBS)'
@@ -86,8 +87,8 @@ PYTHON_TEST = if ! command -v python3 >/dev/null; then \
     echo 'python: no python3 here; the module is not tried'; \
     else MAHYREI_LIBRARY=$(abspath $(SHARED)) tests/python/module $(PROGRAM) $(HOST)/slots; fi
 HOST_TESTS = $(SHARED) $(addprefix $(HOST)/,mahyrei_lying word_calls pass_calls spread_calls \
-    run_calls plain_calls sha256_vectors second_test compare_words compare_passes compare_spreads \
-    compare_runs) \
+    run_calls uplink_calls plain_calls sha256_vectors second_test compare_words compare_passes \
+    compare_spreads compare_runs compare_uplinks) \
     $(COMMAND_TESTS)
 host-test: $(HOST_TESTS)
 	@echo '#include "mahyrei_plain.h"' | $(CXX) -x c++ $(WARNINGS) -Iinclude -fsyntax-only -
@@ -95,6 +96,7 @@ host-test: $(HOST_TESTS)
 	@$(STACK) && ASAN_OPTIONS=detect_leaks=0 $(HOST)/pass_calls
 	@$(STACK) && ASAN_OPTIONS=detect_leaks=0 $(HOST)/spread_calls
 	@$(STACK) && ASAN_OPTIONS=detect_leaks=0 $(HOST)/run_calls
+	@$(STACK) && ASAN_OPTIONS=detect_leaks=0 $(HOST)/uplink_calls
 	@$(STACK) && ASAN_OPTIONS=detect_leaks=0 $(HOST)/plain_calls
 	@ASAN_OPTIONS=detect_leaks=0 $(HOST)/sha256_vectors
 	@$(STACK) && $(HOST)/second_test --quiet
@@ -102,6 +104,7 @@ host-test: $(HOST_TESTS)
 	@$(STACK) && SEED=$(SEED) PASSES=$(PASSES) $(HOST)/compare_passes
 	@$(STACK) && SEED=$(SEED) $(HOST)/compare_spreads
 	@$(STACK) && SEED=$(SEED) RUNS=$(RUNS) $(HOST)/compare_runs
+	@$(STACK) && SEED=$(SEED) UPLINKS=$(UPLINKS) $(HOST)/compare_uplinks
 	@$(STACK) && tests/command/run $(COMMAND_TESTS)
 	@$(PYTHON_TEST)
 	@echo 'tests outside the proofs: passed'
@@ -114,10 +117,12 @@ demo: $(PROGRAM) $(HOST)/slots
 picture: $(PROGRAM) $(HOST)/slots
 	@demo/run $^ docs/capture.svg >/dev/null
 
-bench: $(HOST)/bench_words $(HOST)/bench_passes $(HOST)/bench_runs
+bench: $(addprefix $(HOST)/bench_,words passes uplinks runs)
 	@$(HOST)/bench_words
 	@echo
 	@$(HOST)/bench_passes
+	@echo
+	@$(HOST)/bench_uplinks
 	@echo
 	@$(HOST)/bench_runs
 
@@ -181,8 +186,8 @@ $(HOST)/archives: FORCE
 
 # The calls in plain C.
 STANDIN = $(HOST)/standin
-PLAIN_SOURCES = $(addprefix bench/,plain_word.c plain_word.h plain_pass.c plain_pass.h) \
-    tests/c/plain_run.c
+PLAIN_SOURCES = $(addprefix bench/,plain_word.c plain_word.h plain_pass.c plain_pass.h \
+    plain_uplink.c plain_uplink.h) tests/c/plain_run.c
 $(STANDIN)/libmahyrei.a: $(PLAIN_SOURCES) $(HEADER) $(PARTS)
 	@mkdir -p $(@D)
 	@$(COMPILE) $(PLAIN) -fPIC -c bench/plain_word.c -o $(STANDIN)/plain_word.o
@@ -190,9 +195,11 @@ $(STANDIN)/libmahyrei.a: $(PLAIN_SOURCES) $(HEADER) $(PARTS)
 	    -Dplain_bit_spread=bit_spread -c bench/plain_word.c -o $(STANDIN)/word.o
 	@$(COMPILE) $(PLAIN) -fPIC -Dplain_pass_write=pass_write -Dplain_pass_read=pass_read \
 	    -c bench/plain_pass.c -o $(STANDIN)/pass.o
+	@$(COMPILE) $(PLAIN) -fPIC -Dplain_uplink_write=uplink_write -Dplain_uplink_read=uplink_read \
+	    -c bench/plain_uplink.c -o $(STANDIN)/uplink.o
 	@$(COMPILE) $(PLAIN) -fPIC -Ibench -c tests/c/plain_run.c -o $(STANDIN)/run.o
 	@rm -f $@
-	@ar rcs $@ $(addprefix $(STANDIN)/,plain_word.o word.o pass.o run.o) $(PARTS)
+	@ar rcs $@ $(addprefix $(STANDIN)/,plain_word.o word.o pass.o uplink.o run.o) $(PARTS)
 
 HOST_SOURCES = $(wildcard host/*.c)
 HOST_FLAGS = -D_XOPEN_SOURCE=700 -DMAHYREI_VERSION='"$(VERSION)"' -pthread
@@ -217,10 +224,10 @@ $(HOST)/sha256_vectors: tests/c/sha256_vectors.c host/sha256.c host/sha256.h
 	@mkdir -p $(@D)
 	@$(COMPILE) $(SANITIZED) -Ihost $< host/sha256.c -o $@
 
-SECOND = $(addprefix tests/second/,lib.rs compare.rs library.rs pass.rs run.rs spread.rs word.rs \
-    run_cases.rs \
+SECOND = $(addprefix tests/second/,lib.rs compare.rs library.rs pass.rs run.rs spread.rs \
+    uplink.rs word.rs run_cases.rs \
     $(addprefix run_cases/,calls.rs damages.rs edges.rs headers.rs kinds.rs refusals.rs sample.rs) \
-    pass_cases.rs spread_cases.rs word_cases.rs)
+    pass_cases.rs spread_cases.rs uplink_cases.rs word_cases.rs)
 $(HOST)/second_test: $(SECOND)
 	@mkdir -p $(@D)
 	@$(RUSTC) $(RUSTFLAGS) --test $< -o $@
@@ -245,11 +252,21 @@ $(HOST)/plain_pass.o: bench/plain_pass.c bench/plain_pass.h bench/plain_word.h $
 	@mkdir -p $(@D)
 	@$(COMPILE) $(PLAIN) -c $< -o $@
 
+$(HOST)/plain_uplink.o: bench/plain_uplink.c bench/plain_uplink.h $(HEADER)
+	@mkdir -p $(@D)
+	@$(COMPILE) $(PLAIN) -c $< -o $@
+
+$(addprefix $(HOST)/bench_,words passes uplinks runs): bench/timing.h
+
 $(HOST)/bench_words: bench/bench_words.c $(HOST)/plain_word.o bench/plain_word.h $(HEADER) $(LINKED)
 	@$(COMPILE) $< $(HOST)/plain_word.o $(LIBS) -o $@
 
 $(HOST)/bench_passes: bench/bench_passes.c $(HEADER) $(LINKED)
 	@$(COMPILE) $< $(LIBS) -o $@
+
+$(HOST)/bench_uplinks: bench/bench_uplinks.c $(HOST)/plain_uplink.o bench/plain_uplink.h \
+    $(HEADER) $(LINKED)
+	@$(COMPILE) $< $(HOST)/plain_uplink.o $(LIBS) -o $@
 
 $(HOST)/bench_runs: bench/bench_runs.c $(HOST)/plain_word.o $(HOST)/plain_run.o bench/plain_run.h \
     tests/c/runs.h $(HEADER) $(LINKED)
@@ -268,7 +285,7 @@ fuzz: $(HOST)/fuzz_drive
 # The crates of the product that have code.
 CRATES ?= bits answers sizes crc convolution interleaver accumulator randomizer word pass spread \
     header quantities questions parameters plan stream frames pulses channel slots capture \
-    run_writer run_reader calls sheet runsheet
+    run_writer run_reader ldpc uplink uplink_writer uplink_reader calls sheet runsheet
 COUNT ?= 60
 .PHONY: mutants
 mutants:
@@ -292,7 +309,7 @@ $(HOST)/plain_run.o: tests/c/plain_run.c bench/plain_word.h $(HEADER)
 	    -c $< -o $@
 
 FUZZ_TARGET = tests/fuzz/drive.c tests/fuzz/calls.c \
-    $(addprefix $(HOST)/,plain_word.o plain_pass.o plain_run.o)
-$(HOST)/fuzz_drive: $(FUZZ_TARGET) bench/plain_pass.h bench/plain_run.h tests/fuzz/calls.h \
-    tests/c/runs.h $(HEADER) $(LINKED)
+    $(addprefix $(HOST)/,plain_word.o plain_pass.o plain_run.o plain_uplink.o)
+$(HOST)/fuzz_drive: $(FUZZ_TARGET) bench/plain_pass.h bench/plain_run.h bench/plain_uplink.h \
+    tests/fuzz/calls.h tests/c/runs.h $(HEADER) $(LINKED)
 	@$(COMPILE) $(SANITIZED) -Ibench $(FUZZ_TARGET) $(LIBS) -o $@

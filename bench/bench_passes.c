@@ -4,32 +4,15 @@
  * and little.
  */
 #define _POSIX_C_SOURCE 199309L /* clock_gettime */
-#include <stdio.h>
-#include <stdlib.h>
 #include <string.h>
-#include <time.h>
 
 #include "mahyrei.h"
+#include "timing.h"
 
 enum { RATES = 3, MOST = MAHYREI_PASS_MAX, WORD = MAHYREI_WORD_BYTES, WARM_UP = 3 };
 
 static uint8_t blocks[MOST * MAHYREI_BLOCK_BYTES_MAX], back[MOST * MAHYREI_BLOCK_BYTES_MAX];
 static uint8_t words[MOST * WORD], written[MOST * WORD];
-
-static void require(int right, const char *what) {
-    if (!right) {
-        fprintf(stderr, "bench: %s\n", what);
-        exit(1);
-    }
-}
-
-static void fill_blocks(void) {
-    static uint64_t state = 1;
-    for (size_t i = 0; i < sizeof blocks; i++) {
-        state = state * UINT64_C(6364136223846793005) + UINT64_C(1442695040888963407);
-        blocks[i] = (uint8_t)(state >> 56);
-    }
-}
 
 /* ---- what is timed, each for a pass of n */
 
@@ -77,12 +60,6 @@ static void compare(uint64_t rate, size_t n) {
             "a pass is read in another way than its words");
 }
 
-static double now(void) {
-    struct timespec t;
-    clock_gettime(CLOCK_MONOTONIC, &t);
-    return (double)t.tv_sec * 1e6 + (double)t.tv_nsec / 1e3;
-}
-
 static double once(timed *call, uint64_t rate, size_t n, size_t times) {
     const double start = now();
     for (size_t i = 0; i < times; i++) {
@@ -110,7 +87,7 @@ int main(void) {
     printf("microseconds a pass, and the same words by the word calls, the best turn of each\n");
     printf("%-5s %-11s %6s %10s %10s %15s\n", "rate", "call", "blocks", "pass", "one by one",
            "pass/one by one");
-    fill_blocks();
+    fill(blocks, sizeof blocks);
     for (uint64_t rate = 0; rate < RATES; rate++) {
         compare(rate, MOST);
         row("pass_write", write_pass, write_singly, rate, MOST);

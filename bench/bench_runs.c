@@ -5,14 +5,12 @@
  * alike and little. Output slices are not cleared between calls.
  */
 #define _POSIX_C_SOURCE 199309L /* clock_gettime */
-#include <stdio.h>
-#include <stdlib.h>
 #include <string.h>
-#include <time.h>
 
 #include "mahyrei.h"
 #include "plain_run.h"
 #include "runs.h"
+#include "timing.h"
 
 /* Turns last about this long in all, in microseconds, but there are at least so many. */
 static const double LONG_ENOUGH = 2e6;
@@ -39,21 +37,7 @@ struct slices {
     size_t marker_len, frames_len, slots_len;
 };
 
-static void require(int right, const char *what) {
-    if (!right) {
-        fprintf(stderr, "bench: %s\n", what);
-        exit(1);
-    }
-}
-
-static double now(void) {
-    struct timespec t;
-    clock_gettime(CLOCK_MONOTONIC, &t);
-    return (double)t.tv_sec * 1e6 + (double)t.tv_nsec / 1e3;
-}
-
 static void make(const struct run *run, struct slices *s) {
-    uint64_t state = 1;
     pack_header(run, s->header);
     s->marker_len = run->W;
     s->frames_len = run->A * run->F;
@@ -65,10 +49,7 @@ static void make(const struct run *run, struct slices *s) {
     for (size_t i = 0; i < s->marker_len; i++) {
         s->marker[i] = (uint8_t)(i % pulse_order(run));
     }
-    for (size_t i = 0; i < s->frames_len; i++) {
-        state = state * UINT64_C(6364136223846793005) + UINT64_C(1442695040888963407);
-        s->frames[i] = (uint8_t)(state >> 56);
-    }
+    fill(s->frames, s->frames_len);
 }
 
 /* ---- what is timed */

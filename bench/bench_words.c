@@ -5,13 +5,11 @@
  * both alike and little. Output slices are not cleared between calls.
  */
 #define _POSIX_C_SOURCE 199309L /* clock_gettime */
-#include <stdio.h>
-#include <stdlib.h>
 #include <string.h>
-#include <time.h>
 
 #include "mahyrei.h"
 #include "plain_word.h"
+#include "timing.h"
 
 enum { RATES = 3, WORDS = 64, BATCHES = 60, WARM_UP = 5 };
 
@@ -23,20 +21,8 @@ static uint8_t words[WORDS][MAHYREI_WORD_BYTES];
 static uint8_t written[MAHYREI_WORD_BYTES], read_back[MAHYREI_BLOCK_BYTES_MAX];
 
 static void fill_blocks(uint64_t rate) {
-    static uint64_t state = 1;
-    const size_t len = word_block_bytes(rate);
     for (size_t i = 0; i < WORDS; i++) {
-        for (size_t j = 0; j < len; j++) {
-            state = state * UINT64_C(6364136223846793005) + UINT64_C(1442695040888963407);
-            blocks[i][j] = (uint8_t)(state >> 56);
-        }
-    }
-}
-
-static void require(int agreed, const char *what) {
-    if (!agreed) {
-        fprintf(stderr, "bench: library and plain C differ: %s\n", what);
-        exit(1);
+        fill(blocks[i], word_block_bytes(rate));
     }
 }
 
@@ -52,25 +38,19 @@ static void compare(uint64_t rate) {
         require(word_write(rate, blocks[i], len, words[i], MAHYREI_WORD_BYTES) == 0 &&
                     plain_word_write(rate, blocks[i], len, written, MAHYREI_WORD_BYTES) == 0 &&
                     memcmp(words[i], written, MAHYREI_WORD_BYTES) == 0,
-                "words written");
+                "library and plain C write other words");
         require(word_read(rate, words[i], MAHYREI_WORD_BYTES, read_back, len) == 0 &&
                     is_read_back(blocks[i], len),
-                "block read by the library");
+                "the library reads another block");
         memset(read_back, 0, len);
         require(plain_word_read(rate, words[i], MAHYREI_WORD_BYTES, read_back, len) == 0 &&
                     is_read_back(blocks[i], len),
-                "block read by plain C");
+                "plain C reads another block");
         written[i] ^= 1;
         require(word_read(rate, written, MAHYREI_WORD_BYTES, read_back, len) ==
                     plain_word_read(rate, written, MAHYREI_WORD_BYTES, read_back, len),
-                "refusals");
+                "library and plain C refuse in other ways");
     }
-}
-
-static double now(void) {
-    struct timespec t;
-    clock_gettime(CLOCK_MONOTONIC, &t);
-    return (double)t.tv_sec * 1e6 + (double)t.tv_nsec / 1e3;
 }
 
 /* Microseconds a word over one batch. */

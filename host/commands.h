@@ -85,6 +85,8 @@ enum status read_command(const struct line *line, struct entry *entry);
 enum status verify_command(const struct line *line, struct entry *entry);
 enum status pass_write_command(const struct line *line, struct entry *entry);
 enum status pass_read_command(const struct line *line, struct entry *entry);
+enum status uplink_write_command(const struct line *line, struct entry *entry);
+enum status uplink_read_command(const struct line *line, struct entry *entry);
 enum status spread_command(const struct line *line, struct entry *entry);
 enum status sheet_command(const struct line *line, struct entry *entry);
 enum status header_command(const struct line *line, struct entry *entry);

@@ -59,6 +59,21 @@ static void *make_pass_call(void *given) {
     return NULL;
 }
 
+/* One call of the uplink, and its answer. */
+struct uplink_call {
+    const struct uplink *uplink;
+    bool writing;
+    uint64_t answer;
+};
+
+static void *make_uplink_call(void *given) {
+    struct uplink_call *const call = given;
+    const struct bytes *const frames = &call->uplink->frames, *const slots = &call->uplink->slots;
+    call->answer = call->writing ? uplink_write(frames->at, frames->len, slots->at, slots->len)
+                                 : uplink_read(slots->at, slots->len, frames->at, frames->len);
+    return NULL;
+}
+
 /* A bit whose spread is asked for. */
 struct spread_call {
     uint64_t rate, bit;
@@ -143,6 +158,24 @@ bool library_pass_write(const struct pass *pass, uint64_t *answer) {
 bool library_pass_read(const struct pass *pass, uint64_t *answer) {
     struct pass_call call = {pass, false, 0};
     return ask_pass(&call, answer);
+}
+
+static bool ask_uplink(struct uplink_call *call, uint64_t *answer) {
+    if (!on_its_stack(make_uplink_call, call)) {
+        return false;
+    }
+    *answer = call->answer;
+    return true;
+}
+
+bool library_uplink_write(const struct uplink *uplink, uint64_t *answer) {
+    struct uplink_call call = {uplink, true, 0};
+    return ask_uplink(&call, answer);
+}
+
+bool library_uplink_read(const struct uplink *uplink, uint64_t *answer) {
+    struct uplink_call call = {uplink, false, 0};
+    return ask_uplink(&call, answer);
 }
 
 bool library_spread(uint64_t rate, uint64_t bit, uint8_t *places, uint64_t *answer) {

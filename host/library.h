@@ -31,6 +31,14 @@ struct pass {
 bool library_pass_write(const struct pass *pass, uint64_t *answer);
 bool library_pass_read(const struct pass *pass, uint64_t *answer);
 
+/* What an uplink call is lent. */
+struct uplink {
+    struct bytes frames, slots;
+};
+
+bool library_uplink_write(const struct uplink *uplink, uint64_t *answer);
+bool library_uplink_read(const struct uplink *uplink, uint64_t *answer);
+
 /* Room for MAHYREI_WORD_BYTES bytes of places. */
 bool library_spread(uint64_t rate, uint64_t bit, uint8_t *places, uint64_t *answer);
 

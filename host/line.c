@@ -76,7 +76,7 @@ static void print_help(FILE *to) {
           "back.\n\n",
           to);
     for (const struct command *each = COMMANDS; each->name != NULL; each++) {
-        fprintf(to, "  %-10s %s\n", each->name, each->help);
+        fprintf(to, "  %-12s %s\n", each->name, each->help);
     }
     fputs("\nEach operand is a file, or - for standard input or output. HEADER and MARKER can be\n"
           "hexadecimal text instead, such as 5950F01BE8020000 or hex:050C; a file whose name has\n"

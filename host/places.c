@@ -192,3 +192,39 @@ void say_where_in_pass(uint64_t answer, const struct pass *pass, bool writing,
                answer_place(answer), first, first + MAHYREI_WORD_BYTES - 1);
     }
 }
+
+/* ---- uplinks */
+
+static void say_uplink_count(const struct uplink *uplink, bool writing, const char *about) {
+    const size_t len = writing ? uplink->frames.len : uplink->slots.len;
+    const int each = writing ? MAHYREI_UPLINK_FRAME_BYTES : MAHYREI_UPLINK_CODEBLOCK_BYTES;
+    const size_t limit = writing ? UPLINK_FRAMES_LIMIT : UPLINK_SLOTS_LIMIT;
+    remark(about, "there are %zu byte%s%s; an uplink has %d for each %s, and 1 to %d of them", len,
+           plural(len), len == limit ? " or more" : "", each, writing ? "frame" : "codeblock",
+           MAHYREI_UPLINK_MAX);
+}
+
+/* Two groups of four slots are a byte. */
+static void say_group(uint64_t group, const char *about) {
+    const uint64_t bits = 2 * MAHYREI_UPLINK_CODEBLOCK_BYTES;
+    remark(about,
+           "group %" PRIu64 " is bit %" PRIu64 " of codeblock %" PRIu64 ", slots %" PRIu64
+           " to %" PRIu64 ", in byte %" PRIu64,
+           group, group % bits, group / bits, 4 * group, 4 * group + 3, group / 2);
+}
+
+void say_where_in_uplink(uint64_t answer, const struct uplink *uplink, bool writing,
+                         const char *operand) {
+    const uint64_t place = answer_place(answer), first = place * MAHYREI_UPLINK_CODEBLOCK_BYTES;
+    switch (answer_number(answer)) {
+    case MAHYREI_BAD_LENGTH:
+        say_uplink_count(uplink, writing, shown(operand));
+        break;
+    case MAHYREI_BAD_GROUP:
+        say_group(place, shown(operand));
+        break;
+    default:
+        remark(shown(operand), "codeblock %" PRIu64 " is bytes %" PRIu64 " to %" PRIu64, place,
+               first, first + MAHYREI_UPLINK_CODEBLOCK_BYTES - 1);
+    }
+}

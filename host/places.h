@@ -19,6 +19,10 @@ void say_where(uint64_t answer, const struct lent *run, const struct operands *o
 /* The same for a pass, whose blocks or words were read from this operand. */
 void say_where_in_pass(uint64_t answer, const struct pass *pass, bool writing, const char *operand);
 
+/* The same for an uplink, whose frames or slots were read from this operand. */
+void say_where_in_uplink(uint64_t answer, const struct uplink *uplink, bool writing,
+                         const char *operand);
+
 /* The same for a header alone, whose number this is. */
 void say_header(unsigned number, const struct bytes *header, const char *operand);
 

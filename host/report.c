@@ -135,6 +135,12 @@ void entry_pass(struct entry *entry, const char *blocks, const char *words) {
     entry->words.name = words;
 }
 
+void entry_uplink(struct entry *entry, const char *frames, const char *slots) {
+    entry->kind = UPLINK_ENTRY;
+    entry->frames.name = frames;
+    entry->slots.name = slots;
+}
+
 void entry_spread(struct entry *entry) {
     entry->kind = SPREAD_ENTRY;
 }
@@ -277,9 +283,16 @@ static void print_spread(FILE *to, const struct entry *entry) {
     fprintf(to, " rate=%s bit=%s", entry->rate, entry->bit);
 }
 
+static void print_uplink(FILE *to, const struct entry *entry) {
+    print_part(to, "frames", &entry->frames);
+    print_part(to, "slots", &entry->slots);
+}
+
 static void print_entry(FILE *to, const struct entry *entry, int status) {
-    static void (*const PRINT[])(FILE *, const struct entry *) = {
-        [RUN_ENTRY] = print_run, [PASS_ENTRY] = print_pass, [SPREAD_ENTRY] = print_spread};
+    static void (*const PRINT[])(FILE *, const struct entry *) = {[RUN_ENTRY] = print_run,
+                                                                  [PASS_ENTRY] = print_pass,
+                                                                  [SPREAD_ENTRY] = print_spread,
+                                                                  [UPLINK_ENTRY] = print_uplink};
     char now[TIME_TEXT];
     time_text(now);
     fprintf(to, "%s %s", now, entry->what);

@@ -31,9 +31,9 @@ void say_refusal(uint64_t answer);
 enum { ENTRY_HEX = 72, ENTRY_DIGEST = 65, ENTRY_NUMBER = 24 };
 
 /* What a line of the log is about, and so what stands in it. */
-enum entry_kind { RUN_ENTRY, PASS_ENTRY, SPREAD_ENTRY };
+enum entry_kind { RUN_ENTRY, PASS_ENTRY, SPREAD_ENTRY, UPLINK_ENTRY };
 
-/* Frames or slots of a run, blocks or words of a pass, as the log has them. */
+/* Frames or slots of a run or an uplink, blocks or words of a pass, as the log has them. */
 struct entry_part {
     const char *name; /* NULL where there is none */
     size_t size;
@@ -46,7 +46,7 @@ struct entry {
     enum entry_kind kind;
     char header[ENTRY_HEX], marker_digits[ENTRY_HEX]; /* a run's, and so the next two lines */
     size_t marker;
-    struct entry_part frames, slots;
+    struct entry_part frames, slots; /* an uplink's too */
     char rate[ENTRY_NUMBER];
     struct entry_part blocks, words; /* a pass's */
     char bit[ENTRY_NUMBER];          /* a spread's */
@@ -60,8 +60,9 @@ void entry_marker(struct entry *entry, const uint8_t *marker, size_t len);
 void entry_rate(struct entry *entry, uint64_t rate);
 void entry_answer(struct entry *entry, uint64_t answer);
 
-/* It is about a pass, or about a bit's spread. */
+/* It is about a pass, an uplink, or a bit's spread. */
 void entry_pass(struct entry *entry, const char *blocks, const char *words);
+void entry_uplink(struct entry *entry, const char *frames, const char *slots);
 void entry_spread(struct entry *entry);
 void entry_bit(struct entry *entry, uint64_t bit);
 

@@ -10,7 +10,11 @@
  * A run is a set of transfer frames turned into slots: frame markers, blocks, their words, PPM
  * symbols, channel interleaver, codeblock markers, slots with guard slots. run_write makes the
  * slots of the frames; run_read accepts slots only if some frames make them, and gives those
- * frames back. No call corrects anything.
+ * frames back.
+ *
+ * The uplink is apart from these: command frames of 64 bits, each a codeblock of 512 slots.
+ * uplink_write makes the slots of the frames; uplink_read accepts slots only if some frames make
+ * them, and gives those frames back. No call corrects anything.
  *
  * Link with libmahyrei.a (-lmahyrei), which needs nothing but memcpy and memset. All calls
  *   - are total: every number, every length and every content of the slices gets an answer;
@@ -55,6 +59,11 @@ extern "C" {
 /* The most blocks, and words, of a pass, the same at each rate. */
 #define MAHYREI_PASS_MAX 211
 
+/* Bytes of a command frame and of the slots of its codeblock, and the most of them in a call. */
+#define MAHYREI_UPLINK_FRAME_BYTES 8
+#define MAHYREI_UPLINK_CODEBLOCK_BYTES 64
+#define MAHYREI_UPLINK_MAX 64
+
 /*
  * The run header, eight bytes:
  *
@@ -87,8 +96,9 @@ extern "C" {
 
 /*
  * The number in an answer: 0, or the number of the first question whose answer is no. The
- * questions are put in the order of their numbers, but that 27 comes after 8; a call skips those it
- * has no input for. 9 to 18 are about the contents of what is read.
+ * questions are put in the order of their numbers, but that 27 comes after 8, and 28 and 29 after
+ * 9; a call skips those it has no input for. 9 to 18, 28 and 29 are about the contents of what is
+ * read.
  */
 enum mahyrei_number {
     /* Accepted: every byte of the written slice has been set. */
@@ -111,7 +121,8 @@ enum mahyrei_number {
      * more. */
     MAHYREI_BAD_MARKER = 7,
     /* A slice has another length than the rate or the header implies. Passes: the slices do not
-     * hold n whole blocks and n words, with n from 1 to MAHYREI_PASS_MAX. */
+     * hold n whole blocks and n words, with n from 1 to MAHYREI_PASS_MAX. Uplink: the slices do
+     * not hold n whole frames and n codeblocks, with n from 1 to MAHYREI_UPLINK_MAX. */
     MAHYREI_BAD_LENGTH = 8,
 
     /* run_read: a spare bit of the last slot byte is set; there are such bits only where m is 2, 3
@@ -147,7 +158,14 @@ enum mahyrei_number {
 
     /* bit_spread: a block has no bit of this number: it has 5006, 7526 or 10046, counted from 0,
      * and the two spare bits do not count. */
-    MAHYREI_BAD_BIT = 27
+    MAHYREI_BAD_BIT = 27,
+
+    /* uplink_read: a group of four slots is no bit: it is not 1000 or 0100. The place is the group,
+     * counted over all codeblocks. */
+    MAHYREI_BAD_GROUP = 28,
+    /* uplink_read: a codeblock is no codeword: one of its 64 parity checks fails. The place is the
+     * codeblock. Every group of the buffer has been found to be a bit before this is asked. */
+    MAHYREI_BAD_PARITY = 29
 };
 
 /* The number in an answer, one of enum mahyrei_number. */
@@ -257,6 +275,32 @@ uint64_t run_write(const uint8_t *header, size_t header_len, const uint8_t *mark
 uint64_t run_read(const uint8_t *header, size_t header_len, const uint8_t *marker,
                   size_t marker_len, const uint8_t *slots, size_t slots_len, uint8_t *frames,
                   size_t frames_len);
+
+/*
+ * uplink_write: makes the slots of command frames.
+ *
+ * Reads   frames, n frames of MAHYREI_UPLINK_FRAME_BYTES bytes each, back to back, with n from 1 to
+ *         MAHYREI_UPLINK_MAX. The length says what n is.
+ * Writes  slots, n * MAHYREI_UPLINK_CODEBLOCK_BYTES bytes, all of them, whatever they held: a
+ *         codeblock for each frame, back to back; none on refusal. A codeblock is the frame's 64
+ *         bits and the 64 parity bits of the (128, 64) LDPC code, with the randomizer's sequence
+ *         added from its start, four slots a bit: 1000 for 0, 0100 for 1.
+ * Returns 0 on acceptance; otherwise 8, place 0 (so the answer is the number).
+ */
+uint64_t uplink_write(const uint8_t *frames, size_t frames_len, uint8_t *slots, size_t slots_len);
+
+/*
+ * uplink_read: gives back the command frames that make slots.
+ *
+ * Reads   slots, n codeblocks of MAHYREI_UPLINK_CODEBLOCK_BYTES bytes each, back to back, with n
+ *         from 1 to MAHYREI_UPLINK_MAX. The length says what n is.
+ * Writes  frames, n * MAHYREI_UPLINK_FRAME_BYTES bytes, all of them, whatever they held, and only
+ *         when the last codeblock has been judged; none on refusal.
+ * Returns 0 on acceptance: uplink_write makes these slots of these frames and of no others.
+ *         Otherwise place * 256 + number, with number 8, 28 or 29; 28 and 29 have a place. Take it
+ *         apart by answer_number and answer_place.
+ */
+uint64_t uplink_read(const uint8_t *slots, size_t slots_len, uint8_t *frames, size_t frames_len);
 
 #ifdef __cplusplus
 }

@@ -16,7 +16,8 @@ static const char *const SENTENCES[] = {
     [MAHYREI_BAD_MARKER] = "The marker is out of range: W is not 1 to 32, or a lent marker symbol "
                            "is not below the pulse order.",
     [MAHYREI_BAD_LENGTH] = "A lent slice is longer or shorter than the rate or the header says; a "
-                           "pass has 1 to 211 blocks, whole, and as many words.",
+                           "pass has 1 to 211 blocks, whole, and as many words; an uplink has 1 to "
+                           "64 frames, whole, and as many codeblocks.",
     [MAHYREI_BAD_SPARE] = "A spare bit behind the last slot is set.",
     [MAHYREI_BAD_PULSE] = "A symbol's slots do not hold exactly one pulse, or it stands in a guard "
                           "slot; the place is that symbol, markers counted.",
@@ -36,6 +37,9 @@ static const char *const SENTENCES[] = {
     [MAHYREI_BAD_FILL] = "A fill bit behind the last frame is set; the run may hold more than the "
                          "header says.",
     [MAHYREI_BAD_BIT] = "There is no such block bit; a block has 5006, 7526 or 10046.",
+    [MAHYREI_BAD_GROUP] = "Four slots are no bit: they do not hold exactly one pulse, or it stands "
+                          "in a guard slot; the place is the group.",
+    [MAHYREI_BAD_PARITY] = "A codeblock fails the parity check; the place is the codeblock.",
 };
 
 const char *mahyrei_sentence(unsigned number) {

@@ -11,9 +11,9 @@
 
 Everything is `bytes`, in and out; other objects with a buffer, such as bytearray and memoryview,
 are taken too and copied first. A call gives its whole result or raises Refused. What a refusal says
-comes from the library: run_write, run_read, word_write, word_read, pass_write, pass_read and
-bit_spread are proved there; header, fields, sizes and sentence are plain C, and tested. This module
-adds nothing to their answers; it only lends them room.
+comes from the library: run_write, run_read, word_write, word_read, pass_write, pass_read,
+bit_spread, uplink_write and uplink_read are proved there; header, fields, sizes and sentence are
+plain C, and tested. This module adds nothing to their answers; it only lends them room.
 
 A call works in less than 1 MiB of stack, so a thread that makes one needs a stack above that (see
 threading.stack_size; 0, the default, is enough on Linux). Calls let other threads run meanwhile.
@@ -40,6 +40,8 @@ __all__ = [
     "run_write",
     "sentence",
     "sizes",
+    "uplink_read",
+    "uplink_write",
     "word_read",
     "word_write",
 ]
@@ -51,6 +53,9 @@ _HEADER_BYTES = 8
 _WORD_BYTES = 1890
 _BLOCK_BYTES = (626, 941, 1256)  # by rate
 _PASS_MOST = 211
+_UPLINK_FRAME_BYTES = 8
+_UPLINK_CODEBLOCK_BYTES = 64
+_UPLINK_MOST = 64
 _U64_MOST = 2**64 - 1
 
 
@@ -119,6 +124,8 @@ def _load():
         ("bit_spread", u64, [u64, u64] + room),
         ("run_write", u64, given * 3 + room),
         ("run_read", u64, given * 3 + room),
+        ("uplink_write", u64, given + room),
+        ("uplink_read", u64, given + room),
         ("mahyrei_header_fields", number, given + [pointer(_CFields)]),
         ("mahyrei_header_make", number, [pointer(_CFields), ctypes.c_void_p, pointer(text)]),
         ("mahyrei_sizes", number, given + [pointer(_CSizes)]),
@@ -179,16 +186,16 @@ def _block_bytes(rate):
     return _BLOCK_BYTES[rate] if rate < len(_BLOCK_BYTES) else 0
 
 
-def _count(length, size):
-    """How many blocks or words there are; 0 for more than a pass has, which the call refuses."""
-    return length // size if 0 < length <= _PASS_MOST * size else 0
+def _count(length, size, most):
+    """How many pieces of this size there are; 0 for more than the most, which the call refuses."""
+    return length // size if 0 < length <= most * size else 0
 
 
 def pass_write(rate, blocks):
     """The words, back to back, of 1 to 211 packed blocks of this rate, back to back: each as
     word_write makes it. Refused with 2 or 8."""
     blocks, rate = _bytes(blocks), _number(rate)
-    length = _count(len(blocks), _block_bytes(rate)) * _WORD_BYTES
+    length = _count(len(blocks), _block_bytes(rate), _PASS_MOST) * _WORD_BYTES
     return _written(lambda *rest: _library.pass_write(rate, *rest), [blocks], length)
 
 
@@ -197,8 +204,24 @@ def pass_read(rate, words):
     word_read gives it. Refused with 2, 8, 13, 14 or 15; for 13 to 15 the place is the first word
     that is refused, and no block is given."""
     words, rate = _bytes(words), _number(rate)
-    length = _count(len(words), _WORD_BYTES) * _block_bytes(rate)
+    length = _count(len(words), _WORD_BYTES, _PASS_MOST) * _block_bytes(rate)
     return _written(lambda *rest: _library.pass_read(rate, *rest), [words], length)
+
+
+def uplink_write(frames):
+    """The slots, 64 bytes a codeblock, back to back, of 1 to 64 command frames of eight bytes, back
+    to back. Refused with 8."""
+    frames = _bytes(frames)
+    count = _count(len(frames), _UPLINK_FRAME_BYTES, _UPLINK_MOST)
+    return _written(_library.uplink_write, [frames], count * _UPLINK_CODEBLOCK_BYTES)
+
+
+def uplink_read(slots):
+    """The command frames, back to back, that make these slots of 1 to 64 codeblocks. Refused with
+    8, 28 or 29; for 28 the place is the group of four slots, for 29 the codeblock."""
+    slots = _bytes(slots)
+    count = _count(len(slots), _UPLINK_CODEBLOCK_BYTES, _UPLINK_MOST)
+    return _written(_library.uplink_read, [slots], count * _UPLINK_FRAME_BYTES)
 
 
 def bit_spread(rate, bit):

@@ -4,7 +4,7 @@
 # README, the man page, the C header and the sentences have the same numbers, and none has a 17.
 once_numbers() {
     local number sentences=''
-    same 'numbers of README' "$(seq -s ' ' 0 16) 18 27" "$(numbers | xargs)"
+    same 'numbers of README' "$(seq -s ' ' 0 16) 18 27 28 29" "$(numbers | xargs)"
     same 'numbers of the man page' "$(numbers | xargs)" \
         "$(sed -n 's/^\.IP \([0-9]*\) 4$/\1/p' "$root/host/mahyrei.1" | xargs)"
     same 'numbers of the header' "$(numbers | xargs)" \
@@ -57,8 +57,9 @@ once_install() {
         "$(cd "$prefix_folder" && find . ! -type d -printf '%P\n' | sort | xargs)"
     nm -g --defined-only "$prefix_folder/lib/libmahyrei.a" >"$said/out"
     same 'calls of the library' \
-        'bit_spread pass_read pass_write run_read run_write word_read word_write' \
-        "$(grep -Eo ' T ((pass|run|word)_(read|write)|bit_spread)$' "$said/out" | cut -c 4- | sort | xargs)"
+        'bit_spread pass_read pass_write run_read run_write uplink_read uplink_write word_read '\
+'word_write' "$(grep -Eo ' T ((pass|run|uplink|word)_(read|write)|bit_spread)$' "$said/out" |
+            cut -c 4- | sort | xargs)"
     awk '/^```c$/ { on = 1; next } /^```$/ { on = 0 } on' "$root/README.md" >program.c
     flags="'-I$prefix_folder/include' '-L$prefix_folder/lib' -lmahyrei"
     if command -v pkg-config >"$said/out"; then
@@ -123,6 +124,8 @@ once_completion() {
     same 'a rate' '1/3 1/2' "$(completed mahyrei pass-write 1)"
     same 'a rate of spread' 2/3 "$(completed mahyrei spread 2)"
     same 'a file behind the rate' frames "$(completed mahyrei pass-read -n 1/3 fra)"
+    same 'subcommands of the uplink' 'uplink-write uplink-read' "$(completed mahyrei up)"
+    same 'the slots of the uplink' frames "$(completed mahyrei uplink-read fra)"
     same 'a file' frames "$(completed mahyrei write "$header" "$marker" fra)"
     same 'the file of the log' frames "$(completed mahyrei --log fra)"
     same 'a subcommand behind the log' verify "$(completed mahyrei --log log ver)"

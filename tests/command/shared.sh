@@ -4,7 +4,8 @@
 # The functions that the headers declare: those that are not defined there.
 declared() {
     gcc -E -P "$root/include/mahyrei_plain.h" | tr '\n' ' ' | sed 's/{[^{}]*}/;/g' | tr ';' '\n' |
-        grep -v static | sed -n 's/.*[ *]\([a-z_]*\)(.*)$/\1/p' | grep -E '^(word|pass|bit|run|mahyrei)_' | sort
+        grep -v static | sed -n 's/.*[ *]\([a-z_]*\)(.*)$/\1/p' |
+        grep -E '^(word|pass|bit|uplink|run|mahyrei)_' | sort
 }
 
 install_all() {
@@ -21,8 +22,8 @@ once_shared() {
     install_all
     local so=prefix/lib/libmahyrei.so
     same 'functions of the headers' \
-        'bit_spread mahyrei_sizes pass_read pass_write run_read run_write word_read word_write' \
-        "$(declared | grep -E '^(bit|pass|run|word)_|_sizes$' | xargs)"
+        'bit_spread mahyrei_sizes pass_read pass_write run_read run_write uplink_read '\
+'uplink_write word_read word_write' "$(declared | grep -E '^(bit|pass|run|uplink|word)_|_sizes$' | xargs)"
     same 'names that can be seen in the shared library' "$(declared | xargs)" \
         "$(nm -D --defined-only $so | sed -n 's/^[0-9a-f]* T \(.*\)@@MAHYREI_1$/\1/p' | sort | xargs)"
     same 'and no others' "$(declared | wc -l)" \

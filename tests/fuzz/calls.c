@@ -1,15 +1,15 @@
 /*
  * Fuzz target over all calls: an input is read as a call with its arguments, never as slots
- * alone, since no fuzzer would find a run or a word by itself. A word, a pass or a run to be read
- * is written by the library first, then damaged as the input says: slots, symbols, coded bits,
- * input bits of the code, bits of the stream under a right check. Or it is the rest of the input
- * itself.
+ * alone, since no fuzzer would find a run or a word by itself. A word, a pass, a run or an uplink
+ * to be read is written by the library first, then damaged as the input says: slots, symbols, coded
+ * bits, input bits of the code, bits of the stream under a right check. Or it is the rest of the
+ * input itself.
  *
  * What is demanded of each call: the answer and every byte of the written slice are those of the
- * plain C version (tests/c/plain_run.c, bench/plain_word.c and plain_pass.c), which is built into
- * the fuzzer and guides it, the library being closed to it; a refused call changes no lent byte;
- * what is accepted goes back to where it came from, bit for bit but for a block's spare bits;
- * number and place are ones that the call can give.
+ * plain C version (tests/c/plain_run.c, bench/plain_word.c, plain_pass.c and plain_uplink.c), which
+ * is built into the fuzzer and guides it, the library being closed to it; a refused call changes no
+ * lent byte; what is accepted goes back to where it came from, bit for bit but for a block's spare
+ * bits; number and place are ones that the call can give.
  *
  * The sanitizers do not see into the library either. So each slice is lent from pages of its own,
  * right before or right behind a page that may not be touched, with a margin of bytes on its other
@@ -29,6 +29,7 @@
 #include "mahyrei.h"
 #include "plain_pass.h"
 #include "plain_run.h"
+#include "plain_uplink.h"
 #include "plain_word.h"
 
 enum {
@@ -36,14 +37,16 @@ enum {
     MARGIN = 64,
     SLOTS_MOST = 1 << 20, /* slot bytes; runs up to the largest of 182 MB are too slow to fuzz */
     AREA = SLOTS_MOST + PAGE,
-    MARKER_ROOM = 64 /* W has six bits */
+    MARKER_ROOM = 64, /* W has six bits */
+    CODEBLOCK = MAHYREI_UPLINK_CODEBLOCK_BYTES
 };
 
 /* Bits of the header's fields, in order; the last are the zeros at its end. */
 static const size_t WIDTHS[8] = {2, 4, 8, 9, 12, 6, 7, 16};
 
-static const char *const CALL_NAMES[CALLS] = {"word_write", "word_read", "pass_write", "pass_read",
-                                              "bit_spread", "run_write", "run_read"};
+static const char *const CALL_NAMES[CALLS] = {"word_write",  "word_read",  "pass_write",
+                                              "pass_read",   "bit_spread", "uplink_write",
+                                              "uplink_read", "run_write",  "run_read"};
 
 /* The numbers that a call can answer, a bit each. */
 static const uint32_t CAN_ANSWER[CALLS] = {
@@ -52,6 +55,8 @@ static const uint32_t CAN_ANSWER[CALLS] = {
     [PASS_WRITE] = 1U << 0 | 1U << 2 | 1U << 8,
     [PASS_READ] = 1U << 0 | 1U << 2 | 1U << 8 | 1U << 13 | 1U << 14 | 1U << 15,
     [BIT_SPREAD] = 1U << 0 | 1U << 2 | 1U << 8 | 1U << 27,
+    [UPLINK_WRITE] = 1U << 0 | 1U << 8,
+    [UPLINK_READ] = 1U << 0 | 1U << 8 | 1U << 28 | 1U << 29,
     [RUN_WRITE] = 0x1FF,
     [RUN_READ] = 0x1FFFF | 1U << 18,
 };
@@ -245,6 +250,10 @@ static uint64_t put_library(enum call call, uint64_t rate) {
         return pass_read(rate, from->slice, from->len, to->slice, to->len);
     case BIT_SPREAD:
         return bit_spread(rate, block_bit, to->slice, to->len);
+    case UPLINK_WRITE:
+        return uplink_write(from->slice, from->len, to->slice, to->len);
+    case UPLINK_READ:
+        return uplink_read(from->slice, from->len, to->slice, to->len);
     case RUN_WRITE:
         return run_write(h->slice, h->len, m->slice, m->len, from->slice, from->len, to->slice,
                          to->len);
@@ -268,6 +277,10 @@ static uint64_t put_plain(enum call call, uint64_t rate, uint8_t *to, size_t to_
         return plain_pass_read(rate, from->slice, from->len, to, to_len);
     case BIT_SPREAD:
         return plain_bit_spread(rate, block_bit, to, to_len);
+    case UPLINK_WRITE:
+        return plain_uplink_write(from->slice, from->len, to, to_len);
+    case UPLINK_READ:
+        return plain_uplink_read(from->slice, from->len, to, to_len);
     case RUN_WRITE:
         return plain_run_write(h->slice, h->len, m->slice, m->len, from->slice, from->len, to,
                                to_len);
@@ -284,6 +297,12 @@ static uint64_t place_limit(enum call call, unsigned number) {
     }
     if (call == PASS_READ && number >= MAHYREI_BAD_CODE) {
         return lent[FROM].len / MAHYREI_WORD_BYTES;
+    }
+    if (call == UPLINK_READ && number == MAHYREI_BAD_GROUP) {
+        return 2 * lent[FROM].len;
+    }
+    if (call == UPLINK_READ && number == MAHYREI_BAD_PARITY) {
+        return lent[FROM].len / MAHYREI_UPLINK_CODEBLOCK_BYTES;
     }
     if (call != RUN_READ || number < MAHYREI_BAD_PULSE || number > MAHYREI_BAD_FRAME_MARKER) {
         return 1;
@@ -340,8 +359,9 @@ static uint64_t put(enum call call, uint64_t rate) {
 static void put_and_back(enum call call, uint64_t rate) {
     static uint8_t came[AREA], went[AREA];
     static const enum call BACK[CALLS] = {
-        [WORD_WRITE] = WORD_READ, [WORD_READ] = WORD_WRITE, [PASS_WRITE] = PASS_READ,
-        [PASS_READ] = PASS_WRITE, [RUN_WRITE] = RUN_READ,   [RUN_READ] = RUN_WRITE};
+        [WORD_WRITE] = WORD_READ, [WORD_READ] = WORD_WRITE,     [PASS_WRITE] = PASS_READ,
+        [PASS_READ] = PASS_WRITE, [UPLINK_WRITE] = UPLINK_READ, [UPLINK_READ] = UPLINK_WRITE,
+        [RUN_WRITE] = RUN_READ,   [RUN_READ] = RUN_WRITE};
     const enum call back = BACK[call];
     if (put(call, rate) != MAHYREI_ACCEPTED) {
         return;
@@ -487,6 +507,71 @@ static void put_spread(struct input *in) {
         }
         require(ones > 0 && ones <= LIMITS[rate], BIT_SPREAD, "more places than can change");
     }
+}
+
+/* ---- uplinks */
+
+static void damage_codeblocks(struct input *in, uint8_t *slots, size_t n) {
+    for (size_t left = take_few(in); left > 0; left--) {
+        const size_t how = take_below(in, 1, 8), byte = take_below(in, 2, n * CODEBLOCK);
+        const unsigned shift = take(in, 1) % 2 == 0 ? 4 : 0;
+        switch (how) {
+        case 0: /* any slot */
+            flip(slots, 8 * byte + take_below(in, 1, 8));
+            break;
+        case 1: /* any four */
+            slots[byte] =
+                (uint8_t)((slots[byte] & ~(15U << shift)) | (unsigned)take(in, 1) % 16 << shift);
+            break;
+        case 2: /* one codeblock in the place of another */
+            memmove(slots + byte / CODEBLOCK * CODEBLOCK, slots + take_below(in, 1, n) * CODEBLOCK,
+                    CODEBLOCK);
+            break;
+        case 3: /* the half of one */
+            memmove(slots + byte / CODEBLOCK * CODEBLOCK, slots + take_below(in, 1, n) * CODEBLOCK,
+                    CODEBLOCK / 2);
+            break;
+        default: /* another bit */
+            slots[byte] = (uint8_t)(slots[byte] ^ 12U << shift);
+        }
+    }
+}
+
+/* The slots of n frames, damaged; or any bits, each at its four slots; or the rest of the input. */
+static void make_codeblocks(struct input *in, size_t n) {
+    static uint8_t frames[AREA];
+    const size_t choice = take_below(in, 1, 8), slots_len = n * CODEBLOCK;
+    if (choice == 6) {
+        fill_raw(in, given, slots_len);
+    } else if (choice == 7) {
+        fill(in, given, slots_len);
+        for (size_t i = 0; i < slots_len; i++) {
+            given[i] = (uint8_t)((given[i] & 0x10 ? 0x80 : 0x40) | (given[i] & 1 ? 8 : 4));
+        }
+    } else if (n > 0 && n <= MAHYREI_UPLINK_MAX) {
+        fill(in, frames, n * MAHYREI_UPLINK_FRAME_BYTES);
+        require(uplink_write(frames, n * MAHYREI_UPLINK_FRAME_BYTES, given, slots_len) == 0,
+                UPLINK_WRITE, "refused frames");
+        damage_codeblocks(in, given, n);
+    } else {
+        fill(in, given, slots_len);
+    }
+}
+
+static void put_uplink(struct input *in, enum call call) {
+    const size_t n = take_below(in, 1, 67), other = take_below(in, 1, 16) == 15 ? n + 1 : n;
+    const size_t frames_len = choose_len(in, n * MAHYREI_UPLINK_FRAME_BYTES);
+    const size_t slots_len = choose_len(in, other * CODEBLOCK);
+    if (call == UPLINK_WRITE) {
+        fill(in, given, frames_len);
+        lend(FROM, frames_len, given, frames_len);
+        lend_to(slots_len);
+    } else {
+        make_codeblocks(in, other);
+        lend(FROM, slots_len, given, other * CODEBLOCK);
+        lend_to(frames_len);
+    }
+    put_and_back(call, 0);
 }
 
 /* ---- runs */
@@ -767,6 +852,8 @@ int LLVMFuzzerTestOneInput(const uint8_t *data, size_t size) {
         put_pass(&in, call);
     } else if (call == BIT_SPREAD) {
         put_spread(&in);
+    } else if (call == UPLINK_WRITE || call == UPLINK_READ) {
+        put_uplink(&in, call);
     } else {
         put_word(&in, call);
     }

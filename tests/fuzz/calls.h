@@ -8,9 +8,20 @@
 #include <stdint.h>
 
 /* The run calls come last. */
-enum call { WORD_WRITE, WORD_READ, PASS_WRITE, PASS_READ, BIT_SPREAD, RUN_WRITE, RUN_READ, CALLS };
+enum call {
+    WORD_WRITE,
+    WORD_READ,
+    PASS_WRITE,
+    PASS_READ,
+    BIT_SPREAD,
+    UPLINK_WRITE,
+    UPLINK_READ,
+    RUN_WRITE,
+    RUN_READ,
+    CALLS
+};
 
-enum { NUMBERS = 28 };
+enum { NUMBERS = 30 };
 
 /* tests/fuzz/run reads these as 64-bit numbers in this order. */
 struct counts {

@@ -97,10 +97,12 @@ pub enum Call {
     BitSpread,
     RunWrite,
     RunRead,
+    UplinkWrite,
+    UplinkRead,
 }
 
 impl Call {
-    pub const ALL: [Call; 7] = [
+    pub const ALL: [Call; 9] = [
         Call::WordWrite,
         Call::WordRead,
         Call::PassWrite,
@@ -108,6 +110,8 @@ impl Call {
         Call::BitSpread,
         Call::RunWrite,
         Call::RunRead,
+        Call::UplinkWrite,
+        Call::UplinkRead,
     ];
 
     pub fn name(self) -> &'static str {
@@ -119,6 +123,8 @@ impl Call {
             Call::BitSpread => "bit_spread",
             Call::RunWrite => "run_write",
             Call::RunRead => "run_read",
+            Call::UplinkWrite => "uplink_write",
+            Call::UplinkRead => "uplink_read",
         }
     }
 
@@ -130,6 +136,8 @@ impl Call {
             Call::BitSpread => &[0, 2, 8, 27],
             Call::RunWrite => &[0, 1, 2, 3, 4, 5, 6, 7, 8],
             Call::RunRead => &[0, 1, 2, 3, 4, 5, 6, 7, 8, 9, 10, 11, 12, 13, 14, 15, 16, 18],
+            Call::UplinkWrite => &[0, 8],
+            Call::UplinkRead => &[0, 8, 28, 29],
         }
     }
 }
@@ -162,10 +170,17 @@ impl Way {
             Way::Read => Call::RunRead,
         }
     }
+
+    pub fn of_uplinks(self) -> Call {
+        match self {
+            Way::Write => Call::UplinkWrite,
+            Way::Read => Call::UplinkRead,
+        }
+    }
 }
 
 /// What each number says. No call answers any other.
-const NUMBERS: [(u8, &str); 19] = [
+const NUMBERS: [(u8, &str); 21] = [
     (0, "accepted"),
     (1, "header"),
     (2, "rate"),
@@ -185,6 +200,8 @@ const NUMBERS: [(u8, &str); 19] = [
     (16, "frame marker"),
     (18, "fill bits"),
     (27, "block bit"),
+    (28, "groups"),
+    (29, "parity"),
 ];
 
 /// One call to be put to the library, with what the second implementation says of it.

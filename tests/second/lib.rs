@@ -12,6 +12,9 @@ pub mod run_cases;
 pub mod spread;
 #[cfg(not(test))]
 pub mod spread_cases;
+pub mod uplink;
+#[cfg(not(test))]
+pub mod uplink_cases;
 pub mod word;
 #[cfg(not(test))]
 pub mod word_cases;

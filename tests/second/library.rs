@@ -51,6 +51,18 @@ mod c {
             frames: *mut u8,
             frames_len: usize,
         ) -> u64;
+        pub fn uplink_write(
+            frames: *const u8,
+            frames_len: usize,
+            slots: *mut u8,
+            slots_len: usize,
+        ) -> u64;
+        pub fn uplink_read(
+            slots: *const u8,
+            slots_len: usize,
+            frames: *mut u8,
+            frames_len: usize,
+        ) -> u64;
     }
 }
 
@@ -109,4 +121,14 @@ pub fn run_read(header: &[u8], marker: &[u8], slots: &[u8], frames: &mut [u8]) -
             frames.len(),
         )
     }
+}
+
+pub fn uplink_write(frames: &[u8], slots: &mut [u8]) -> u64 {
+    let (slots, slots_len) = (slots.as_mut_ptr(), slots.len());
+    unsafe { c::uplink_write(frames.as_ptr(), frames.len(), slots, slots_len) }
+}
+
+pub fn uplink_read(slots: &[u8], frames: &mut [u8]) -> u64 {
+    let (frames, frames_len) = (frames.as_mut_ptr(), frames.len());
+    unsafe { c::uplink_read(slots.as_ptr(), slots.len(), frames, frames_len) }
 }

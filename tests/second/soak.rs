@@ -10,6 +10,7 @@ use second::compare::{argument, optional_argument, verdict, Call, Rng, Tally, MA
 use second::pass_cases::compare_pass;
 use second::run_cases::{compare_any, compare_run, edges, Sizes};
 use second::spread_cases::compare_spread;
+use second::uplink_cases::compare_uplink;
 use second::word_cases::compare_word;
 use std::fs::File;
 use std::io::Read;
@@ -42,14 +43,15 @@ fn fresh_seed() -> Result<u64, String> {
     Ok(u64::from_be_bytes(bytes))
 }
 
-/// Puts one case. Of 32, 16 are words, one is a block bit, 3 are passes, 11 are runs, one is a run
-/// with any header, of which some are large; the specification's edges come first.
+/// Puts one case. Of 32, 15 are words, one is an uplink, one a block bit, 3 are passes, 11 are runs,
+/// one is a run with any header, of which some are large; the specification's edges come first.
 fn put_case(tally: &mut Tally, soak: &Soak, case: u64) {
     let rng = &mut Rng::of_index(soak.seed, case);
     let (round, seat) = (case / 32, case % 32);
     match seat {
         _ if case == 0 => edges(tally, rng),
-        0..=15 => compare_word(tally, rng, 16 * round + seat),
+        0..=14 => compare_word(tally, rng, 15 * round + seat),
+        15 => compare_uplink(tally, rng, round),
         16 => compare_spread(tally, rng, round),
         17..=19 => compare_pass(tally, rng, 3 * round + seat - 17),
         20..=30 => drop(compare_run(tally, rng, &soak.sizes, 11 * round + seat - 20)),

@@ -1,8 +1,9 @@
 -- What an answer is: done, or the number of the first question that is answered no, with its place; how questions follow one another; what a
 -- lent slice holds afterwards; and the one number that C gets.
-use mathlib.Core.Path.{_≡_, refl, ap}
+use mathlib.Core.Path.{_≡_, refl, sym, ap}
 use mathlib.Core.Bool.{Bool, true, false}
 use mathlib.Core.List.{List}
+use mathlib.Core.Logic.{_⊎_, inl, inr}
 use Prim.Native.Nat.{ℕ, _+_, _*_, _^_, _<_}
 use native.Mathlib.Omega.{arith}
 use Rattle.answers.specs.declared.Answer.{Answer}
@@ -81,6 +82,15 @@ ask-yes t number place e = rw e refl
 
 pub ask-no : (t : Bool) (number place : ℕ) → t ≡ false → ask t number place ≡ No number place
 ask-no t number place e = rw e refl
+
+-- what a refusal says: of one question, and of questions in order
+pub ask-refused : (t : Bool) (number place n p : ℕ) → ask t number place ≡ No n p → (t ≡ false) × (number ≡ n) × (place ≡ p)
+ask-refused true number place n p e = absurd (no-done (sym e))
+ask-refused false number place n p e = (refl, ap numberOf e, ap placeOf e)
+
+pub then-refused : (a b : Answer) (n p : ℕ) → then a b ≡ No n p → (a ≡ No n p) ⊎ ((a ≡ Done) × (b ≡ No n p))
+then-refused Done b n p e = inr (refl, e)
+then-refused (No number place) b n p e = inl e
 
 pub done-is : (a : Answer) → isDone a ≡ true → a ≡ Done
 done-is Done e = refl

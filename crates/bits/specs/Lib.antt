@@ -2,6 +2,7 @@ pub mod Choice
 pub mod Sum
 pub mod Table
 pub mod Pack
+pub mod XorSum
 pub mod Parts
 pub mod Pieces
 pub mod Stretch

@@ -22,6 +22,10 @@ val f (suc n) = val f n * 2 + f n
 unfoldable pub bitAt : List ℕ → ℕ → ℕ
 bitAt xs j = getD xs (j / 8) 0 / 2 ^ (7 - j % 8) % 2
 
+-- bit j of a number of 64 bits
+abbrev pub bitOf : ℕ → ℕ → ℕ
+bitOf v j = v / 2 ^ (63 - j) % 2
+
 -- the n bytes whose bits are f 0, f 1, ..
 unfoldable pub bytesOf : ℕ → (ℕ → ℕ) → List ℕ
 bytesOf n f = tab n (λ i. val (λ t. f (8 * i + t)) 8)
@@ -75,6 +79,9 @@ val-bits v (suc n) h =
     ∙ val-bits (v / 2) n (omega arith) in
     let lowest : suc n - 1 - n ≡ 0 = omega arith in
     rw (upper, lowest, div-one) (omega arith)
+
+pub bit-of-lt : (v : ℕ) → Bits (bitOf v)
+bit-of-lt v j = omega arith
 
 pub bit-lt : (xs : List ℕ) → Bits (bitAt xs)
 unfolding bitAt

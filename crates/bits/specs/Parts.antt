@@ -3,8 +3,8 @@ use mathlib.Core.Path.{_≡_, refl, sym, ap, ap₂, _∙_}
 use mathlib.Core.List.{List}
 use Prim.Native.Nat.{ℕ, zero, suc, _+_, _-_, _*_, _/_, _%_, _^_, _≤_, _<_}
 use native.Mathlib.Omega.{arith}
-use native.Mathlib.Nat.{pow-suc, add-mul, mul-assoc, zero-div}
-use lib.Bits.{bitAnd, bitOr, and-mask, or-shifted}
+use native.Mathlib.Nat.{pow-suc, add-mul, mul-add, mul-assoc, zero-div}
+use lib.Bits.{bitXor, bitAnd, bitOr, xor-block, and-mask, or-shifted}
 use lib.Pow.{high, low, pow-add, shl-lt, shl-exact}
 use lib.ListN.{getD}
 use Rattle.bits.specs.Pack.{val, bitAt, Bits, Bytes, cut, val-lt, val-same, val-bits, bit-val, bit-lt, cut-in, cut-past}
@@ -39,12 +39,14 @@ byte-val xs i b =
     ap₂ (λ (x y : ℕ). getD xs x 0 / 2 ^ y % 2) (omega arith) (omega arith))
     ∙ val-bits (getD xs i 0) 8 b
 
--- eight bits more: `(v << 8) | b`
+-- n bits more: `(v << n) | w`
+pub push-some : (f : ℕ → ℕ) → Bits f → (m n : ℕ) → m + n ≤ 64 → bitOr (val f m * 2 ^ n % 2 ^ 64) (val (λ t. f (m + t)) n) ≡ val f (m + n)
+push-some f b m n l =
+    join (val f m) (val (λ t. f (m + t)) n) m n (val-lt f b m) (val-lt (λ t. f (m + t)) (λ t. b (m + t)) n) l ∙ sym (val-split f m n)
+
+-- eight
 pub push-eight : (f : ℕ → ℕ) → Bits f → (i : ℕ) → i < 8 → bitOr (val f (8 * i) * 2 ^ 8 % 2 ^ 64) (val (λ t. f (8 * i + t)) 8) ≡ val f (8 * (i + 1))
-push-eight f b i l =
-    let e : 8 * (i + 1) ≡ 8 * i + 8 = omega arith in
-    join (val f (8 * i)) (val (λ t. f (8 * i + t)) 8) (8 * i) 8 (val-lt f b (8 * i)) (val-lt (λ t. f (8 * i + t)) (λ t. b (8 * i + t)) 8) (omega arith)
-    ∙ sym (ap (val f) e ∙ val-split f (8 * i) 8)
+push-eight f b i l = let e : 8 * i + 8 ≡ 8 * (i + 1) = omega arith in push-some f b (8 * i) 8 (omega arith) ∙ ap (val f) e
 
 -- a byte of packed bytes more
 pub push-byte : (xs : List ℕ) → Bytes xs → (at i : ℕ) → i < 8
@@ -72,6 +74,27 @@ join-byte xs b at i d l =
     ∙ ap (λ (p : ℕ). p + c * 2 ^ d) (sym (mul-assoc v (2 ^ 8) (2 ^ d)))
     ∙ sym (add-mul (v * 2 ^ 8) c (2 ^ d))
     ∙ ap (λ (n : ℕ). n * 2 ^ d) (ap (λ (n : ℕ). v * 2 ^ 8 + n) next ∙ sym (val-split f (8 * i) 8))
+
+-- equal numbers have equal bits
+pub same-val : (f g : ℕ → ℕ) → Bits f → Bits g → (n : ℕ) → val f n ≡ val g n → (i : ℕ) → i < n → f i ≡ g i
+same-val f g hf hg n e i l =
+    sym (bit-val f hf (n - 1 - i) i n (omega arith)) ∙ ap (λ (v : ℕ). v / 2 ^ (n - 1 - i) % 2) e ∙ bit-val g hg (n - 1 - i) i n (omega arith)
+
+-- ---- sums and products
+
+-- the number of the sums of the bits is the sum of the numbers
+pub val-plus : (f g : ℕ → ℕ) → Bits f → Bits g → (n : ℕ) → val (λ t. bitXor (f t) (g t)) n ≡ bitXor (val f n) (val g n)
+unfolding val
+val-plus f g hf hg zero = refl
+val-plus f g hf hg (suc n) =
+    ap (λ (v : ℕ). v * 2 + bitXor (f n) (g n)) (val-plus f g hf hg n)
+    ∙ sym (xor-block 1 (val f n) (val g n) (f n) (g n) (hf n) (hg n))
+
+-- and the number of the bits times b is b times the number
+pub val-times : (b : ℕ) (f : ℕ → ℕ) (n : ℕ) → val (λ t. b * f t) n ≡ b * val f n
+unfolding val
+val-times b f zero = omega arith
+val-times b f (suc n) = let e = val-times b f n in omega (arith, mul-add b (val f n * 2) (f n), mul-assoc b (val f n) 2)
 
 -- ---- zeros behind
 

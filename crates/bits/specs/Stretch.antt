@@ -8,7 +8,7 @@ use lib.Arith.{digits-div, digits-mod}
 use lib.ListN.{length, getD, set, length-set}
 use lib.Seq.{getD-set-same, getD-set-other}
 use Rattle.bits.specs.Choice.{lt-or-le, eq-or-ne}
-use Rattle.bits.specs.Pack.{Bits, Bytes, val, bitAt, bit-lt, val-same, val-lt}
+use Rattle.bits.specs.Pack.{Bits, Bytes, val, bitAt, bytesOf, bit-lt, val-same, val-lt, bytes-by-byte}
 use Rattle.bits.specs.Parts.{val-split, byte-val}
 
 -- the n bytes from `at` on have the bits f 0, f 1, ..; what stood before is as it was
@@ -55,6 +55,11 @@ laid-one before at v f l e =
           let z : at + t ≡ at = omega arith in
           ap (λ (i : ℕ). getD (set before at v) i 0) z ∙ getD-set-same before at v 0 l ∙ e ∙ val-same f (λ u. f (8 * t + u)) 8 (λ u k. ap f (omega arith));
     }
+
+-- all of them
+pub laid-all : (before after : List ℕ) (n : ℕ) (f : ℕ → ℕ) → length before ≡ n → Laid before 0 n f after → after ≡ bytesOf n f
+laid-all before after n f e l =
+    bytes-by-byte n f after (l .long ∙ e) (λ i h. let z : i ≡ 0 + i = omega arith in ap (λ (k : ℕ). getD after k 0) z ∙ l .here i h)
 
 -- n bytes, at least one, were laid from `at` on: no more than `bits` bits and `room` bytes
 pub record Made (bits room : ℕ) (before : List ℕ) (at n : ℕ) (f : ℕ → ℕ) (after : List ℕ) : Type 0 where

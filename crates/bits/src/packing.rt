@@ -2,9 +2,10 @@
 ghost use mathlib.Core.Path.{_≡_};
 ghost use Prim.Native.Nat.{ℕ, _+_, _*_, _^_, _≤_, _<_};
 ghost use lib.ListN.{length, getD};
-ghost use Rattle.bits.specs.Pack.{val, bitAt, bytesOf};
+ghost use Rattle.bits.specs.Pack.{val, bitAt, bitOf, bytesOf};
 ghost use Rattle.bits.specs.Loops.{Spread};
 ghost use Rattle.bits.specs.Put.{putBit};
+ghost use Rattle.bits.specs.Stretch.{Laid};
 
 // Bit j of packed bytes.
 pub fn bit_at(packed: &[u8], j: usize) -> u8
@@ -45,6 +46,18 @@ pub fn eight(packed: &[u8], at: usize) -> u64
         | ((packed[at + 5] as u64) << 16)
         | ((packed[at + 6] as u64) << 8)
         | (packed[at + 7] as u64)
+}
+
+// The eight bytes of a number, the highest first, from byte `at` on.
+pub fn put_eight(out: &mut [u8], at: usize, v: u64)
+    requires { ⌜ at + 8 ≤ length (now out) ⌝ }
+    ensures { λ _. ⌜ Laid (now (out .entry)) at 8 (bitOf v) (now (out .exit)) ⌝ }
+{
+    let mut t = 0usize;
+    while t < 8 {
+        out[at + t] = ((v >> (56 - 8 * t)) & 255) as u8;
+        t += 1;
+    }
 }
 
 // The lowest `width` bits of v, the highest first, one to a place from `at` on.

@@ -7,6 +7,7 @@ use Rattle.word.specs.Word as words
 use Rattle.pass.specs.Pass as passes
 use Rattle.spread.specs.Spread as spreads
 use Rattle.run.specs.Run as runs
+use Rattle.uplink.specs.Uplink as uplinks
 
 abbrev pub wordAfter : ℕ → List ℕ → List ℕ → List ℕ
 wordAfter rate block old = after (words.writeSays rate block (length old)) (words.wordOf rate block) old
@@ -28,3 +29,9 @@ slotsAfter header marker frames old = after (runs.writeSays header marker frames
 
 abbrev pub framesAfter : List ℕ → List ℕ → List ℕ → List ℕ → List ℕ
 framesAfter header marker slots old = after (runs.readSays header marker slots (length old)) (runs.framesRead header marker slots) old
+
+abbrev pub uplinkSlotsAfter : List ℕ → List ℕ → List ℕ
+uplinkSlotsAfter frames old = after (uplinks.writeSays frames (length old)) (uplinks.slotsOf frames) old
+
+abbrev pub uplinkFramesAfter : List ℕ → List ℕ → List ℕ
+uplinkFramesAfter slots old = after (uplinks.readSays slots (length old)) (uplinks.framesOf slots) old

@@ -7,7 +7,8 @@ ghost use Rattle.word.specs.Word as words;
 ghost use Rattle.pass.specs.Pass as passes;
 ghost use Rattle.spread.specs.Spread as spreads;
 ghost use Rattle.run.specs.Run as runs;
-ghost use Rattle.calls.specs.After.{wordAfter, blockAfter, wordsAfter, blocksAfter, placesAfter, slotsAfter, framesAfter};
+ghost use Rattle.uplink.specs.Uplink as uplinks;
+ghost use Rattle.calls.specs.After.{wordAfter, blockAfter, wordsAfter, blocksAfter, placesAfter, slotsAfter, framesAfter, uplinkSlotsAfter, uplinkFramesAfter};
 
 // A packed block to its word (step 7, and then steps 2 to 6).
 #[no_mangle]
@@ -70,4 +71,22 @@ pub extern "C" fn run_read(header: &[u8], marker: &[u8], slots: &[u8], frames: &
     ensures { λ _. ⌜ now (frames .exit) ≡ framesAfter (now (header .entry)) (now (marker .entry)) (now (slots .entry)) (now (frames .entry)) ⌝ }
 {
     answers::code(run_reader::read(header, marker, slots, frames))
+}
+
+// Frames of 64 bits to command slots.
+#[no_mangle]
+pub extern "C" fn uplink_write(frames: &[u8], slots: &mut [u8]) -> u64
+    ensures { λ r. ⌜ r ≡ codeOf (uplinks.writeSays (now (frames .entry)) (length (now (slots .entry)))) ⌝ }
+    ensures { λ _. ⌜ now (slots .exit) ≡ uplinkSlotsAfter (now (frames .entry)) (now (slots .entry)) ⌝ }
+{
+    answers::code(uplink_writer::write(frames, slots))
+}
+
+// Command slots back to frames, if some frames make them.
+#[no_mangle]
+pub extern "C" fn uplink_read(slots: &[u8], frames: &mut [u8]) -> u64
+    ensures { λ r. ⌜ r ≡ codeOf (uplinks.readSays (now (slots .entry)) (length (now (frames .entry)))) ⌝ }
+    ensures { λ _. ⌜ now (frames .exit) ≡ uplinkFramesAfter (now (slots .entry)) (now (frames .entry)) ⌝ }
+{
+    answers::code(uplink_reader::read(slots, frames))
 }

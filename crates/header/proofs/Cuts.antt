@@ -6,10 +6,10 @@ use native.Mathlib.Omega.{arith}
 use native.Mathlib.Nat.{mod-eq-of-lt, div-one}
 use lib.Bits.{bitAnd, bitOr}
 use lib.ListN.{length, getD}
-use Rattle.bits.specs.Pack.{val, bitAt, Bits, val-same, bit-lt, bytes-by-byte}
+use Rattle.bits.specs.Pack.{val, bitAt, bitOf, Bits, val-same, bit-lt, bytes-by-byte}
 use Rattle.bits.specs.Parts.{cut-part, join}
 use Rattle.header.specs.Header.{field, fieldsOf, spareOf, packed, headerOf, Widths}
-use Rattle.header.specs.Layout.{fields-same, packed-lt, bitOf, number-part}
+use Rattle.header.specs.Layout.{fields-same, packed-lt, number-part}
 use Rattle.header.specs.declared.Fields.{Fields}
 
 -- the bits from byte 0 on are all of them

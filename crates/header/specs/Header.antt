@@ -2,8 +2,8 @@
 --
 --     rate 2 bits | m 4 | rows N 8 | step B 9 | frame bytes F 12 | marker symbols W 6 | frame count A 7 | 16 zero bits
 use mathlib.Core.List.{List}
-use Prim.Native.Nat.{ℕ, _+_, _-_, _*_, _/_, _%_, _^_, _<_}
-use Rattle.bits.specs.Pack.{val, bitAt, bytesOf}
+use Prim.Native.Nat.{ℕ, _+_, _*_, _^_, _<_}
+use Rattle.bits.specs.Pack.{val, bitAt, bitOf, bytesOf}
 use Rattle.header.specs.declared.Fields.{Fields}
 
 -- the n bits from bit `at` on, as a number
@@ -33,7 +33,7 @@ packed f =
 
 -- the header with these fields
 unfoldable pub headerOf : Fields → List ℕ
-headerOf f = bytesOf 8 (λ j. packed f / 2 ^ (63 - j) % 2)
+headerOf f = bytesOf 8 (bitOf (packed f))
 
 -- each field fits its bits
 pub record Widths (f : Fields) : Type 0 where

@@ -4,7 +4,7 @@ use mathlib.Core.List.{List}
 use Prim.Native.Nat.{ℕ, _+_, _-_, _*_, _/_, _%_, _^_, _<_}
 use native.Mathlib.Omega.{arith}
 use lib.ListN.{length}
-use Rattle.bits.specs.Pack.{val, bitAt, Bits, Bytes, val-lt, val-same, val-bits, bit-lt, bit-val, bit-bytes, bytes-made, length-bytes, bytes-are}
+use Rattle.bits.specs.Pack.{val, bitAt, bitOf, Bytes, bit-of-lt, val-lt, val-same, val-bits, bit-lt, bit-val, bit-bytes, bytes-made, length-bytes, bytes-are}
 use Rattle.bits.specs.Parts.{val-split, val-part}
 use Rattle.header.specs.Header.{field, fieldsOf, spareOf, packed, headerOf, Widths}
 use Rattle.header.specs.declared.Fields.{Fields}
@@ -26,13 +26,6 @@ fields-same f g e1 e2 e3 e4 e5 e6 e7 = joined
 pub packed-lt : (f : Fields) → Widths f → packed f < 2 ^ 64
 unfolding packed
 packed-lt f w = omega arith
-
--- bit j of a number of 64 bits
-abbrev pub bitOf : ℕ → ℕ → ℕ
-bitOf v j = v / 2 ^ (63 - j) % 2
-
-bit-of-lt : (v : ℕ) → Bits (bitOf v)
-bit-of-lt v j = omega arith
 
 -- the n bits from `at` on, of which d stand behind
 pub number-part : (v at n d : ℕ) → v < 2 ^ 64 → at + n + d ≡ 64 → v / 2 ^ d % 2 ^ n ≡ val (λ t. bitOf v (at + t)) n

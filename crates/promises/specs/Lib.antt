@@ -9,3 +9,4 @@ pub mod Card7
 pub mod Card9
 pub mod Card12
 pub mod Card13
+pub mod Card14

@@ -5,7 +5,7 @@ use mathlib.Core.List.{List, [], _∷_}
 use mathlib.Core.Logic.{⊎-elim}
 use Prim.Native.Nat.{ℕ, zero, suc, _+_, _-_, _*_, _/_, _%_, _^_, _≤_, _<_}
 use native.Mathlib.Omega.{arith}
-use lib.Bits.{bitXor, xor-block}
+use lib.Bits.{bitXor}
 use lib.Dec.{eqb}
 use borrow.Author.Tests.{eqb-true}
 use lib.ListN.{length, getD, set, length-set}
@@ -13,7 +13,7 @@ use lib.Seq.{getD-set-same, getD-set-other}
 use Rattle.bits.specs.Choice.{lt-or-le, eq-or-ne}
 use Rattle.bits.specs.Table.{both, both-true}
 use Rattle.bits.specs.Pack.{Bits, val, bitAt, bytesOf, bit-lt, val-same, bytes-by-byte}
-use Rattle.bits.specs.Parts.{byte-val}
+use Rattle.bits.specs.Parts.{byte-val, val-plus}
 use Rattle.randomizer.specs.Randomizer.{next, window, sequence, randomize, window-bit, sequence-bits}
 use Rattle.randomizer.specs.Bytes.{Added}
 
@@ -49,13 +49,6 @@ byte-period m i =
     ap sequence e ∙ sequence-period (8 * i + t) (8 * m))
 
 -- ---- a byte of the block
-
-val-plus : (f g : ℕ → ℕ) → Bits f → Bits g → (n : ℕ) → val (λ t. bitXor (f t) (g t)) n ≡ bitXor (val f n) (val g n)
-unfolding val
-val-plus f g hf hg zero = refl
-val-plus f g hf hg (suc n) =
-    ap (λ (v : ℕ). v * 2 + bitXor (f n) (g n)) (val-plus f g hf hg n)
-    ∙ sym (xor-block 1 (val f n) (val g n) (f n) (g n) (hf n) (hg n))
 
 randomize-byte : (xs : List ℕ) (k : ℕ) → getD xs k 0 < 256
     → val (λ t. randomize (bitAt xs) (8 * k + t)) 8 ≡ bitXor (getD xs k 0) (sequenceByte k)

@@ -1,11 +1,9 @@
 -- Before each turn the frames so far are laid.
-use mathlib.Core.Path.{_≡_, ap, subst, _∙_}
-use Prim.Native.Nat.{ℕ, _+_, _-_, _*_, _≤_}
+use mathlib.Core.Path.{_≡_, subst}
+use Prim.Native.Nat.{ℕ, _-_, _*_, _≤_}
 use native.Mathlib.Omega.{arith}
-use lib.ListN.{getD}
-use Rattle.bits.specs.Pack.{bytes-by-byte}
 use Rattle.bits.specs.Pieces.{piece}
-use Rattle.bits.specs.Stretch.{Laid, laid-none}
+use Rattle.bits.specs.Stretch.{Laid, laid-none, laid-all}
 use Rattle.sizes.specs.Rate.{blockBytes}
 use Rattle.frames.specs.Frames.{joined, framePlace, framesIn}
 use Rattle.frames.proofs.Bytes.{frames-more}
@@ -60,10 +58,7 @@ returns c =
     let a = s .args in
     let l = c .before .loop in
     let e : l .j ≡ a .count = omega arith in
-    let laid = rw e at (l .inv .1) in
-    bytes-by-byte (a .count * a .size) (λ y. joined (a .rate) (piece (blockBytes (a .rate)) (a .blocks .now)) (framePlace (a .size) y)) (l .frames) (laid .long ∙ s .pre .1) (λ i h.
-    let z : i ≡ 0 + i = omega arith in
-    ap (λ (k : ℕ). getD (l .frames) k 0) z ∙ laid .here i h)
+    laid-all (a .frames .now) (l .frames) (a .count * a .size) _ (s .pre .1) (rw e at (l .inv .1))
 
 pub frames-out-spec : {M : Type 1} → statement M
 frames-out-spec =

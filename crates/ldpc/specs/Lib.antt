@@ -1,0 +1,6 @@
+pub mod Code
+pub mod Passing
+pub mod Zero
+pub mod Exactly
+pub mod Table
+pub mod Example

@@ -1,0 +1,46 @@
+-- The answers of the reader, case by case, as the code comes to them.
+use mathlib.Core.Path.{_≡_, refl, sym, _∙_}
+use mathlib.Core.Bool.{Bool, true, false}
+use mathlib.Core.List.{List}
+use Prim.Native.Nat.{ℕ, _*_}
+use lib.ListN.{length}
+use borrow.Author.Tests.{eq-eqb, ne-eqb}
+use Rattle.answers.specs.declared.Answer.the-variants.{Done, No}
+use Rattle.uplink.specs.Uplink.{blockCount, lengthsRight, firstBadGroup, firstBadBlock, slotsSay, readSays}
+use Rattle.uplink.specs.Laws.{lengths-sized}
+use Rattle.uplink.specs.Needs.{Framed, Slotted}
+
+-- ---- question 8
+
+module _ (slots : List ℕ) (m : ℕ) (t : Bool) (e : t ≡ lengthsRight (blockCount slots) m (length slots)) where
+  pub read-no : t ≡ false → No 8 0 ≡ readSays slots m
+  unfolding readSays
+  read-no f = rw (← e, f) refl
+
+  pub read-on : t ≡ true → slotsSay slots ≡ readSays slots m
+  unfolding readSays
+  read-on f = rw (← e, f) refl
+
+  pub slotted : t ≡ true → Slotted (blockCount slots) slots
+  slotted f = let s = lengths-sized (blockCount slots) m (length slots) (sym e ∙ f) in record { long = s .slots; most = s .most }
+
+  pub frames-slotted : (frames : List ℕ) → m ≡ length frames → t ≡ true → Framed (blockCount slots) frames
+  frames-slotted frames l f =
+      let s = lengths-sized (blockCount slots) m (length slots) (sym e ∙ f) in
+      record { long = sym l ∙ s .frames; most = s .most }
+
+-- ---- questions 28 and 29
+
+module _ (slots : List ℕ) (count g : ℕ) (n : count ≡ blockCount slots) (e : g ≡ firstBadGroup slots) where
+  pub say-group : (g ≡ 128 * count → ⊥) → No 28 g ≡ slotsSay slots
+  unfolding slotsSay
+  say-group h = rw (← e, ← n, ne-eqb g (128 * count) h) refl
+
+  module _ (h : g ≡ 128 * count) (i : ℕ) (f : i ≡ firstBadBlock slots) where
+    pub say-block : (i ≡ count → ⊥) → No 29 i ≡ slotsSay slots
+    unfolding slotsSay
+    say-block k = rw (← e, ← n, eq-eqb g (128 * count) h, ← f, ne-eqb i count k) refl
+
+    pub say-done : i ≡ count → Done ≡ slotsSay slots
+    unfolding slotsSay
+    say-done k = rw (← e, ← n, eq-eqb g (128 * count) h, ← f, eq-eqb i count k) refl
