@@ -60,12 +60,13 @@ SEED ?=
 WORDS ?=
 PASSES ?=
 RUNS ?=
+CAPTURES ?=
 UPLINKS ?=
 
 help:
 	@echo 'make test       prove every crate (rt ci), then host-test; last line: N passed, 0 failed'
-	@echo 'make host-test  the tests outside the proofs alone; SEED=n, WORDS=n, PASSES=n, RUNS=n and'
-	@echo '                UPLINKS=n choose what is compared'
+	@echo 'make host-test  the tests outside the proofs alone; SEED=n, WORDS=n, PASSES=n, RUNS=n,'
+	@echo '                UPLINKS=n and CAPTURES=n choose what is compared'
 	@echo 'make demo       write a run, see its first symbols, read it back, damage it, look into it'
 	@echo 'make bench      times of the library beside plain C and beside memory'
 	@echo 'make lib        the static library and the shared one: $(LIBS)'
@@ -87,8 +88,8 @@ PYTHON_TEST = if ! command -v python3 >/dev/null; then \
     echo 'python: no python3 here; the module is not tried'; \
     else MAHYREI_LIBRARY=$(abspath $(SHARED)) tests/python/module $(PROGRAM) $(HOST)/slots; fi
 HOST_TESTS = $(SHARED) $(addprefix $(HOST)/,mahyrei_lying word_calls pass_calls spread_calls \
-    run_calls uplink_calls plain_calls sha256_vectors second_test compare_words compare_passes \
-    compare_spreads compare_runs compare_uplinks) \
+    run_calls find_calls uplink_calls plain_calls sha256_vectors second_test compare_words \
+    compare_passes compare_spreads compare_runs compare_captures compare_uplinks) \
     $(COMMAND_TESTS)
 host-test: $(HOST_TESTS)
 	@echo '#include "mahyrei_plain.h"' | $(CXX) -x c++ $(WARNINGS) -Iinclude -fsyntax-only -
@@ -96,6 +97,7 @@ host-test: $(HOST_TESTS)
 	@$(STACK) && ASAN_OPTIONS=detect_leaks=0 $(HOST)/pass_calls
 	@$(STACK) && ASAN_OPTIONS=detect_leaks=0 $(HOST)/spread_calls
 	@$(STACK) && ASAN_OPTIONS=detect_leaks=0 $(HOST)/run_calls
+	@$(STACK) && ASAN_OPTIONS=detect_leaks=0 $(HOST)/find_calls
 	@$(STACK) && ASAN_OPTIONS=detect_leaks=0 $(HOST)/uplink_calls
 	@$(STACK) && ASAN_OPTIONS=detect_leaks=0 $(HOST)/plain_calls
 	@ASAN_OPTIONS=detect_leaks=0 $(HOST)/sha256_vectors
@@ -104,6 +106,7 @@ host-test: $(HOST_TESTS)
 	@$(STACK) && SEED=$(SEED) PASSES=$(PASSES) $(HOST)/compare_passes
 	@$(STACK) && SEED=$(SEED) $(HOST)/compare_spreads
 	@$(STACK) && SEED=$(SEED) RUNS=$(RUNS) $(HOST)/compare_runs
+	@$(STACK) && SEED=$(SEED) CAPTURES=$(CAPTURES) $(HOST)/compare_captures
 	@$(STACK) && SEED=$(SEED) UPLINKS=$(UPLINKS) $(HOST)/compare_uplinks
 	@$(STACK) && tests/command/run $(COMMAND_TESTS)
 	@$(PYTHON_TEST)
@@ -117,7 +120,7 @@ demo: $(PROGRAM) $(HOST)/slots
 picture: $(PROGRAM) $(HOST)/slots
 	@demo/run $^ docs/capture.svg >/dev/null
 
-bench: $(addprefix $(HOST)/bench_,words passes uplinks runs)
+bench: $(addprefix $(HOST)/bench_,words passes uplinks runs captures)
 	@$(HOST)/bench_words
 	@echo
 	@$(HOST)/bench_passes
@@ -125,6 +128,8 @@ bench: $(addprefix $(HOST)/bench_,words passes uplinks runs)
 	@$(HOST)/bench_uplinks
 	@echo
 	@$(HOST)/bench_runs
+	@echo
+	@$(HOST)/bench_captures
 
 lib: $(LIBS) $(SHARED)
 
@@ -224,10 +229,10 @@ $(HOST)/sha256_vectors: tests/c/sha256_vectors.c host/sha256.c host/sha256.h
 	@mkdir -p $(@D)
 	@$(COMPILE) $(SANITIZED) -Ihost $< host/sha256.c -o $@
 
-SECOND = $(addprefix tests/second/,lib.rs compare.rs library.rs pass.rs run.rs spread.rs \
-    uplink.rs word.rs run_cases.rs \
-    $(addprefix run_cases/,calls.rs damages.rs edges.rs headers.rs kinds.rs refusals.rs sample.rs) \
-    pass_cases.rs spread_cases.rs uplink_cases.rs word_cases.rs)
+SECOND = $(addprefix tests/second/,lib.rs compare.rs find.rs library.rs pass.rs run.rs spread.rs \
+    uplink.rs word.rs run_cases.rs $(addprefix run_cases/,calls.rs captures.rs damages.rs edges.rs \
+    headers.rs kinds.rs refusals.rs sample.rs) pass_cases.rs spread_cases.rs uplink_cases.rs \
+    word_cases.rs)
 $(HOST)/second_test: $(SECOND)
 	@mkdir -p $(@D)
 	@$(RUSTC) $(RUSTFLAGS) --test $< -o $@
@@ -272,6 +277,9 @@ $(HOST)/bench_runs: bench/bench_runs.c $(HOST)/plain_word.o $(HOST)/plain_run.o 
     tests/c/runs.h $(HEADER) $(LINKED)
 	@$(COMPILE) -Itests/c $< $(HOST)/plain_word.o $(HOST)/plain_run.o $(LIBS) -o $@
 
+$(HOST)/bench_captures: bench/bench_captures.c tests/c/runs.h $(HEADER) $(LINKED)
+	@$(COMPILE) -Itests/c $< $(LIBS) -o $@
+
 # Evidence beyond the tests (docs/EVIDENCE.md): for as long as one likes, on all cores.
 SECONDS ?= 60
 CASE ?=
@@ -285,7 +293,8 @@ fuzz: $(HOST)/fuzz_drive
 # The crates of the product that have code.
 CRATES ?= bits answers sizes crc convolution interleaver accumulator randomizer word pass spread \
     header quantities questions parameters plan stream frames pulses channel slots capture \
-    run_writer run_reader ldpc uplink uplink_writer uplink_reader calls sheet runsheet
+    starts search cut run_writer run_reader ldpc uplink uplink_writer uplink_reader calls sheet \
+    runsheet
 COUNT ?= 60
 .PHONY: mutants
 mutants:
@@ -300,13 +309,13 @@ evidence-test: $(HOST)/soak $(HOST)/fuzz_drive
 $(HOST)/soak: tests/second/soak.rs $(HOST)/libsecond.rlib $(LINKED)
 	@$(RUSTC) $(RUSTFLAGS) $< $(LINK_RUST) -o $@
 
-$(addprefix $(HOST)/,run_calls pass_calls spread_calls): tests/c/runs.h
+$(addprefix $(HOST)/,run_calls find_calls pass_calls spread_calls): tests/c/runs.h
 
 # The fuzz target with a driver in place of libFuzzer, beside the run calls in plain C.
 $(HOST)/plain_run.o: tests/c/plain_run.c bench/plain_word.h $(HEADER)
 	@mkdir -p $(@D)
 	@$(COMPILE) $(PLAIN) -Ibench -Drun_write=plain_run_write -Drun_read=plain_run_read \
-	    -c $< -o $@
+	    -Drun_find=plain_run_find -Drun_cut=plain_run_cut -c $< -o $@
 
 FUZZ_TARGET = tests/fuzz/drive.c tests/fuzz/calls.c \
     $(addprefix $(HOST)/,plain_word.o plain_pass.o plain_run.o plain_uplink.o)

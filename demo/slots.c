@@ -1,12 +1,16 @@
 /*
- * Damages the slots of a run, for the demo and the tests. Slots come in on standard input and go
- * out on standard output.
+ * Damages the slots of a run, or puts them into a capture, for the demo and the tests. Slots come
+ * in on standard input and go out on standard output.
  *
  *   slots HEADER flip SLOT           a pulse where there was none, or none where there was one
  *   slots HEADER lose SYMBOL         the symbol without its pulse
  *   slots HEADER move SYMBOL         the symbol with its pulse in the slot beside
  *   slots HEADER turn WORD BIT...    bits of a word turned over
  *   slots HEADER code WORD BIT...    coded bits turned over: the word that they would have made
+ *   slots HEADER capture SLOT BYTE AROUND
+ *                                    the run from this slot on of a capture, and so many bytes of
+ *                                    the capture behind it; around the run there are pulses alone
+ *                                    if AROUND is 1, and none if it is 0
  *
  * Symbols count markers. The terms and letters are those of docs/SPECIFICATION.md.
  */
@@ -66,6 +70,25 @@ static void turn_coded(uint64_t word, uint64_t coded) {
     }
 }
 
+/* A capture with the run at this slot, and the bits around it all alike. */
+static void surround(uint64_t slot, uint64_t behind, bool pulses) {
+    struct bytes wide;
+    const uint64_t count = capture.run.sizes.slots;
+    if (slot > UINT32_MAX || behind > UINT32_MAX ||
+        !make_room((size_t)((slot + count + 7) / 8 + behind), &wide)) {
+        give_up("no room for such a capture");
+    }
+    memset(wide.at, pulses ? 0xFF : 0, wide.len);
+    for (uint64_t x = 0; x < count; x++) {
+        const uint64_t at = slot + x;
+        if (pulse_at(&capture, x) != pulses) {
+            wide.at[at / 8] = (uint8_t)(wide.at[at / 8] ^ 0x80 >> at % 8);
+        }
+    }
+    free(capture.slots.at);
+    capture.slots = wide;
+}
+
 /* ---- the command line */
 
 static uint64_t number(const char *text) {
@@ -99,6 +122,8 @@ static void damage(const char *how, char *const numbers[], int count) {
         turn_each(numbers, count, MAHYREI_WORD_BITS, turn);
     } else if (strcmp(how, "code") == 0) {
         turn_each(numbers, count, MAHYREI_WORD_BITS, turn_coded);
+    } else if (strcmp(how, "capture") == 0 && count == 3) {
+        surround(number(numbers[0]), number(numbers[1]), number(numbers[2]) != 0);
     } else {
         give_up("no such damage");
     }
@@ -114,5 +139,5 @@ int main(int argc, char *argv[]) {
         give_up("no such header, or slots of another length");
     }
     damage(argv[2], argv + 3, argc - 3);
-    return put_out("-", slots.at, slots.len) ? 0 : 2;
+    return put_out("-", capture.slots.at, capture.slots.len) ? 0 : 2;
 }

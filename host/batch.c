@@ -61,7 +61,7 @@ static bool stay_with(pid_t parent) {
 
 static int make_run(const struct batch *batch, const struct item *item, struct entry *entry) {
     const struct record *const record = results_find(&batch->results, item);
-    struct line line = {.command = find_command(item->writing ? "write" : "read"),
+    struct line line = {.command = command_named(item->writing ? "write" : "read"),
                         .count = 4,
                         .operands = (char **)item->operands};
     entry_begin(entry, line.command->name);

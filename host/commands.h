@@ -20,6 +20,7 @@ enum option {
     OUTPUT,
     LONG,
     JSON,
+    CAPTURE,
     SVG,
     JOBS,
     RESULTS,
@@ -64,7 +65,7 @@ extern const struct option_line OPTIONS[OPTION_COUNT];
 enum status obey(char *argv[]);
 
 /* The command of this name, or NULL. */
-const struct command *find_command(const char *name);
+const struct command *command_named(const char *name);
 
 /* Runs a command that is logged. The entry has begun, and says afterwards what became of the run.
  */
@@ -83,6 +84,8 @@ bool ready_as_told(const struct line *line, const char *name);
 enum status write_command(const struct line *line, struct entry *entry);
 enum status read_command(const struct line *line, struct entry *entry);
 enum status verify_command(const struct line *line, struct entry *entry);
+enum status find_command(const struct line *line, struct entry *entry);
+enum status cut_command(const struct line *line, struct entry *entry);
 enum status pass_write_command(const struct line *line, struct entry *entry);
 enum status pass_read_command(const struct line *line, struct entry *entry);
 enum status uplink_write_command(const struct line *line, struct entry *entry);

@@ -60,22 +60,100 @@ static bool read_whole(int file, size_t limit, struct bytes *to) {
     }
 }
 
-bool take_in(const char *name, size_t limit, struct bytes *to) {
+/* An input that is open. */
+struct input {
+    int file;  /* -1 and errno where it cannot be opened */
+    bool ours; /* opened here, and so to be closed */
+};
+
+static struct input open_input(const char *name) {
     const int handed = is_dash(name) ? STDIN_FILENO : descriptor_of(name);
+    return (struct input){handed < 0            ? open(name, O_RDONLY | O_CLOEXEC | O_NOCTTY)
+                          : handed_over(handed) ? handed
+                                                : -1,
+                          handed < 0};
+}
+
+/* The bytes are here; how closing ends says nothing of them. An open file stays open, so that no
+ * file of ours gets its number. */
+static void close_input(const struct input *input) {
+    if (input->ours && input->file >= 0) {
+        (void)close(input->file);
+    }
+}
+
+static const char *input_name(const char *name) {
+    return is_dash(name) ? "standard input" : name;
+}
+
+bool take_in(const char *name, size_t limit, struct bytes *to) {
+    const struct input input = open_input(name);
     *to = (struct bytes){NULL, 0};
-    const int file = handed < 0            ? open(name, O_RDONLY | O_CLOEXEC | O_NOCTTY)
-                     : handed_over(handed) ? handed
-                                           : -1;
-    if (file < 0 || !read_whole(file, limit, to)) {
-        complain(is_dash(name) ? "standard input" : name, errno);
+    const bool good = input.file >= 0 && read_whole(input.file, limit, to);
+    if (!good) {
+        complain(input_name(name), errno);
+    }
+    close_input(&input);
+    return good;
+}
+
+/* ---- captures */
+
+/* The bytes of this machine's memory; where it does not say, as many as there can be. */
+static size_t memory_bytes(void) {
+    const size_t most = SIZE_MAX / 2;
+#ifdef _SC_PHYS_PAGES
+    const long pages = sysconf(_SC_PHYS_PAGES), page = sysconf(_SC_PAGESIZE);
+    if (pages > 0 && page > 0 && (size_t)pages < most / (size_t)page) {
+        return (size_t)pages * (size_t)page;
+    }
+#endif
+    return most;
+}
+
+/* One byte more than is taken. No memory holds as many as would be too many for the library. */
+static size_t capture_limit(bool is_file) {
+    const size_t memory = memory_bytes();
+    return (is_file ? memory : memory / 2) + 1;
+}
+
+static bool read_capture(int file, const char *name, struct bytes *to) {
+    struct stat status;
+    if (file < 0 || fstat(file, &status) != 0) {
+        complain(name, errno);
         return false;
     }
-    /* The bytes are here; how closing ends says nothing of them. An open file stays open, so that
-     * no file of ours gets its number. */
-    if (handed < 0) {
-        (void)close(file);
+    const bool is_file = S_ISREG(status.st_mode);
+    const size_t limit = capture_limit(is_file);
+    const bool large = is_file && (uintmax_t)status.st_size >= limit;
+    if (!large && !read_whole(file, limit, to)) {
+        complain(name, errno);
+        return false;
+    }
+    if (large || to->len == limit) {
+        complain_text(name, is_file ? "larger than this machine's memory"
+                                    : "larger than half of this machine's memory");
+        return false;
     }
     return true;
+}
+
+bool take_in_all(const char *name, struct bytes *to) {
+    const struct input input = open_input(name);
+    *to = (struct bytes){NULL, 0};
+    const bool good = read_capture(input.file, input_name(name), to);
+    close_input(&input);
+    return good;
+}
+
+/* ---- inputs and outputs */
+
+bool same_file(const char *input, const char *output) {
+    struct stat in, out;
+    const int got_in = is_dash(input) ? fstat(STDIN_FILENO, &in) : stat(input, &in);
+    const int got_out = is_dash(output) ? fstat(STDOUT_FILENO, &out) : stat(output, &out);
+    return got_in == 0 && got_out == 0 && in.st_dev == out.st_dev && in.st_ino == out.st_ino &&
+           (S_ISREG(in.st_mode) || S_ISBLK(in.st_mode));
 }
 
 /* ---- hexadecimal text */

@@ -42,6 +42,10 @@ bool make_room(size_t len, struct bytes *room);
  * where it is, like `-`. */
 bool take_in(const char *name, size_t limit, struct bytes *to);
 
+/* Reads a capture to its end, which may be far. What the machine's memory cannot hold is a failure:
+ * a file that is larger, or more than half of that from anywhere else, since it may have no end. */
+bool take_in_all(const char *name, struct bytes *to);
+
 /* Whether an operand is hexadecimal text: `hex:` and digits, or nothing but digits, with or without
  * 0x, and blanks and colons between bytes. */
 bool is_text(const char *operand);
@@ -63,6 +67,9 @@ bool put_new(const char *name, const void *from, size_t len);
 /* Before anything is done: whether bytes can be meant for this output. They are not meant for a
  * terminal unless `forced`, nor for a file that is there where `only_new`. */
 bool output_ready(const char *name, bool forced, bool only_new);
+
+/* Whether an output is the file that an input comes from, by whatever name; either can be `-`. */
+bool same_file(const char *input, const char *output);
 
 /* Prints text on standard output. */
 bool put_text(const char *text, size_t len);

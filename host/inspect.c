@@ -3,8 +3,6 @@
 #include <inttypes.h>
 #include <stdio.h>
 #include <stdlib.h>
-#include <sys/stat.h>
-#include <unistd.h>
 
 #include "commands.h"
 #include "findings.h"
@@ -314,8 +312,7 @@ static enum status put_report(const struct line *line, const struct scene *scene
 /* A picture in place of what was captured would be a loss that nobody meant. */
 static bool picture_ready(const struct line *line) {
     const char *const picture = line->options[SVG];
-    struct stat drawn, read;
-    if (picture == NULL || (!is_dash(picture) && stat(picture, &drawn) != 0)) {
+    if (picture == NULL) {
         return true;
     }
     if (is_dash(picture)) {
@@ -323,9 +320,7 @@ static bool picture_ready(const struct line *line) {
         return false;
     }
     for (int i = 0; i < line->count; i++) {
-        const char *const name = line->operands[i];
-        const int got = is_dash(name) ? fstat(STDIN_FILENO, &read) : stat(name, &read);
-        if (got == 0 && read.st_dev == drawn.st_dev && read.st_ino == drawn.st_ino) {
+        if (same_file(line->operands[i], picture)) {
             complain_text(picture, "this is what is looked at, and no picture goes there");
             return false;
         }
@@ -345,8 +340,8 @@ static enum status inspect(const struct line *line, struct lent *run, struct fin
     }
     capture_of(&run->header, &run->slots, &capture);
     if (!has_run(run, &capture, answer)) {
-        const struct operands operands = {line->operands[0], line->operands[1], NULL,
-                                          line->operands[2]};
+        const struct operands operands = {
+            .header = line->operands[0], .marker = line->operands[1], .slots = line->operands[2]};
         say_refusal(answer);
         say_where(answer, run, &operands);
         return REFUSED;

@@ -28,6 +28,25 @@ static void *make_call(void *given) {
     return NULL;
 }
 
+/* A search in a capture, or a cut from it. */
+struct capture_call {
+    const struct lent *lent;
+    bool cutting;
+    uint64_t slot, answer;
+};
+
+static void *make_capture_call(void *given) {
+    struct capture_call *const call = given;
+    const struct lent *const lent = call->lent;
+    const struct bytes *const header = &lent->header, *const marker = &lent->marker,
+                              *const capture = &lent->capture, *const slots = &lent->slots;
+    call->answer = call->cutting ? run_cut(header->at, header->len, capture->at, capture->len,
+                                           call->slot, slots->at, slots->len)
+                                 : run_find(header->at, header->len, marker->at, marker->len,
+                                            capture->at, capture->len);
+    return NULL;
+}
+
 /* A word to be read. */
 struct word_call {
     uint64_t rate;
@@ -133,6 +152,24 @@ bool library_read(const struct lent *lent, uint64_t *answer) {
     return ask(&call, answer);
 }
 
+static bool ask_capture(struct capture_call *call, uint64_t *answer) {
+    if (!on_its_stack(make_capture_call, call)) {
+        return false;
+    }
+    *answer = call->answer;
+    return true;
+}
+
+bool library_find(const struct lent *lent, uint64_t *answer) {
+    struct capture_call call = {lent, false, 0, 0};
+    return ask_capture(&call, answer);
+}
+
+bool library_cut(const struct lent *lent, uint64_t slot, uint64_t *answer) {
+    struct capture_call call = {lent, true, slot, 0};
+    return ask_capture(&call, answer);
+}
+
 bool library_word_read(uint64_t rate, const uint8_t *word, uint8_t *block, uint64_t *answer) {
     struct word_call call = {rate, word, block, 0};
     if (!on_its_stack(make_word_call, &call)) {
@@ -203,5 +240,6 @@ void free_lent(struct lent *lent) {
     free(lent->marker.at);
     free(lent->frames.at);
     free(lent->slots.at);
+    free(lent->capture.at);
     *lent = (struct lent){0};
 }

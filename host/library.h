@@ -13,11 +13,15 @@
 
 /* What a run call is lent. */
 struct lent {
-    struct bytes header, marker, frames, slots;
+    struct bytes header, marker, frames, slots, capture;
 };
 
 bool library_write(const struct lent *lent, uint64_t *answer);
 bool library_read(const struct lent *lent, uint64_t *answer);
+
+/* Where the marker stands in the capture, and the slots of the run from this slot of it on. */
+bool library_find(const struct lent *lent, uint64_t *answer);
+bool library_cut(const struct lent *lent, uint64_t slot, uint64_t *answer);
 
 /* A word of MAHYREI_WORD_BYTES, and room for a block of this rate. */
 bool library_word_read(uint64_t rate, const uint8_t *word, uint8_t *block, uint64_t *answer);

@@ -80,7 +80,8 @@ static void print_help(FILE *to) {
     }
     fputs("\nEach operand is a file, or - for standard input or output. HEADER and MARKER can be\n"
           "hexadecimal text instead, such as 5950F01BE8020000 or hex:050C; a file whose name has\n"
-          "nothing but such digits is given as ./NAME. RATE is 1/3, 1/2 or 2/3, or its number.\n\n",
+          "nothing but such digits is given as ./NAME. RATE is 1/3, 1/2 or 2/3, or its number.\n"
+          "SLOT is the number of a slot, from 0 on.\n\n",
           to);
     print_options(to);
     fputs("\nThe log is the file of --log, or the one that MAHYREI_LOG names, or standard error.\n"
@@ -190,7 +191,7 @@ static const char *take_line(char *argv[], struct line *line) {
     return NULL;
 }
 
-const struct command *find_command(const char *name) {
+const struct command *command_named(const char *name) {
     for (const struct command *each = COMMANDS; each->name != NULL; each++) {
         if (strcmp(name, each->name) == 0) {
             return each;
@@ -323,7 +324,7 @@ static enum status run(struct line *line) {
 
 static enum status obey_command(struct line *line) {
     const char *const name = line->operands[0];
-    line->command = line->count == 0 ? NULL : find_command(name);
+    line->command = line->count == 0 ? NULL : command_named(name);
     if (line->command == NULL) {
         return line->count == 0 ? misused(NULL, "no command", "one of these is needed")
                                 : misused(NULL, name, "no such command");

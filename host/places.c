@@ -80,7 +80,27 @@ static void say_sizes(const struct sheet *sheet, const struct lent *run,
     }
 }
 
+/* Number 8 of a run in a capture. */
+static void say_room(const struct sheet *sheet, const struct lent *run,
+                     const struct operands *operands) {
+    const uint64_t there = 8 * (uint64_t)run->capture.len;
+    remark(shown(operands->capture),
+           "the run has %" PRIu64 " slots, and from slot %" PRIu64 " on the capture has %" PRIu64,
+           sheet->sizes.slots, operands->slot, operands->slot < there ? there - operands->slot : 0);
+}
+
+/* Number 19. */
+static void say_no_marker(const struct sheet *sheet, const struct lent *run, const char *about) {
+    remark(about, "the capture has %" PRIu64 " slots, and the marker %" PRIu64,
+           8 * (uint64_t)run->capture.len, sheet->fields.W * sheet->sizes.group);
+}
+
 /* ---- places: numbers 9 and above */
+
+/* What slots are said to be in: the capture that they were cut from, or their own file. */
+static const char *shown_slots(const struct operands *operands) {
+    return shown(operands->capture == NULL ? operands->slots : operands->capture);
+}
 
 static void say_spare(const struct sheet *sheet, const struct lent *run, const char *about) {
     const size_t last = sheet->sizes.slot_bytes - 1;
@@ -91,16 +111,18 @@ static void say_spare(const struct sheet *sheet, const struct lent *run, const c
            sheet->sizes.slots - 1, last, run->slots.at[last]);
 }
 
-static void say_symbol(const struct sheet *sheet, uint64_t symbol, const char *about) {
-    const uint64_t first = symbol * sheet->sizes.group, last = first + sheet->sizes.group - 1;
-    remark(about,
+static void say_symbol(const struct sheet *sheet, uint64_t symbol,
+                       const struct operands *operands) {
+    const uint64_t first = operands->slot + symbol * sheet->sizes.group;
+    const uint64_t last = first + sheet->sizes.group - 1;
+    remark(shown_slots(operands),
            "symbol %" PRIu64 " is slots %" PRIu64 " to %" PRIu64 ", in bytes %" PRIu64
            " to %" PRIu64,
            symbol, first, last, first / 8, last / 8);
 }
 
 /* A word's symbols lie apart, so the first and the last of them are said. */
-static void say_word(const struct sheet *sheet, uint64_t word, const char *about) {
+static void say_word(const struct sheet *sheet, uint64_t word, const struct operands *operands) {
     const uint64_t S = sheet->sizes.S, group = sheet->sizes.group;
     uint64_t first = UINT64_MAX, last = 0;
     for (uint64_t at = 0; at < S; at++) {
@@ -108,41 +130,42 @@ static void say_word(const struct sheet *sheet, uint64_t word, const char *about
         first = symbol < first ? symbol : first;
         last = symbol > last ? symbol : last;
     }
-    remark(about,
+    const uint64_t from = operands->slot + first * group;
+    const uint64_t to = operands->slot + last * group + group - 1;
+    remark(shown_slots(operands),
            "word %" PRIu64 " has its symbols from %" PRIu64 " to %" PRIu64 ": slots %" PRIu64
            " to %" PRIu64 ", bytes %" PRIu64 " to %" PRIu64,
-           word, first, last, first * group, last * group + group - 1, first * group / 8,
-           (last * group + group - 1) / 8);
+           word, first, last, from, to, from / 8, to / 8);
 }
 
 /* A frame marker or the fill, by the word that its first bit is in. */
 static void say_stream(const struct sheet *sheet, uint64_t frame, const char *what,
-                       const char *about) {
+                       const struct operands *operands) {
     const uint64_t bit = frame * marked_bits(sheet);
     const uint64_t word = bit / sheet->sizes.k;
-    remark(about, "%s begins at bit %" PRIu64 " of the block of word %" PRIu64, what,
-           bit % sheet->sizes.k, word);
-    say_word(sheet, word, about);
+    remark(shown_slots(operands), "%s begins at bit %" PRIu64 " of the block of word %" PRIu64,
+           what, bit % sheet->sizes.k, word);
+    say_word(sheet, word, operands);
 }
 
 static void say_place(unsigned number, uint64_t place, const struct sheet *sheet,
-                      const char *about) {
+                      const struct operands *operands) {
     switch (number) {
     case MAHYREI_BAD_PULSE:
     case MAHYREI_WRONG_MARKER:
     case MAHYREI_BAD_IDLE:
-        say_symbol(sheet, place, about);
+        say_symbol(sheet, place, operands);
         break;
     case MAHYREI_BAD_CODE:
     case MAHYREI_BAD_TERMINATION:
     case MAHYREI_BAD_CHECK:
-        say_word(sheet, place, about);
+        say_word(sheet, place, operands);
         break;
     case MAHYREI_BAD_FRAME_MARKER:
-        say_stream(sheet, place, "the frame's marker", about);
+        say_stream(sheet, place, "the frame's marker", operands);
         break;
     case MAHYREI_BAD_FILL:
-        say_stream(sheet, sheet->fields.A, "the fill", about);
+        say_stream(sheet, sheet->fields.A, "the fill", operands);
         break;
     default:
         break;
@@ -160,9 +183,21 @@ void say_where(uint64_t answer, const struct lent *run, const struct operands *o
     } else if (number == MAHYREI_BAD_LENGTH) {
         say_sizes(&sheet, run, operands);
     } else if (number == MAHYREI_BAD_SPARE) {
-        say_spare(&sheet, run, shown(operands->slots));
+        say_spare(&sheet, run, shown_slots(operands));
+    } else if (number == MAHYREI_NO_MARKER) {
+        say_no_marker(&sheet, run, shown(operands->capture));
     } else {
-        say_place(number, answer_place(answer), &sheet, shown(operands->slots));
+        say_place(number, answer_place(answer), &sheet, operands);
+    }
+}
+
+void say_where_cut(uint64_t answer, const struct lent *run, const struct operands *operands) {
+    struct sheet sheet;
+    const unsigned refused = sheet_of(&run->header, &sheet);
+    if (refused != MAHYREI_ACCEPTED) {
+        say_header(refused, &run->header, operands->header);
+    } else if (answer_number(answer) == MAHYREI_BAD_LENGTH) {
+        say_room(&sheet, run, operands);
     }
 }
 

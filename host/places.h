@@ -8,13 +8,18 @@
 #include "library.h"
 #include "mahyrei_plain.h"
 
-/* The operands that were lent, as they were given. */
+/* The operands that were lent, as they were given. Slots that were cut from a capture are said by
+ * their places in it. */
 struct operands {
-    const char *header, *marker, *frames, *slots;
+    const char *header, *marker, *frames, *slots, *capture;
+    uint64_t slot; /* where the slots begin in the capture */
 };
 
 /* Says on standard error what more there is to say about this answer. */
 void say_where(uint64_t answer, const struct lent *run, const struct operands *operands);
+
+/* The same for a run that is not whole in a capture, or whose header is refused. */
+void say_where_cut(uint64_t answer, const struct lent *run, const struct operands *operands);
 
 /* The same for a pass, whose blocks or words were read from this operand. */
 void say_where_in_pass(uint64_t answer, const struct pass *pass, bool writing, const char *operand);

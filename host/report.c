@@ -123,10 +123,21 @@ void entry_begin(struct entry *entry, const char *what) {
                             .marker = NO_SIZE,
                             .frames = {.size = NO_SIZE, .digest = "-"},
                             .slots = {.size = NO_SIZE, .digest = "-"},
+                            .capture = {.size = NO_SIZE, .digest = "-"},
+                            .slot = "-",
                             .rate = "-",
                             .blocks = {.size = NO_SIZE, .digest = "-"},
                             .words = {.size = NO_SIZE, .digest = "-"},
                             .bit = "-"};
+}
+
+void entry_capture(struct entry *entry, const char *capture) {
+    entry->kind = CAPTURE_ENTRY;
+    entry->capture.name = capture;
+}
+
+void entry_slot(struct entry *entry, uint64_t slot) {
+    snprintf(entry->slot, sizeof entry->slot, "%" PRIu64, slot);
 }
 
 void entry_pass(struct entry *entry, const char *blocks, const char *words) {
@@ -273,6 +284,12 @@ static void print_run(FILE *to, const struct entry *entry) {
     print_part(to, "slots", &entry->slots);
 }
 
+static void print_capture(FILE *to, const struct entry *entry) {
+    print_run(to, entry);
+    print_part(to, "capture", &entry->capture);
+    fprintf(to, " slot=%s", entry->slot);
+}
+
 static void print_pass(FILE *to, const struct entry *entry) {
     fprintf(to, " rate=%s", entry->rate);
     print_part(to, "blocks", &entry->blocks);
@@ -290,6 +307,7 @@ static void print_uplink(FILE *to, const struct entry *entry) {
 
 static void print_entry(FILE *to, const struct entry *entry, int status) {
     static void (*const PRINT[])(FILE *, const struct entry *) = {[RUN_ENTRY] = print_run,
+                                                                  [CAPTURE_ENTRY] = print_capture,
                                                                   [PASS_ENTRY] = print_pass,
                                                                   [SPREAD_ENTRY] = print_spread,
                                                                   [UPLINK_ENTRY] = print_uplink};

@@ -31,9 +31,10 @@ void say_refusal(uint64_t answer);
 enum { ENTRY_HEX = 72, ENTRY_DIGEST = 65, ENTRY_NUMBER = 24 };
 
 /* What a line of the log is about, and so what stands in it. */
-enum entry_kind { RUN_ENTRY, PASS_ENTRY, SPREAD_ENTRY, UPLINK_ENTRY };
+enum entry_kind { RUN_ENTRY, CAPTURE_ENTRY, PASS_ENTRY, SPREAD_ENTRY, UPLINK_ENTRY };
 
-/* Frames or slots of a run or an uplink, blocks or words of a pass, as the log has them. */
+/* Frames or slots of a run or an uplink, a capture, blocks or words of a pass, as the log has
+ * them. */
 struct entry_part {
     const char *name; /* NULL where there is none */
     size_t size;
@@ -47,6 +48,8 @@ struct entry {
     char header[ENTRY_HEX], marker_digits[ENTRY_HEX]; /* a run's, and so the next two lines */
     size_t marker;
     struct entry_part frames, slots; /* an uplink's too */
+    struct entry_part capture;       /* in which the run is, and where it begins */
+    char slot[ENTRY_NUMBER];
     char rate[ENTRY_NUMBER];
     struct entry_part blocks, words; /* a pass's */
     char bit[ENTRY_NUMBER];          /* a spread's */
@@ -59,6 +62,10 @@ void entry_header(struct entry *entry, const uint8_t *header, size_t len);
 void entry_marker(struct entry *entry, const uint8_t *marker, size_t len);
 void entry_rate(struct entry *entry, uint64_t rate);
 void entry_answer(struct entry *entry, uint64_t answer);
+
+/* It is about a run in a capture, which begins at a slot. */
+void entry_capture(struct entry *entry, const char *capture);
+void entry_slot(struct entry *entry, uint64_t slot);
 
 /* It is about a pass, an uplink, or a bit's spread. */
 void entry_pass(struct entry *entry, const char *blocks, const char *words);

@@ -1,4 +1,4 @@
-/* write, read and verify: a run from frames to slots and back. */
+/* write, read and verify: a run from frames to slots and back, also out of a capture. */
 #include "commands.h"
 #include "files.h"
 #include "library.h"
@@ -6,33 +6,36 @@
 #include "places.h"
 #include "progress.h"
 #include "sheet.h"
+#include "starts.h"
 
 enum way { WRITING, READING, VERIFYING };
 
-/* Both names of the run's data go to the log before anything is read. */
+static bool in_capture(const struct line *line) {
+    return line->options[CAPTURE] != NULL;
+}
+
+/* Both names of the run's data go to the log before anything is read. Slots that are cut from a
+ * capture have none. */
 static struct operands name_operands(enum way way, const struct line *line, struct entry *entry) {
     char *const *const given = line->operands;
-    struct operands operands = {given[0], given[1], NULL, NULL};
-    *(way == WRITING ? &operands.frames : &operands.slots) = given[2];
+    struct operands operands = {.header = given[0], .marker = given[1]};
+    *(way == WRITING     ? &operands.frames
+      : in_capture(line) ? &operands.capture
+                         : &operands.slots) = given[2];
     entry->frames.name = way == WRITING ? given[2] : way == READING ? given[3] : NULL;
-    entry->slots.name = way == WRITING ? given[3] : given[2];
+    entry->slots.name = way == WRITING ? given[3] : operands.slots;
+    if (in_capture(line)) {
+        entry_capture(entry, operands.capture);
+    }
     return operands;
 }
 
 static bool take_in_run(bool writing, const struct operands *operands, struct lent *run,
                         struct entry *entry) {
-    progress_phase(TAKING_IN);
-    if (!take_in_text(operands->header, HEADER_LIMIT, &run->header)) {
-        return false;
-    }
-    entry_header(entry, run->header.at, run->header.len);
-    if (!take_in_text(operands->marker, MARKER_LIMIT, &run->marker)) {
-        return false;
-    }
-    entry_marker(entry, run->marker.at, run->marker.len);
     struct bytes *const from = writing ? &run->frames : &run->slots;
     const size_t limit = writing ? FRAMES_LIMIT : SLOTS_LIMIT;
-    if (!take_in(writing ? operands->frames : operands->slots, limit, from)) {
+    if (!take_in_header(operands, run, entry) ||
+        !take_in(writing ? operands->frames : operands->slots, limit, from)) {
         return false;
     }
     entry_part(writing ? &entry->frames : &entry->slots, from->at, from->len, from->len < limit);
@@ -63,25 +66,54 @@ static enum status call(bool writing, const struct operands *operands, struct le
     return DONE;
 }
 
+/* Whether the output can be meant, before anything is done. */
+static bool ready(const struct line *line, const struct operands *operands, const char *name) {
+    return ready_as_told(line, name) &&
+           (operands->capture == NULL || spares_capture(operands->capture, name));
+}
+
+/* A run in a capture is found, cut out and read. What is refused once the marker is found is said
+ * with where that is. */
+static enum status call_captured(struct operands *operands, struct lent *run, struct entry *entry) {
+    enum status status = find_start(operands, run, entry);
+    if (status != DONE) {
+        return status;
+    }
+    status = cut_run(operands, run, entry);
+    if (status == DONE) {
+        entry_part(&entry->slots, run->slots.at, run->slots.len, true);
+        status = call(false, operands, run, entry);
+    }
+    if (status == REFUSED) {
+        say_start(operands, "the first whole marker stands at");
+    }
+    return status;
+}
+
 static enum status make_run(enum way way, const struct line *line, struct lent *run,
                             struct entry *entry) {
-    const bool writing = way == WRITING;
-    const struct operands operands = name_operands(way, line, entry);
+    const bool writing = way == WRITING, captured = in_capture(line);
+    struct operands operands = name_operands(way, line, entry);
     const char *const name = way == VERIFYING ? NULL : line->operands[3];
-    if ((way != VERIFYING && !ready_as_told(line, name)) ||
-        !take_in_run(writing, &operands, run, entry)) {
+    if ((name != NULL && !ready(line, &operands, name)) ||
+        !(captured ? take_in_captured(&operands, run, entry)
+                   : take_in_run(writing, &operands, run, entry))) {
         return FAILED;
     }
-    const enum status status = call(writing, &operands, run, entry);
+    const enum status status =
+        captured ? call_captured(&operands, run, entry) : call(writing, &operands, run, entry);
     if (status != DONE) {
         return status;
     }
     const struct bytes *const to = writing ? &run->slots : &run->frames;
     progress_phase(PUTTING_OUT);
-    if (way != VERIFYING && !put_as_told(line, name, to->at, to->len)) {
+    if (name != NULL && !put_as_told(line, name, to->at, to->len)) {
         return FAILED;
     }
     entry_part(writing ? &entry->slots : &entry->frames, to->at, to->len, true);
+    if (captured && line->options[QUIET] == NULL) {
+        say_start(&operands, "the run begins at");
+    }
     return DONE;
 }
 

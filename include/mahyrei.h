@@ -10,7 +10,8 @@
  * A run is a set of transfer frames turned into slots: frame markers, blocks, their words, PPM
  * symbols, channel interleaver, codeblock markers, slots with guard slots. run_write makes the
  * slots of the frames; run_read accepts slots only if some frames make them, and gives those
- * frames back.
+ * frames back. In a capture that begins on any slot, run_find finds the first marker, and run_cut
+ * packs the run that begins there anew, so that run_read can read it.
  *
  * The uplink is apart from these: command frames of 64 bits, each a codeblock of 512 slots.
  * uplink_write makes the slots of the frames; uplink_read accepts slots only if some frames make
@@ -94,14 +95,19 @@ extern "C" {
 #define MAHYREI_FRAMES_BYTES_MAX 131072
 #define MAHYREI_SLOTS_BYTES_MAX 182128720
 
+/* The most bytes of a capture that is searched: each of its bits is a slot, and the place of a slot
+ * has room in an answer. */
+#define MAHYREI_CAPTURE_BYTES_MAX (UINT64_C(1) << 53)
+
 /*
  * The number in an answer: 0, or the number of the first question whose answer is no. The
- * questions are put in the order of their numbers, but that 27 comes after 8, and 28 and 29 after
- * 9; a call skips those it has no input for. 9 to 18, 28 and 29 are about the contents of what is
- * read.
+ * questions are put in the order of their numbers, but that 19 and 27 come after 8, and 28 and 29
+ * after 9; a call skips those it has no input for. 9 to 19, 28 and 29 are about the contents of
+ * what is read.
  */
 enum mahyrei_number {
-    /* Accepted: every byte of the written slice has been set. */
+    /* Accepted: every byte of the written slice has been set. run_find writes nothing: its place is
+     * the slot that was found. */
     MAHYREI_ACCEPTED = 0,
 
     /* Run calls: the header is not eight bytes, or its last 16 bits are not zero. */
@@ -121,8 +127,10 @@ enum mahyrei_number {
      * more. */
     MAHYREI_BAD_MARKER = 7,
     /* A slice has another length than the rate or the header implies. Passes: the slices do not
-     * hold n whole blocks and n words, with n from 1 to MAHYREI_PASS_MAX. Uplink: the slices do
-     * not hold n whole frames and n codeblocks, with n from 1 to MAHYREI_UPLINK_MAX. */
+     * hold n whole blocks and n words, with n from 1 to MAHYREI_PASS_MAX. Captures: there are more
+     * than MAHYREI_CAPTURE_BYTES_MAX bytes, or in run_cut the run does not end within them. Uplink:
+     * the slices do not hold n whole frames and n codeblocks, with n from 1 to
+     * MAHYREI_UPLINK_MAX. */
     MAHYREI_BAD_LENGTH = 8,
 
     /* run_read: a spare bit of the last slot byte is set; there are such bits only where m is 2, 3
@@ -156,6 +164,9 @@ enum mahyrei_number {
     /* run_read: a fill bit after the last frame is set. */
     MAHYREI_BAD_FILL = 18,
 
+    /* run_find: at no slot of the capture a whole marker begins. */
+    MAHYREI_NO_MARKER = 19,
+
     /* bit_spread: a block has no bit of this number: it has 5006, 7526 or 10046, counted from 0,
      * and the two spare bits do not count. */
     MAHYREI_BAD_BIT = 27,
@@ -173,7 +184,8 @@ static inline unsigned answer_number(uint64_t answer) {
     return (unsigned)(answer & 255U);
 }
 
-/* The place in an answer, counted from 0; 0 where the number has no place. */
+/* The place in an answer, counted from 0; 0 where the number has no place. Of the accepted answers
+ * only those of run_find have one. */
 static inline uint64_t answer_place(uint64_t answer) {
     return answer >> 8;
 }
@@ -275,6 +287,39 @@ uint64_t run_write(const uint8_t *header, size_t header_len, const uint8_t *mark
 uint64_t run_read(const uint8_t *header, size_t header_len, const uint8_t *marker,
                   size_t marker_len, const uint8_t *slots, size_t slots_len, uint8_t *frames,
                   size_t frames_len);
+
+/*
+ * run_find: finds the earliest slot of a capture at which a whole marker stands.
+ *
+ * Reads   header, MAHYREI_HEADER_BYTES bytes; marker, W bytes; capture, any number of bytes up to
+ *         MAHYREI_CAPTURE_BYTES_MAX. Each bit of the capture is a slot, counted from 0. The marker
+ *         stands at a slot if the W * (M + M / 4) slots from there on are those of its symbols,
+ *         each with one pulse and with its guard slots empty.
+ * Writes  nothing.
+ * Returns slot * 256 where there is such a slot: number 0, and the slot as the place. Otherwise a
+ *         number from 1 to 8, or 19, place 0 (so the answer is the number). An answer is accepted
+ *         if answer_number is 0; the answer itself is 0 only for slot 0.
+ *
+ * The lines of a run all begin with the marker, so a capture that begins within a run has the
+ * marker of a later line first. Where a run begins and no earlier slot fits, the slot is the run's.
+ */
+uint64_t run_find(const uint8_t *header, size_t header_len, const uint8_t *marker,
+                  size_t marker_len, const uint8_t *capture, size_t capture_len);
+
+/*
+ * run_cut: packs the slots of a run, which begins at any slot of a capture, anew from bit 0.
+ *
+ * Reads   header, MAHYREI_HEADER_BYTES bytes; capture, any number of bytes up to
+ *         MAHYREI_CAPTURE_BYTES_MAX, in which the slots of the run lie: as many as the header
+ *         implies, from this slot on.
+ * Writes  slots, the slot bytes that the header implies, all of them, whatever they held, with
+ *         spare bits of zero; none on refusal.
+ * Returns 0 on acceptance; otherwise a number from 1 to 8, place 0 (so the answer is the number).
+ *         What the slots hold is not judged; run_read does that. Of 7 it asks W's range alone, and
+ *         any number may be given as the slot.
+ */
+uint64_t run_cut(const uint8_t *header, size_t header_len, const uint8_t *capture,
+                 size_t capture_len, uint64_t slot, uint8_t *slots, size_t slots_len);
 
 /*
  * uplink_write: makes the slots of command frames.

@@ -3,7 +3,8 @@
 /* One line a number: the same as in README's table but without its marks, and as in the man page.
  * A number that no call gives has none. */
 static const char *const SENTENCES[] = {
-    [MAHYREI_ACCEPTED] = "All is well: the result has been written, every byte of it.",
+    [MAHYREI_ACCEPTED] = "All is well: the result has been written, every byte of it; in run_find "
+                         "the place is the slot.",
     [MAHYREI_BAD_HEADER] = "The header is not eight bytes long, or one of its last 16 bits is set.",
     [MAHYREI_BAD_RATE] = "There is no such code rate; it is 0, 1 or 2.",
     [MAHYREI_BAD_ORDER] = "There is no such pulse order; m is 2 to 8.",
@@ -16,8 +17,9 @@ static const char *const SENTENCES[] = {
     [MAHYREI_BAD_MARKER] = "The marker is out of range: W is not 1 to 32, or a lent marker symbol "
                            "is not below the pulse order.",
     [MAHYREI_BAD_LENGTH] = "A lent slice is longer or shorter than the rate or the header says; a "
-                           "pass has 1 to 211 blocks, whole, and as many words; an uplink has 1 to "
-                           "64 frames, whole, and as many codeblocks.",
+                           "pass has 1 to 211 blocks, whole, and as many words; a capture has at "
+                           "most 2^53 bytes, and run_cut needs the whole run in it; an uplink has "
+                           "1 to 64 frames, whole, and as many codeblocks.",
     [MAHYREI_BAD_SPARE] = "A spare bit behind the last slot is set.",
     [MAHYREI_BAD_PULSE] = "A symbol's slots do not hold exactly one pulse, or it stands in a guard "
                           "slot; the place is that symbol, markers counted.",
@@ -36,6 +38,7 @@ static const char *const SENTENCES[] = {
                                  "place is that frame.",
     [MAHYREI_BAD_FILL] = "A fill bit behind the last frame is set; the run may hold more than the "
                          "header says.",
+    [MAHYREI_NO_MARKER] = "No slot of the capture begins a whole marker.",
     [MAHYREI_BAD_BIT] = "There is no such block bit; a block has 5006, 7526 or 10046.",
     [MAHYREI_BAD_GROUP] = "Four slots are no bit: they do not hold exactly one pulse, or it stands "
                           "in a guard slot; the place is the group.",

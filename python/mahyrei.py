@@ -11,9 +11,10 @@
 
 Everything is `bytes`, in and out; other objects with a buffer, such as bytearray and memoryview,
 are taken too and copied first. A call gives its whole result or raises Refused. What a refusal says
-comes from the library: run_write, run_read, word_write, word_read, pass_write, pass_read,
-bit_spread, uplink_write and uplink_read are proved there; header, fields, sizes and sentence are
-plain C, and tested. This module adds nothing to their answers; it only lends them room.
+comes from the library: run_write, run_read, run_find, run_cut, word_write, word_read, pass_write,
+pass_read, bit_spread, uplink_write and uplink_read are proved there; header, fields, sizes and
+sentence are plain C, and tested. This module adds nothing to their answers; it only lends them
+room.
 
 A call works in less than 1 MiB of stack, so a thread that makes one needs a stack above that (see
 threading.stack_size; 0, the default, is enough on Linux). Calls let other threads run meanwhile.
@@ -36,6 +37,8 @@ __all__ = [
     "header",
     "pass_read",
     "pass_write",
+    "run_cut",
+    "run_find",
     "run_read",
     "run_write",
     "sentence",
@@ -124,6 +127,8 @@ def _load():
         ("bit_spread", u64, [u64, u64] + room),
         ("run_write", u64, given * 3 + room),
         ("run_read", u64, given * 3 + room),
+        ("run_find", u64, given * 3),
+        ("run_cut", u64, given * 2 + [u64] + room),
         ("uplink_write", u64, given + room),
         ("uplink_read", u64, given + room),
         ("mahyrei_header_fields", number, given + [pointer(_CFields)]),
@@ -152,13 +157,22 @@ def _number(value):
     return value if 0 <= value <= _U64_MOST else _U64_MOST
 
 
+def _accepted(answer):
+    """The place of an answer that is accepted, or Refused."""
+    if answer & 255 != 0:
+        raise Refused(answer & 255, answer >> 8)
+    return answer >> 8
+
+
+def _lent(slices):
+    """Pointers and lengths."""
+    return [part for value in slices for part in (value, len(value))]
+
+
 def _written(call, slices, length):
     """What a call writes into so many bytes, or Refused."""
     room = ctypes.create_string_buffer(max(length, 1))
-    arguments = [part for value in slices for part in (value, len(value))]
-    answer = call(*arguments, room, length)
-    if answer != 0:
-        raise Refused(answer & 255, answer >> 8)
+    _accepted(call(*_lent(slices), room, length))
     return ctypes.string_at(room, length)
 
 
@@ -244,6 +258,25 @@ def run_read(header, marker, slots):
     with a number from 1 to 16, or 18. Nothing is corrected."""
     slices = [_bytes(header), _bytes(marker), _bytes(slots)]
     return _written(_library.run_read, slices, _lengths(slices[0]).frame_bytes)
+
+
+def run_find(header, marker, capture):
+    """The earliest slot of a capture, counted from 0, at which the whole marker stands, its guard
+    slots empty: where a run begins, if no earlier slot fits. Every bit of the capture is a slot.
+    Refused with a number from 1 to 8, or with 19 where there is none."""
+    return _accepted(_library.run_find(*_lent([_bytes(header), _bytes(marker), _bytes(capture)])))
+
+
+def run_cut(header, capture, slot):
+    """The slots of the run that begins at this slot of a capture, packed anew, as run_read takes
+    them; they are not judged. Refused with a number from 1 to 8, with 8 where the run does not end
+    within the capture."""
+    slices, slot = [_bytes(header), _bytes(capture)], _number(slot)
+    return _written(
+        lambda *rest: _library.run_cut(*rest[:4], slot, *rest[4:]),
+        slices,
+        _lengths(slices[0]).slot_bytes,
+    )
 
 
 def _lengths(header):

@@ -5,6 +5,7 @@
  *   FAULT=slow                reads and writes move little at a time, and signals interrupt them
  *   FAULT=hold                fsync waits as long as there is a file `hold` in the folder
  *   FAULT=nonblocking         the standard files do not block
+ *   FAULT=memory              the machine has four pages of memory
  *
  * NAME is read, write, fsync, fchmod, close, rename, link or thread (pthread_create).
  */
@@ -93,6 +94,14 @@ int rename(const char *from, const char *to) {
 
 int link(const char *from, const char *to) {
     return fails("link") ? -1 : (int)syscall(SYS_link, from, to);
+}
+
+typedef long ask_system(int);
+
+long sysconf(int name) {
+    ask_system *ask;
+    *(void **)&ask = dlsym(RTLD_NEXT, "sysconf");
+    return name == _SC_PHYS_PAGES && is("memory") ? 4 : ask(name);
 }
 
 typedef int create_thread(pthread_t *, const pthread_attr_t *, void *(*)(void *), void *);

@@ -41,10 +41,10 @@ static uint8_t *zeros(size_t count) {
     return bytes;
 }
 
-/* Questions 1 to 8. */
-static unsigned ask(struct run *r, const uint8_t *header, size_t header_len, const uint8_t *marker,
-                    size_t marker_len, size_t frames_len, size_t slots_len) {
-    if (header_len != 8 || header[6] != 0 || header[7] != 0) {
+/* Questions 1 to 7, and what follows from the header. */
+static unsigned ask_header(struct run *r, const uint8_t *header, size_t header_len,
+                           const uint8_t *marker, size_t marker_len) {
+    if (header_len != MAHYREI_HEADER_BYTES || header[6] != 0 || header[7] != 0) {
         return 1;
     }
     r->rate = get_bits(header, 0, 2);
@@ -87,6 +87,16 @@ static unsigned ask(struct run *r, const uint8_t *header, size_t header_len, con
     r->group = r->M + r->M / 4;
     r->slots = r->symbols * r->group;
     r->slot_bytes = (r->slots + 7) / 8;
+    return 0;
+}
+
+/* Questions 1 to 8 of run_write and run_read. */
+static unsigned ask(struct run *r, const uint8_t *header, size_t header_len, const uint8_t *marker,
+                    size_t marker_len, size_t frames_len, size_t slots_len) {
+    const unsigned number = ask_header(r, header, header_len, marker, marker_len);
+    if (number != 0) {
+        return number;
+    }
     return marker_len == r->W && frames_len == r->A * r->F && slots_len == r->slot_bytes ? 0 : 8;
 }
 
@@ -241,4 +251,52 @@ uint64_t run_read(const uint8_t *header, size_t header_len, const uint8_t *marke
     free(stream);
     free(symbols);
     return answer;
+}
+
+/* Whether the marker stands at slot x: left at the first wrong slot. */
+static int marker_at(const struct run *r, const uint8_t *marker, const uint8_t *capture, size_t x) {
+    for (size_t i = 0; i < r->W * r->group; i++) {
+        if (get_bit(capture, x + i) != (i % r->group == marker[i / r->group])) {
+            return 0;
+        }
+    }
+    return 1;
+}
+
+uint64_t run_find(const uint8_t *header, size_t header_len, const uint8_t *marker,
+                  size_t marker_len, const uint8_t *capture, size_t capture_len) {
+    struct run r;
+    const unsigned number = ask_header(&r, header, header_len, marker, marker_len);
+    if (number != 0) {
+        return number;
+    }
+    if (marker_len != r.W || capture_len > MAHYREI_CAPTURE_BYTES_MAX) {
+        return 8;
+    }
+    for (size_t x = 0; x + r.W * r.group <= 8 * capture_len; x++) {
+        if (marker_at(&r, marker, capture, x)) {
+            return x * 256;
+        }
+    }
+    return 19;
+}
+
+uint64_t run_cut(const uint8_t *header, size_t header_len, const uint8_t *capture,
+                 size_t capture_len, uint64_t slot, uint8_t *slots, size_t slots_len) {
+    struct run r;
+    const unsigned number = ask_header(&r, header, header_len, NULL, 0);
+    if (number != 0) {
+        return number;
+    }
+    if (capture_len > MAHYREI_CAPTURE_BYTES_MAX || slots_len != r.slot_bytes ||
+        r.slots > 8 * capture_len || slot > 8 * capture_len - r.slots) {
+        return 8;
+    }
+    memset(slots, 0, slots_len);
+    for (size_t x = 0; x < r.slots; x++) {
+        if (get_bit(capture, slot + x)) {
+            put_bit(slots, x);
+        }
+    }
+    return 0;
 }

@@ -4,7 +4,7 @@
 # README, the man page, the C header and the sentences have the same numbers, and none has a 17.
 once_numbers() {
     local number sentences=''
-    same 'numbers of README' "$(seq -s ' ' 0 16) 18 27 28 29" "$(numbers | xargs)"
+    same 'numbers of README' "$(seq -s ' ' 0 16) 18 19 27 28 29" "$(numbers | xargs)"
     same 'numbers of the man page' "$(numbers | xargs)" \
         "$(sed -n 's/^\.IP \([0-9]*\) 4$/\1/p' "$root/host/mahyrei.1" | xargs)"
     same 'numbers of the header' "$(numbers | xargs)" \
@@ -57,9 +57,9 @@ once_install() {
         "$(cd "$prefix_folder" && find . ! -type d -printf '%P\n' | sort | xargs)"
     nm -g --defined-only "$prefix_folder/lib/libmahyrei.a" >"$said/out"
     same 'calls of the library' \
-        'bit_spread pass_read pass_write run_read run_write uplink_read uplink_write word_read '\
-'word_write' "$(grep -Eo ' T ((pass|run|uplink|word)_(read|write)|bit_spread)$' "$said/out" |
-            cut -c 4- | sort | xargs)"
+        "bit_spread pass_read pass_write run_cut run_find run_read run_write uplink_read \
+uplink_write word_read word_write" \
+        "$(grep -Eo ' T ((bit|pass|run|uplink|word)_[a-z]*)$' "$said/out" | cut -c 4- | sort | xargs)"
     awk '/^```c$/ { on = 1; next } /^```$/ { on = 0 } on' "$root/README.md" >program.c
     flags="'-I$prefix_folder/include' '-L$prefix_folder/lib' -lmahyrei"
     if command -v pkg-config >"$said/out"; then
@@ -120,6 +120,8 @@ once_completion() {
     same 'subcommands' "$("$mahyrei" --help | sed -n 's/^ *\(usage:\)* mahyrei \([a-z][a-z-]*\) .*/\2/p' |
         sort | xargs)" "$(completed mahyrei '' | xargs -n 1 | sort | xargs)"
     same 'an option' --no-clobber "$(completed mahyrei write --no)"
+    same 'an option of read' --capture "$(completed mahyrei read --cap)"
+    same 'a capture' frames "$(completed mahyrei find "$header" "$marker" fra)"
     same 'a field' 'rate=1/3 rate=1/2 rate=2/3' "$(completed mahyrei header rate)"
     same 'a rate' '1/3 1/2' "$(completed mahyrei pass-write 1)"
     same 'a rate of spread' 2/3 "$(completed mahyrei spread 2)"

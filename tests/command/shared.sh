@@ -22,8 +22,9 @@ once_shared() {
     install_all
     local so=prefix/lib/libmahyrei.so
     same 'functions of the headers' \
-        'bit_spread mahyrei_sizes pass_read pass_write run_read run_write uplink_read '\
-'uplink_write word_read word_write' "$(declared | grep -E '^(bit|pass|run|uplink|word)_|_sizes$' | xargs)"
+        "bit_spread mahyrei_sizes pass_read pass_write run_cut run_find run_read run_write \
+uplink_read uplink_write word_read word_write" \
+        "$(declared | grep -E '^(bit|pass|run|uplink|word)_|_sizes$' | xargs)"
     same 'names that can be seen in the shared library' "$(declared | xargs)" \
         "$(nm -D --defined-only $so | sed -n 's/^[0-9a-f]* T \(.*\)@@MAHYREI_1$/\1/p' | sort | xargs)"
     same 'and no others' "$(declared | wc -l)" \

@@ -3,7 +3,8 @@
  * alone, since no fuzzer would find a run or a word by itself. A word, a pass, a run or an uplink
  * to be read is written by the library first, then damaged as the input says: slots, symbols, coded
  * bits, input bits of the code, bits of the stream under a right check. Or it is the rest of the
- * input itself.
+ * input itself. A capture to be searched has markers put into it, whole or with a slot turned over;
+ * one to be cut has a run at some slot.
  *
  * What is demanded of each call: the answer and every byte of the written slice are those of the
  * plain C version (tests/c/plain_run.c, bench/plain_word.c, plain_pass.c and plain_uplink.c), which
@@ -44,9 +45,9 @@ enum {
 /* Bits of the header's fields, in order; the last are the zeros at its end. */
 static const size_t WIDTHS[8] = {2, 4, 8, 9, 12, 6, 7, 16};
 
-static const char *const CALL_NAMES[CALLS] = {"word_write",  "word_read",  "pass_write",
-                                              "pass_read",   "bit_spread", "uplink_write",
-                                              "uplink_read", "run_write",  "run_read"};
+static const char *const CALL_NAMES[CALLS] = {
+    "word_write",  "word_read", "pass_write", "pass_read", "bit_spread", "uplink_write",
+    "uplink_read", "run_write", "run_read",   "run_find",  "run_cut"};
 
 /* The numbers that a call can answer, a bit each. */
 static const uint32_t CAN_ANSWER[CALLS] = {
@@ -59,6 +60,8 @@ static const uint32_t CAN_ANSWER[CALLS] = {
     [UPLINK_READ] = 1U << 0 | 1U << 8 | 1U << 28 | 1U << 29,
     [RUN_WRITE] = 0x1FF,
     [RUN_READ] = 0x1FFFF | 1U << 18,
+    [RUN_FIND] = 0x1FF | 1U << 19,
+    [RUN_CUT] = 0x1FF,
 };
 
 struct counts *counts;
@@ -155,6 +158,7 @@ enum { HEADER, MARKER, FROM, TO, SLICES };
 
 static struct lent lent[SLICES];
 static uint64_t block_bit; /* that bit_spread is asked about */
+static uint64_t from_slot; /* that run_cut is told */
 static uint8_t placement;  /* a bit for each slice, and one for NULL in place of an empty slice */
 
 static void map_area(struct lent *slice) {
@@ -257,9 +261,13 @@ static uint64_t put_library(enum call call, uint64_t rate) {
     case RUN_WRITE:
         return run_write(h->slice, h->len, m->slice, m->len, from->slice, from->len, to->slice,
                          to->len);
-    default:
+    case RUN_READ:
         return run_read(h->slice, h->len, m->slice, m->len, from->slice, from->len, to->slice,
                         to->len);
+    case RUN_FIND:
+        return run_find(h->slice, h->len, m->slice, m->len, from->slice, from->len);
+    default:
+        return run_cut(h->slice, h->len, from->slice, from->len, from_slot, to->slice, to->len);
     }
 }
 
@@ -284,9 +292,13 @@ static uint64_t put_plain(enum call call, uint64_t rate, uint8_t *to, size_t to_
     case RUN_WRITE:
         return plain_run_write(h->slice, h->len, m->slice, m->len, from->slice, from->len, to,
                                to_len);
-    default:
+    case RUN_READ:
         return plain_run_read(h->slice, h->len, m->slice, m->len, from->slice, from->len, to,
                               to_len);
+    case RUN_FIND:
+        return plain_run_find(h->slice, h->len, m->slice, m->len, from->slice, from->len);
+    default:
+        return plain_run_cut(h->slice, h->len, from->slice, from->len, from_slot, to, to_len);
     }
 }
 
@@ -303,6 +315,10 @@ static uint64_t place_limit(enum call call, unsigned number) {
     }
     if (call == UPLINK_READ && number == MAHYREI_BAD_PARITY) {
         return lent[FROM].len / MAHYREI_UPLINK_CODEBLOCK_BYTES;
+    }
+    if (call == RUN_FIND && number == MAHYREI_ACCEPTED) {
+        const struct run run = lent_run();
+        return 8 * lent[FROM].len + 1 - run.W * group_slots(&run);
     }
     if (call != RUN_READ || number < MAHYREI_BAD_PULSE || number > MAHYREI_BAD_FRAME_MARKER) {
         return 1;
@@ -339,7 +355,7 @@ static uint64_t put(enum call call, uint64_t rate) {
     }
     counts->call[call].lent += lent[TO].len;
     const uint64_t to_changed = changed(&lent[TO], call);
-    if (answer != MAHYREI_ACCEPTED) {
+    if (answer_number(answer) != MAHYREI_ACCEPTED) {
         counts->call[call].changed += read_changed + to_changed;
         require(to_changed == 0, call, "refused, and changed a lent byte");
     }
@@ -707,6 +723,7 @@ static void damage_run_word(struct input *in, const struct run *run, uint8_t *sl
 
 static void damage_run(struct input *in, const struct run *run, uint8_t *slots) {
     const size_t group = group_slots(run), M = pulse_order(run), symbols = symbol_count(run);
+    const size_t spare = 8 * slot_bytes(run) - slot_count(run);
     for (size_t left = take_few(in); left > 0; left--) {
         const size_t how = take_below(in, 1, 16), s = take_below(in, 3, symbols);
         const size_t at = (size_t)take(in, 2);
@@ -715,7 +732,7 @@ static void damage_run(struct input *in, const struct run *run, uint8_t *slots) 
             flip(slots, s * group + at % group);
             break;
         case 1: /* spare, where there are such bits */
-            flip(slots, 8 * slot_bytes(run) - 1 - at % 8);
+            flip(slots, 8 * slot_bytes(run) - 1 - at % (spare > 0 ? spare : 8));
             break;
         case 2: /* a lone guard pulse */
             put_pulse(run, slots, s, M + at % (M / 4));
@@ -753,7 +770,7 @@ static void lend_header(struct input *in, const struct run *run) {
     pack_header(run, header);
     const size_t choice = take_below(in, 1, 32);
     if (choice < 8) {
-        set_field(header, choice, take(in, 2));
+        set_field(header, choice, choice == 0 ? 3 : take(in, 2)); /* any other rate there is */
     } else if (choice == 8) {
         for (size_t i = 0; i < len; i++) {
             header[i] = (uint8_t)take(in, 1);
@@ -809,6 +826,97 @@ static void put_run(struct input *in, enum call call) {
     put_and_back(call, 0);
 }
 
+/* ---- captures */
+
+/* The slots of the marker from a slot on, as far as the capture goes. */
+static void put_marker(const struct run *run, const uint8_t *marker, size_t at, size_t end) {
+    const size_t group = group_slots(run);
+    for (size_t i = 0; i < run->W * group && at + i < end; i++) {
+        if (get_bit(given, at + i) != (i % group == marker[i / group])) {
+            flip(given, at + i);
+        }
+    }
+}
+
+/* A capture to be searched, and its length. Plain C is slow on long ones. */
+static size_t make_capture(struct input *in, const struct run *run, const uint8_t *marker) {
+    static const uint8_t AROUND[2] = {0, 0xFF};
+    const size_t len = take_below(in, 2, 6000), how = take_below(in, 1, 8);
+    const size_t taken = run->W * group_slots(run);
+    if (how == 7) {
+        fill_raw(in, given, len);
+        return len;
+    }
+    if (how < 2) {
+        memset(given, AROUND[how], len);
+    } else {
+        fill(in, given, len);
+    }
+    for (size_t left = len > 0 ? take_few(in) : 0; left > 0; left--) {
+        const size_t choice = take_below(in, 1, 8);
+        const size_t at =
+            choice == 0 && 8 * len >= taken ? 8 * len - taken : take_below(in, 3, 8 * len);
+        put_marker(run, marker, at, 8 * len);
+        const size_t wrong = at + take_below(in, 2, taken);
+        if (choice > 4 && wrong < 8 * len) {
+            flip(given, wrong);
+        }
+    }
+    return len;
+}
+
+static void put_find(struct input *in) {
+    uint8_t marker[MARKER_ROOM];
+    const struct run run = make_run(in);
+    lend_header(in, &run);
+    make_marker(in, &run, marker);
+    lend(MARKER, choose_len(in, run.W) % MARKER_ROOM, marker, MARKER_ROOM);
+    const size_t len = make_capture(in, &run, marker);
+    lend(FROM, len, given, len);
+    lend_to(0); /* it writes nothing */
+    put(RUN_FIND, 0);
+}
+
+/* A run at some slot of a capture: what is cut out is the run, and reads as its frames. */
+static void put_cut(struct input *in) {
+    static uint8_t frames[MAHYREI_FRAMES_BYTES_MAX], written[AREA];
+    uint8_t marker[MARKER_ROOM], header[MAHYREI_HEADER_BYTES];
+    const struct run run = make_run(in);
+    const size_t bytes = slot_bytes(&run), count = slot_count(&run);
+    lend_header(in, &run);
+    make_marker(in, &run, marker);
+    fill(in, frames, frame_bytes(&run));
+    pack_header(&run, header);
+    const bool sound = run_write(header, sizeof header, marker, run.W, frames, frame_bytes(&run),
+                                 written, bytes) == MAHYREI_ACCEPTED;
+    const size_t at = take_below(in, 1, 256), len = (at + count + 7) / 8 + take_below(in, 1, 32);
+    fill(in, given, len);
+    for (size_t x = 0; sound && x < count; x++) {
+        if (get_bit(given, at + x) != get_bit(written, x)) {
+            flip(given, at + x);
+        }
+    }
+    const size_t choice = take_below(in, 1, 8), last = 8 * len - count;
+    from_slot = choice < 4 ? at : choice < 6 ? last + choice - 4 : choice == 6 ? 0 : take(in, 8);
+    lend(MARKER, 0, marker, 0); /* it is lent none */
+    lend(FROM, len, given, len);
+    lend_to(choose_len(in, bytes));
+    const bool same =
+        lent[HEADER].len == sizeof header && memcmp(lent[HEADER].slice, header, sizeof header) == 0;
+    if (put(RUN_CUT, 0) != MAHYREI_ACCEPTED || !sound || !same || from_slot != at) {
+        return;
+    }
+    require(memcmp(lent[TO].slice, written, bytes) == 0, RUN_CUT, "cut out another run");
+    lend(MARKER, run.W, marker, run.W);
+    lend_to(0);
+    const uint64_t found = put(RUN_FIND, 0);
+    require(answer_number(found) == 0 && answer_place(found) <= at, RUN_FIND, "missed a run");
+    lend(FROM, bytes, written, bytes);
+    lend_to(frame_bytes(&run));
+    require(put(RUN_READ, 0) == MAHYREI_ACCEPTED, RUN_READ, "refused what was cut out");
+    require(memcmp(lent[TO].slice, frames, frame_bytes(&run)) == 0, RUN_READ, "read other frames");
+}
+
 /* ---- libFuzzer's two functions */
 
 static struct counts *map_counts(void) {
@@ -846,7 +954,11 @@ int LLVMFuzzerTestOneInput(const uint8_t *data, size_t size) {
     const enum call call = (enum call)take_below(&in, 1, CALLS);
     placement = (uint8_t)take(&in, 1);
     counts->inputs++;
-    if (is_run(call)) {
+    if (call == RUN_FIND) {
+        put_find(&in);
+    } else if (call == RUN_CUT) {
+        put_cut(&in);
+    } else if (is_run(call)) {
         put_run(&in, call);
     } else if (call == PASS_WRITE || call == PASS_READ) {
         put_pass(&in, call);

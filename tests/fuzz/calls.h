@@ -18,6 +18,8 @@ enum call {
     UPLINK_READ,
     RUN_WRITE,
     RUN_READ,
+    RUN_FIND,
+    RUN_CUT,
     CALLS
 };
 

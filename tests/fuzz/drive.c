@@ -15,7 +15,8 @@
 #include "calls.h"
 
 enum {
-    PAIRS = 3 + 6 + 3 + 6 + 4 + 2 + 4 + 9 + 18, /* of call and number, as calls.c has them */
+    /* of call and number, as calls.c has them */
+    PAIRS = 3 + 6 + 3 + 6 + 4 + 2 + 4 + 9 + 18 + 10 + 9,
     LEAST_INPUTS = 1500,
     MOST_INPUTS = 20000,
     RANDOM_LEN = 96,

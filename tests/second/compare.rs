@@ -97,12 +97,14 @@ pub enum Call {
     BitSpread,
     RunWrite,
     RunRead,
+    RunFind,
+    RunCut,
     UplinkWrite,
     UplinkRead,
 }
 
 impl Call {
-    pub const ALL: [Call; 9] = [
+    pub const ALL: [Call; 11] = [
         Call::WordWrite,
         Call::WordRead,
         Call::PassWrite,
@@ -110,6 +112,8 @@ impl Call {
         Call::BitSpread,
         Call::RunWrite,
         Call::RunRead,
+        Call::RunFind,
+        Call::RunCut,
         Call::UplinkWrite,
         Call::UplinkRead,
     ];
@@ -123,6 +127,8 @@ impl Call {
             Call::BitSpread => "bit_spread",
             Call::RunWrite => "run_write",
             Call::RunRead => "run_read",
+            Call::RunFind => "run_find",
+            Call::RunCut => "run_cut",
             Call::UplinkWrite => "uplink_write",
             Call::UplinkRead => "uplink_read",
         }
@@ -134,7 +140,8 @@ impl Call {
             Call::WordWrite | Call::PassWrite => &[0, 2, 8],
             Call::WordRead | Call::PassRead => &[0, 2, 8, 13, 14, 15],
             Call::BitSpread => &[0, 2, 8, 27],
-            Call::RunWrite => &[0, 1, 2, 3, 4, 5, 6, 7, 8],
+            Call::RunWrite | Call::RunCut => &[0, 1, 2, 3, 4, 5, 6, 7, 8],
+            Call::RunFind => &[0, 1, 2, 3, 4, 5, 6, 7, 8, 19],
             Call::RunRead => &[0, 1, 2, 3, 4, 5, 6, 7, 8, 9, 10, 11, 12, 13, 14, 15, 16, 18],
             Call::UplinkWrite => &[0, 8],
             Call::UplinkRead => &[0, 8, 28, 29],
@@ -180,7 +187,7 @@ impl Way {
 }
 
 /// What each number says. No call answers any other.
-const NUMBERS: [(u8, &str); 21] = [
+const NUMBERS: [(u8, &str); 22] = [
     (0, "accepted"),
     (1, "header"),
     (2, "rate"),
@@ -199,6 +206,7 @@ const NUMBERS: [(u8, &str); 21] = [
     (15, "check"),
     (16, "frame marker"),
     (18, "fill bits"),
+    (19, "whole marker"),
     (27, "block bit"),
     (28, "groups"),
     (29, "parity"),
@@ -210,6 +218,8 @@ pub struct Case<'a> {
     pub inputs: &'a [&'a [u8]],
     pub output_len: usize,
     pub expected: Result<Vec<u8>, Refusal>,
+    /// The place of an accepted answer: the slot that was found, and otherwise 0.
+    pub place: usize,
     /// The numbers that this kind of call may give.
     pub numbers: &'a [u8],
     /// What to say where something differs.
@@ -283,13 +293,13 @@ impl Tally {
         if let Some(count) = counts.answers.get_mut(usize::from(number)) {
             *count += 1;
         }
-        if answer != 0 {
+        if number != 0 {
             let lent = inputs.iter().zip(case.inputs.iter().copied());
             let lent = lent.chain([(&output, &before[..])]);
             counts.changed += lent.map(|(lent, before)| lent.changed(before)).sum::<u64>();
         }
         let (expected, should) = match case.expected {
-            Ok(bytes) => (0, bytes),
+            Ok(bytes) => (case.place as u64 * 256, bytes),
             Err(Refusal { number, place }) => (place as u64 * 256 + u64::from(number), before),
         };
         let mut differ = |problem: String| {

@@ -51,6 +51,23 @@ mod c {
             frames: *mut u8,
             frames_len: usize,
         ) -> u64;
+        pub fn run_find(
+            header: *const u8,
+            header_len: usize,
+            marker: *const u8,
+            marker_len: usize,
+            capture: *const u8,
+            capture_len: usize,
+        ) -> u64;
+        pub fn run_cut(
+            header: *const u8,
+            header_len: usize,
+            capture: *const u8,
+            capture_len: usize,
+            slot: u64,
+            slots: *mut u8,
+            slots_len: usize,
+        ) -> u64;
         pub fn uplink_write(
             frames: *const u8,
             frames_len: usize,
@@ -119,6 +136,33 @@ pub fn run_read(header: &[u8], marker: &[u8], slots: &[u8], frames: &mut [u8]) -
             slots.len(),
             frames.as_mut_ptr(),
             frames.len(),
+        )
+    }
+}
+
+pub fn run_find(header: &[u8], marker: &[u8], capture: &[u8]) -> u64 {
+    unsafe {
+        c::run_find(
+            header.as_ptr(),
+            header.len(),
+            marker.as_ptr(),
+            marker.len(),
+            capture.as_ptr(),
+            capture.len(),
+        )
+    }
+}
+
+pub fn run_cut(header: &[u8], capture: &[u8], slot: u64, slots: &mut [u8]) -> u64 {
+    unsafe {
+        c::run_cut(
+            header.as_ptr(),
+            header.len(),
+            capture.as_ptr(),
+            capture.len(),
+            slot,
+            slots.as_mut_ptr(),
+            slots.len(),
         )
     }
 }

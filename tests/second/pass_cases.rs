@@ -60,6 +60,7 @@ fn compare(
         inputs: &[input],
         output_len,
         expected: second,
+        place: 0,
         numbers: &[(expected % 256) as u8],
         what: &format!("{what}, rate {rate}, {} bytes", input.len()),
     };

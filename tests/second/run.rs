@@ -212,7 +212,7 @@ impl Run {
 }
 
 /// Questions 1 to 7.
-fn accept(header: &[u8], marker: &[u8]) -> Result<Run, Refusal> {
+pub fn accept(header: &[u8], marker: &[u8]) -> Result<Run, Refusal> {
     let run = Run::of(header)?;
     let too_high = |&symbol: &u8| usize::from(symbol) >= run.order();
     if marker.iter().take(run.marker).any(too_high) {

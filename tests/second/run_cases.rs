@@ -1,4 +1,4 @@
-//! Cases for the two run calls.
+//! Cases for the run calls.
 //!
 //! Every run is written by both from the same frames, then read by both, as it is or damaged.
 //! Beside each run goes a call with arguments that are wrong in one way or several. Each answer's
@@ -6,6 +6,7 @@
 //! nonsense.
 
 mod calls;
+mod captures;
 mod damages;
 mod edges;
 mod headers;
@@ -13,6 +14,7 @@ mod kinds;
 mod refusals;
 mod sample;
 
+pub use captures::{compare_capture, example_capture, LEAST_CAPTURES};
 pub use edges::{edges, largest};
 pub use headers::Sizes;
 pub use kinds::Met;

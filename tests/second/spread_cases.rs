@@ -23,6 +23,7 @@ fn compare(
         inputs: &[],
         output_len: places_len,
         expected,
+        place: 0,
         numbers: &[number],
         what: &format!("bit_spread, rate {rate}, bit {bit}, {places_len} bytes"),
     };

@@ -40,6 +40,7 @@ fn compare(
         inputs: &[input],
         output_len,
         expected: second,
+        place: 0,
         numbers,
         what: &format!("{what}, {} bytes", input.len()),
     };

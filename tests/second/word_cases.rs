@@ -364,6 +364,7 @@ fn compare(
         inputs: &[input],
         output_len,
         expected,
+        place: 0,
         numbers,
         what: &format!("{what}, rate {rate}"),
     };

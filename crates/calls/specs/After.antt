@@ -6,7 +6,9 @@ use Rattle.answers.specs.Answer.{after}
 use Rattle.word.specs.Word as words
 use Rattle.pass.specs.Pass as passes
 use Rattle.spread.specs.Spread as spreads
+use Rattle.header.specs.Header.{fieldsOf}
 use Rattle.run.specs.Run as runs
+use Rattle.cut.specs.Cut as cuts
 use Rattle.uplink.specs.Uplink as uplinks
 
 abbrev pub wordAfter : ℕ → List ℕ → List ℕ → List ℕ
@@ -29,6 +31,9 @@ slotsAfter header marker frames old = after (runs.writeSays header marker frames
 
 abbrev pub framesAfter : List ℕ → List ℕ → List ℕ → List ℕ → List ℕ
 framesAfter header marker slots old = after (runs.readSays header marker slots (length old)) (runs.framesRead header marker slots) old
+
+abbrev pub cutAfter : List ℕ → List ℕ → ℕ → List ℕ → List ℕ
+cutAfter header capture slot old = after (cuts.cutSays header (length capture) slot (length old)) (cuts.cutOf (fieldsOf header) capture slot) old
 
 abbrev pub uplinkSlotsAfter : List ℕ → List ℕ → List ℕ
 uplinkSlotsAfter frames old = after (uplinks.writeSays frames (length old)) (uplinks.slotsOf frames) old

@@ -6,9 +6,11 @@ ghost use Rattle.answers.specs.Answer.{codeOf};
 ghost use Rattle.word.specs.Word as words;
 ghost use Rattle.pass.specs.Pass as passes;
 ghost use Rattle.spread.specs.Spread as spreads;
+ghost use Rattle.search.specs.Search as searches;
 ghost use Rattle.run.specs.Run as runs;
+ghost use Rattle.cut.specs.Cut as cuts;
 ghost use Rattle.uplink.specs.Uplink as uplinks;
-ghost use Rattle.calls.specs.After.{wordAfter, blockAfter, wordsAfter, blocksAfter, placesAfter, slotsAfter, framesAfter, uplinkSlotsAfter, uplinkFramesAfter};
+ghost use Rattle.calls.specs.After.{wordAfter, blockAfter, wordsAfter, blocksAfter, placesAfter, slotsAfter, framesAfter, cutAfter, uplinkSlotsAfter, uplinkFramesAfter};
 
 // A packed block to its word (step 7, and then steps 2 to 6).
 #[no_mangle]
@@ -71,6 +73,23 @@ pub extern "C" fn run_read(header: &[u8], marker: &[u8], slots: &[u8], frames: &
     ensures { λ _. ⌜ now (frames .exit) ≡ framesAfter (now (header .entry)) (now (marker .entry)) (now (slots .entry)) (now (frames .entry)) ⌝ }
 {
     answers::code(run_reader::read(header, marker, slots, frames))
+}
+
+// The start of a capture: the earliest slot at which the whole marker stands is the place of an accepted answer.
+#[no_mangle]
+pub extern "C" fn run_find(header: &[u8], marker: &[u8], capture: &[u8]) -> u64
+    ensures { λ r. ⌜ r ≡ searches.findCode (now (header .entry)) (now (marker .entry)) (now (capture .entry)) ⌝ }
+{
+    search::code(search::find(header, marker, capture))
+}
+
+// The slots of a run out of a capture, from a slot on, packed anew.
+#[no_mangle]
+pub extern "C" fn run_cut(header: &[u8], capture: &[u8], slot: u64, slots: &mut [u8]) -> u64
+    ensures { λ r. ⌜ r ≡ codeOf (cuts.cutSays (now (header .entry)) (length (now (capture .entry))) slot (length (now (slots .entry)))) ⌝ }
+    ensures { λ _. ⌜ now (slots .exit) ≡ cutAfter (now (header .entry)) (now (capture .entry)) slot (now (slots .entry)) ⌝ }
+{
+    answers::code(cut::cut_out(header, capture, slot, slots))
 }
 
 // Frames of 64 bits to command slots.

@@ -28,6 +28,10 @@ use Rattle.capture.specs.Capture.{wordOut}
 use Rattle.capture.specs.Answer.{slotsSay}
 use Rattle.run.specs.Run as runs
 use Rattle.run.specs.Return as run-laws
+use Rattle.search.specs.Search.{findSays}
+use Rattle.search.specs.Laws as search-laws
+use Rattle.cut.specs.Cut.{cutSays}
+use Rattle.cut.specs.Laws as cut-laws
 use Rattle.pass.specs.Pass as passes
 use Rattle.pass.specs.Answers as pass-laws
 use Rattle.spread.specs.Spread.{spreadSays}
@@ -81,3 +85,9 @@ pass-read-not-17 rate slice n = pass-laws.read-fits rate slice n .listed
 
 pub spread-not-17 : (rate bit n : ℕ) → numberOf (spreadSays rate bit n) ≡ 17 → ⊥
 spread-not-17 rate bit n = spread-laws.spread-fits rate bit n .listed
+
+pub find-not-17 : (header marker capture : List ℕ) → numberOf (findSays header marker capture) ≡ 17 → ⊥
+find-not-17 header marker capture = search-laws.find-fits header marker capture .listed
+
+pub cut-not-17 : (header : List ℕ) (captureLength s slotsLength : ℕ) → numberOf (cutSays header captureLength s slotsLength) ≡ 17 → ⊥
+cut-not-17 header captureLength s slotsLength = cut-laws.cut-fits header captureLength s slotsLength .listed

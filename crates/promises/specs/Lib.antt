@@ -2,6 +2,7 @@ pub mod Demand1
 pub mod Demand2
 pub mod Demand3
 pub mod Edges
+pub mod Card1
 pub mod Card2
 pub mod Card3
 pub mod Card4

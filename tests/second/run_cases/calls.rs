@@ -37,6 +37,7 @@ pub(super) fn compare(
         inputs: &[header, marker, input],
         output_len,
         expected,
+        place: 0,
         numbers,
         what: &format!("{}, {what}, header {header:02X?}", call.name()),
     };

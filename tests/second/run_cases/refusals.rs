@@ -13,7 +13,7 @@ fn wrong_field(rng: &mut Rng, below: u64, above: std::ops::RangeInclusive<u64>) 
 }
 
 /// Another length than the right one.
-fn wrong_len(rng: &mut Rng, right: usize) -> usize {
+pub(super) fn wrong_len(rng: &mut Rng, right: usize) -> usize {
     let any = rng.below(right + 64);
     let len = rng.pick(&[0, 1, right - 1, right + 1, right / 2, any]);
     if len == right {
@@ -23,20 +23,21 @@ fn wrong_len(rng: &mut Rng, right: usize) -> usize {
     }
 }
 
-/// A call that fails one question from 1 to 8 and, by chance, some of those after it.
-pub(super) fn refused_call(
-    tally: &mut Tally,
-    rng: &mut Rng,
-    way: Way,
-    sample: &Sample,
-    slots: &[u8],
-    first: u8,
-    what: &str,
-) {
+/// Header and marker, and the lengths of frames and slots, with something wrong in them.
+pub(super) struct Broken {
+    pub(super) header: Vec<u8>,
+    pub(super) marker: Vec<u8>,
+    pub(super) frames_len: usize,
+    pub(super) slots_len: usize,
+}
+
+/// What fails one question from 1 to 8 and, by chance, some of those after it. Question 7 is about
+/// the symbols of the marker too where they are lent.
+pub(super) fn broken(rng: &mut Rng, sample: &Sample, first: u8, marker_lent: bool) -> Broken {
     let mut header = sample.header;
     let mut marker = sample.marker.clone();
     let mut frames_len = sample.frames.len();
-    let mut slots_len = slots.len();
+    let mut slots_len = sample.run.slots_len();
     let mut header_len = HEADER_BYTES;
 
     // From the last question on, so that what an earlier one breaks stays broken.
@@ -58,7 +59,8 @@ pub(super) fn refused_call(
             }
             7 => {
                 let looked_at = marker.len().min(header.marker as usize);
-                if rng.below(2) == 0 || sample.run.order() == 256 || looked_at == 0 {
+                let symbols = marker_lent && sample.run.order() < 256 && looked_at > 0;
+                if rng.below(2) == 0 || !symbols {
                     header.marker = wrong_field(rng, 0, MARKER_MOST as u64 + 1..=63);
                 } else {
                     let any = sample.run.order() + rng.below(256 - sample.run.order());
@@ -87,15 +89,34 @@ pub(super) fn refused_call(
 
     let mut packed = header.pack().to_vec();
     packed.resize(header_len, 0);
+    Broken {
+        header: packed,
+        marker,
+        frames_len,
+        slots_len,
+    }
+}
+
+/// A call that fails this question first.
+pub(super) fn refused_call(
+    tally: &mut Tally,
+    rng: &mut Rng,
+    way: Way,
+    sample: &Sample,
+    slots: &[u8],
+    first: u8,
+    what: &str,
+) {
+    let broken = broken(rng, sample, first, true);
     let (input, len, output_len) = match way {
-        Way::Write => (&sample.frames[..], frames_len, slots_len),
-        Way::Read => (slots, slots_len, frames_len),
+        Way::Write => (&sample.frames[..], broken.frames_len, broken.slots_len),
+        Way::Read => (slots, broken.slots_len, broken.frames_len),
     };
     let mut input = input.to_vec();
     input.resize(len, 0);
     let arguments = Arguments {
-        header: &packed,
-        marker: &marker,
+        header: &broken.header,
+        marker: &broken.marker,
         input: &input,
         output_len,
     };

@@ -1,0 +1,4 @@
+pub mod Cut
+pub mod Needs
+pub mod Laws
+pub mod Theorems
