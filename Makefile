@@ -22,7 +22,7 @@ PLAIN = -O3 -march=native
 SANITIZED = -O1 -g -fsanitize=address,undefined -fno-sanitize-recover=all
 RUSTFLAGS = --edition 2021 -O -D warnings
 
-VERSION = 0.2.0
+VERSION = 0.3.0
 
 # The static library: all calls. Another archive can stand in for it, such as the plain C version,
 # which shows that the tests outside the proofs hold without the library:
@@ -32,7 +32,7 @@ LIBRARY = target/lib/libmahyrei.a
 LIBS = $(LIBRARY)
 # The shared library, from the same objects. Programs look for it by its ABI, which changes when one
 # that was linked with an older one could no longer run with it, or would get other words from it.
-ABI = 1
+ABI = 2
 SHARED = $(dir $(firstword $(LIBS)))libmahyrei.so.$(VERSION)
 HOST = target/host
 HEADER = include/mahyrei.h include/mahyrei_plain.h
@@ -88,8 +88,8 @@ PYTHON_TEST = if ! command -v python3 >/dev/null; then \
     echo 'python: no python3 here; the module is not tried'; \
     else MAHYREI_LIBRARY=$(abspath $(SHARED)) tests/python/module $(PROGRAM) $(HOST)/slots; fi
 HOST_TESTS = $(SHARED) $(addprefix $(HOST)/,mahyrei_lying word_calls pass_calls spread_calls \
-    run_calls find_calls uplink_calls plain_calls sha256_vectors second_test compare_words \
-    compare_passes compare_spreads compare_runs compare_captures compare_uplinks) \
+    run_calls long_calls find_calls uplink_calls plain_calls sha256_vectors second_test \
+    compare_words compare_passes compare_spreads compare_runs compare_captures compare_uplinks) \
     $(COMMAND_TESTS)
 host-test: $(HOST_TESTS)
 	@echo '#include "mahyrei_plain.h"' | $(CXX) -x c++ $(WARNINGS) -Iinclude -fsyntax-only -
@@ -97,6 +97,7 @@ host-test: $(HOST_TESTS)
 	@$(STACK) && ASAN_OPTIONS=detect_leaks=0 $(HOST)/pass_calls
 	@$(STACK) && ASAN_OPTIONS=detect_leaks=0 $(HOST)/spread_calls
 	@$(STACK) && ASAN_OPTIONS=detect_leaks=0 $(HOST)/run_calls
+	@$(STACK) && ASAN_OPTIONS=detect_leaks=0 $(HOST)/long_calls
 	@$(STACK) && ASAN_OPTIONS=detect_leaks=0 $(HOST)/find_calls
 	@$(STACK) && ASAN_OPTIONS=detect_leaks=0 $(HOST)/uplink_calls
 	@$(STACK) && ASAN_OPTIONS=detect_leaks=0 $(HOST)/plain_calls
@@ -230,9 +231,9 @@ $(HOST)/sha256_vectors: tests/c/sha256_vectors.c host/sha256.c host/sha256.h
 	@$(COMPILE) $(SANITIZED) -Ihost $< host/sha256.c -o $@
 
 SECOND = $(addprefix tests/second/,lib.rs compare.rs find.rs library.rs pass.rs run.rs spread.rs \
-    uplink.rs word.rs run_cases.rs $(addprefix run_cases/,calls.rs captures.rs damages.rs edges.rs \
-    headers.rs kinds.rs refusals.rs sample.rs) pass_cases.rs spread_cases.rs uplink_cases.rs \
-    word_cases.rs)
+    uplink.rs word.rs run_cases.rs $(addprefix run_cases/,calls.rs captures.rs copies.rs damages.rs \
+    edges.rs headers.rs kinds.rs refusals.rs sample.rs) pass_cases.rs spread_cases.rs \
+    uplink_cases.rs word_cases.rs)
 $(HOST)/second_test: $(SECOND)
 	@mkdir -p $(@D)
 	@$(RUSTC) $(RUSTFLAGS) --test $< -o $@
@@ -309,7 +310,7 @@ evidence-test: $(HOST)/soak $(HOST)/fuzz_drive
 $(HOST)/soak: tests/second/soak.rs $(HOST)/libsecond.rlib $(LINKED)
 	@$(RUSTC) $(RUSTFLAGS) $< $(LINK_RUST) -o $@
 
-$(addprefix $(HOST)/,run_calls find_calls pass_calls spread_calls): tests/c/runs.h
+$(addprefix $(HOST)/,run_calls long_calls find_calls pass_calls spread_calls): tests/c/runs.h
 
 # The fuzz target with a driver in place of libFuzzer, beside the run calls in plain C.
 $(HOST)/plain_run.o: tests/c/plain_run.c bench/plain_word.h $(HEADER)

@@ -19,7 +19,7 @@ enum { EMPTY_BYTES = 256 << 20, PULSES_BYTES = 4 << 20, WORST_BYTES = 32 << 20 }
 
 /* The largest run there is. */
 static const struct run LARGEST = {
-    .rate = 0, .m = 8, .N = 127, .B = 255, .F = 2048, .W = 32, .A = 64};
+    .rate = 0, .m = 8, .N = 127, .B = 255, .F = 2048, .W = 32, .A = 64, .copies = 1};
 
 static uint8_t header[MAHYREI_HEADER_BYTES];
 
@@ -123,8 +123,8 @@ int main(void) {
         frames[i] = (uint8_t)(i * i >> 5);
     }
     pack_header(&LARGEST, header);
-    require(run_write(header, sizeof header, marker, MARKER_LEN, frames, sizeof frames, run, len) ==
-                MAHYREI_ACCEPTED,
+    require(run_write(1, header, sizeof header, marker, MARKER_LEN, frames, sizeof frames, run,
+                      len) == MAHYREI_ACCEPTED,
             "the run is refused");
     printf("run_find, the marker never comes: nanoseconds a byte, of half the bytes and of all\n");
     printf("%-34s %10s %9s %9s %8s\n", "capture", "bytes", "half", "all", "all/half");

@@ -1,5 +1,6 @@
 /*
  * The run calls beside the plain C version, and beside memset and memcpy of the same slot bytes.
+ * Runs of several copies also stand beside the same run of one copy, as many times.
  *
  * Those that are compared take turns, and the best turn of each counts, so a busy machine harms all
  * alike and little. Output slices are not cleared between calls.
@@ -21,12 +22,16 @@ struct named_run {
     struct run run;
 };
 
+/* Runs of several copies come right behind the same run of one. */
 static const struct named_run RUNS[] = {
-    {"m 4, C 3", {.rate = 1, .m = 4, .N = 1, .B = 1, .F = 900, .W = 16, .A = 3}},
-    {"the example", {.rate = 1, .m = 6, .N = 84, .B = 120, .F = 223, .W = 16, .A = 2}},
-    {"m 2, C 77", {.rate = 2, .m = 2, .N = 21, .B = 180, .F = 1500, .W = 16, .A = 64}},
-    {"m 8, C 105", {.rate = 2, .m = 8, .N = 64, .B = 255, .F = 2048, .W = 16, .A = 64}},
-    {"the largest", {.rate = 0, .m = 8, .N = 127, .B = 255, .F = 2048, .W = 32, .A = 64}},
+    {"m 4, C 3", {1, 4, 1, 1, 900, 16, 3, 1}},
+    {"the example", {1, 6, 84, 120, 223, 16, 2, 1}},
+    {"  4 copies", {1, 6, 84, 120, 223, 16, 2, 4}},
+    {"m 2, C 77", {2, 2, 21, 180, 1500, 16, 64, 1}},
+    {"  32 copies", {2, 2, 21, 180, 1500, 16, 64, 32}},
+    {"m 8, C 105", {2, 8, 64, 255, 2048, 16, 64, 1}},
+    {"the largest", {0, 8, 127, 255, 2048, 32, 64, 1}},
+    {"  2 copies", {0, 8, 127, 255, 2048, 32, 64, 2}},
 };
 enum { RUN_COUNT = sizeof RUNS / sizeof RUNS[0], MARKER_MOST = 32 };
 
@@ -35,10 +40,12 @@ struct slices {
     uint8_t header[MAHYREI_HEADER_BYTES], marker[MARKER_MOST];
     uint8_t *frames, *slots, *other;
     size_t marker_len, frames_len, slots_len;
+    uint64_t copies;
 };
 
 static void make(const struct run *run, struct slices *s) {
     pack_header(run, s->header);
+    s->copies = run->copies;
     s->marker_len = run->W;
     s->frames_len = run->A * run->F;
     s->slots_len = slot_bytes(run);
@@ -55,23 +62,23 @@ static void make(const struct run *run, struct slices *s) {
 /* ---- what is timed */
 
 static uint64_t write_library(struct slices *s) {
-    return run_write(s->header, sizeof s->header, s->marker, s->marker_len, s->frames,
+    return run_write(s->copies, s->header, sizeof s->header, s->marker, s->marker_len, s->frames,
                      s->frames_len, s->slots, s->slots_len);
 }
 
 static uint64_t write_plain(struct slices *s) {
-    return plain_run_write(s->header, sizeof s->header, s->marker, s->marker_len, s->frames,
-                           s->frames_len, s->slots, s->slots_len);
+    return plain_run_write(s->copies, s->header, sizeof s->header, s->marker, s->marker_len,
+                           s->frames, s->frames_len, s->slots, s->slots_len);
 }
 
 static uint64_t read_library(struct slices *s) {
-    return run_read(s->header, sizeof s->header, s->marker, s->marker_len, s->slots, s->slots_len,
-                    s->frames, s->frames_len);
+    return run_read(s->copies, s->header, sizeof s->header, s->marker, s->marker_len, s->slots,
+                    s->slots_len, s->frames, s->frames_len);
 }
 
 static uint64_t read_plain(struct slices *s) {
-    return plain_run_read(s->header, sizeof s->header, s->marker, s->marker_len, s->slots,
-                          s->slots_len, s->frames, s->frames_len);
+    return plain_run_read(s->copies, s->header, sizeof s->header, s->marker, s->marker_len,
+                          s->slots, s->slots_len, s->frames, s->frames_len);
 }
 
 static uint64_t clear(struct slices *s) {
@@ -106,11 +113,18 @@ static void take_turns(timed *const calls[3], struct slices *s, double best[3]) 
     }
 }
 
-static void row(const char *name, const char *call, timed *const calls[3], struct slices *s) {
+/* `once` is what the library took for one copy. */
+static void row(const struct named_run *run, const char *call, timed *const calls[3],
+                struct slices *s, double *once) {
     double best[3];
     take_turns(calls, s, best);
-    printf("%-12s %10zu  %-9s %9.0f %9.0f %9.0f %12.2f %14.2f\n", name, s->slots_len, call, best[0],
-           best[1], best[2], best[1] / best[0], best[0] / best[2]);
+    *once = run->run.copies == 1 ? best[0] : *once;
+    printf("%-12s %10zu  %-9s %9.0f %9.0f %9.0f %12.2f %14.2f", run->name, s->slots_len, call,
+           best[0], best[1], best[2], best[1] / best[0], best[0] / best[2]);
+    if (run->run.copies > 1) {
+        printf(" %11.2f", best[0] / (double)run->run.copies / *once);
+    }
+    putchar('\n');
 }
 
 /* Nothing is timed that is not right: both write the same slots. */
@@ -126,14 +140,15 @@ int main(void) {
     static timed *const READ[3] = {read_library, read_plain, copy};
     printf("microseconds a run, the best turn of each; memory is memset for writing, memcpy for "
            "reading\n");
-    printf("%-12s %10s  %-9s %9s %9s %9s %12s %14s\n", "run", "bytes", "call", "library", "plain C",
-           "memory", "plain/library", "library/memory");
+    printf("%-12s %10s  %-9s %9s %9s %9s %12s %14s %11s\n", "run", "bytes", "call", "library",
+           "plain C", "memory", "plain/library", "library/memory", "copy/single");
+    double once[2] = {0};
     for (size_t i = 0; i < RUN_COUNT; i++) {
         struct slices s = {0};
         make(&RUNS[i].run, &s);
         compare(&s);
-        row(RUNS[i].name, "run_write", WRITE, &s);
-        row(RUNS[i].name, "run_read", READ, &s);
+        row(&RUNS[i], "run_write", WRITE, &s, &once[0]);
+        row(&RUNS[i], "run_read", READ, &s, &once[1]);
         free(s.frames);
         free(s.slots);
         free(s.other);

@@ -1,14 +1,14 @@
 #include "commands.h"
 
-enum { WRITES = WITH(NO_CLOBBER) | WITH(FORCE) };
+enum { WRITES = WITH(NO_CLOBBER) | WITH(FORCE), REPEATS = WITH(COPIES) };
 
 const struct command COMMANDS[] = {
-    {"write", NULL, "HEADER MARKER FRAMES", NULL, "SLOTS", WRITES, true, write_command,
+    {"write", NULL, "HEADER MARKER FRAMES", NULL, "SLOTS", WRITES | REPEATS, true, write_command,
      "makes the slots of the frames"},
-    {"read", NULL, "HEADER MARKER SLOTS", NULL, "FRAMES", WRITES | WITH(CAPTURE), true,
+    {"read", NULL, "HEADER MARKER SLOTS", NULL, "FRAMES", WRITES | REPEATS | WITH(CAPTURE), true,
      read_command, "accepts slots only if some frames make them, and gives those frames back"},
-    {"verify", NULL, "HEADER MARKER SLOTS", NULL, NULL, WITH(CAPTURE), true, verify_command,
-     "does what read does, and writes nothing"},
+    {"verify", NULL, "HEADER MARKER SLOTS", NULL, NULL, REPEATS | WITH(CAPTURE), true,
+     verify_command, "does what read does, and writes nothing"},
     {"find", NULL, "HEADER MARKER CAPTURE", NULL, NULL, 0, true, find_command,
      "prints the first slot of a capture at which the whole marker stands"},
     {"cut", NULL, "HEADER CAPTURE", "SLOT", "SLOTS", WRITES, true, cut_command,
@@ -43,6 +43,7 @@ const struct option_line OPTIONS[OPTION_COUNT] = {
     [NO_CLOBBER] = {"no-clobber", 'n', NULL, "leaves a file alone that has the output's name"},
     [FORCE] = {"force", 'f', NULL, "writes bytes to a terminal too"},
     [OUTPUT] = {"output", 'o', "FILE", "writes the header's bytes to this file"},
+    [COPIES] = {"copies", '\0', "K", "each symbol stands K times in a row; once otherwise"},
     [LONG] = {"long", 'l', NULL, "prints fields and sizes by name, one to a line"},
     [JSON] = {"json", 'j', NULL, "prints them as JSON"},
     [CAPTURE] = {"capture", '\0', NULL, "finds the run in a capture that begins on any slot"},

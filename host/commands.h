@@ -18,6 +18,7 @@ enum option {
     NO_CLOBBER,
     FORCE,
     OUTPUT,
+    COPIES,
     LONG,
     JSON,
     CAPTURE,

@@ -12,13 +12,13 @@
 #include "descriptors.h"
 #include "mahyrei.h"
 
-/* How much of each operand is read: one byte more than any header or rate implies. What is longer
- * gets the same answer, and need not be held. */
+/* How much of each operand is read: one byte more than any header or rate implies, of slots with
+ * one copy. What is longer gets the same answer, and need not be held. */
 enum {
     HEADER_LIMIT = MAHYREI_HEADER_BYTES + 1,
     MARKER_LIMIT = MAHYREI_MARKER_MAX + 1,
     FRAMES_LIMIT = MAHYREI_FRAMES_BYTES_MAX + 1,
-    SLOTS_LIMIT = MAHYREI_SLOTS_BYTES_MAX + 1,
+    SLOTS_LIMIT = 182128720 + 1,
     BLOCKS_LIMIT = MAHYREI_PASS_MAX * MAHYREI_BLOCK_BYTES_MAX + 1,
     WORDS_LIMIT = MAHYREI_PASS_MAX * MAHYREI_WORD_BYTES + 1,
     UPLINK_FRAMES_LIMIT = MAHYREI_UPLINK_MAX * MAHYREI_UPLINK_FRAME_BYTES + 1,

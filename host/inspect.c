@@ -355,7 +355,7 @@ static enum status inspect(const struct line *line, struct lent *run, struct fin
 }
 
 enum status inspect_command(const struct line *line, struct entry *entry) {
-    struct lent run = {0};
+    struct lent run = {.copies = 1};
     struct findings findings = {0};
     const enum status status = inspect(line, &run, &findings);
     (void)entry;

@@ -21,10 +21,11 @@ static void *make_call(void *given) {
     const struct lent *const lent = call->lent;
     const struct bytes *const header = &lent->header, *const marker = &lent->marker,
                               *const frames = &lent->frames, *const slots = &lent->slots;
-    call->answer = call->writing ? run_write(header->at, header->len, marker->at, marker->len,
-                                             frames->at, frames->len, slots->at, slots->len)
-                                 : run_read(header->at, header->len, marker->at, marker->len,
-                                            slots->at, slots->len, frames->at, frames->len);
+    call->answer = call->writing
+                       ? run_write(lent->copies, header->at, header->len, marker->at, marker->len,
+                                   frames->at, frames->len, slots->at, slots->len)
+                       : run_read(lent->copies, header->at, header->len, marker->at, marker->len,
+                                  slots->at, slots->len, frames->at, frames->len);
     return NULL;
 }
 
@@ -227,7 +228,7 @@ bool library_spread(uint64_t rate, uint64_t bit, uint8_t *places, uint64_t *answ
 /* With nothing else lent, a good header comes as far as 8: its marker has at least one symbol, and
  * none is there. */
 bool library_header(const struct bytes *header, uint64_t *answer) {
-    const struct lent lent = {.header = *header};
+    const struct lent lent = {.copies = 1, .header = *header};
     if (!library_write(&lent, answer)) {
         return false;
     }

@@ -13,6 +13,7 @@
 
 /* What a run call is lent. */
 struct lent {
+    uint64_t copies;
     struct bytes header, marker, frames, slots, capture;
 };
 

@@ -76,7 +76,7 @@ static void say_sizes(const struct sheet *sheet, const struct lent *run,
         say_size(&run->frames, operands->frames, "frames", sizes->frame_bytes, FRAMES_LIMIT);
     }
     if (operands->slots != NULL) {
-        say_size(&run->slots, operands->slots, "slots", sizes->slot_bytes, SLOTS_LIMIT);
+        say_size(&run->slots, operands->slots, "slots", sizes->slot_bytes, slots_limit(sheet));
     }
 }
 
@@ -95,7 +95,7 @@ static void say_no_marker(const struct sheet *sheet, const struct lent *run, con
            8 * (uint64_t)run->capture.len, sheet->fields.W * sheet->sizes.group);
 }
 
-/* ---- places: numbers 9 and above */
+/* ---- places: numbers 9 to 18 */
 
 /* What slots are said to be in: the capture that they were cut from, or their own file. */
 static const char *shown_slots(const struct operands *operands) {
@@ -113,8 +113,8 @@ static void say_spare(const struct sheet *sheet, const struct lent *run, const c
 
 static void say_symbol(const struct sheet *sheet, uint64_t symbol,
                        const struct operands *operands) {
-    const uint64_t first = operands->slot + symbol * sheet->sizes.group;
-    const uint64_t last = first + sheet->sizes.group - 1;
+    const uint64_t all = sheet->copies * sheet->sizes.group;
+    const uint64_t first = operands->slot + symbol * all, last = first + all - 1;
     remark(shown_slots(operands),
            "symbol %" PRIu64 " is slots %" PRIu64 " to %" PRIu64 ", in bytes %" PRIu64
            " to %" PRIu64,
@@ -123,15 +123,15 @@ static void say_symbol(const struct sheet *sheet, uint64_t symbol,
 
 /* A word's symbols lie apart, so the first and the last of them are said. */
 static void say_word(const struct sheet *sheet, uint64_t word, const struct operands *operands) {
-    const uint64_t S = sheet->sizes.S, group = sheet->sizes.group;
+    const uint64_t S = sheet->sizes.S, all = sheet->copies * sheet->sizes.group;
     uint64_t first = UINT64_MAX, last = 0;
     for (uint64_t at = 0; at < S; at++) {
         const uint64_t symbol = symbol_of(sheet, word, at);
         first = symbol < first ? symbol : first;
         last = symbol > last ? symbol : last;
     }
-    const uint64_t from = operands->slot + first * group;
-    const uint64_t to = operands->slot + last * group + group - 1;
+    const uint64_t from = operands->slot + first * all;
+    const uint64_t to = operands->slot + last * all + all - 1;
     remark(shown_slots(operands),
            "word %" PRIu64 " has its symbols from %" PRIu64 " to %" PRIu64 ": slots %" PRIu64
            " to %" PRIu64 ", bytes %" PRIu64 " to %" PRIu64,
@@ -176,10 +176,13 @@ void say_where(uint64_t answer, const struct lent *run, const struct operands *o
     const unsigned number = answer_number(answer);
     struct sheet sheet;
     const unsigned refused = sheet_of(&run->header, &sheet);
+    sheet_repeat(&sheet, run->copies);
     if (refused != MAHYREI_ACCEPTED) {
         say_header(refused, &run->header, operands->header);
     } else if (number == MAHYREI_BAD_MARKER) {
         say_marker(&sheet, &run->marker, shown(operands->marker));
+    } else if (number == MAHYREI_BAD_COPIES) {
+        remark("--copies", "it is %" PRIu64, run->copies);
     } else if (number == MAHYREI_BAD_LENGTH) {
         say_sizes(&sheet, run, operands);
     } else if (number == MAHYREI_BAD_SPARE) {

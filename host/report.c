@@ -160,6 +160,10 @@ void entry_bit(struct entry *entry, uint64_t bit) {
     snprintf(entry->bit, sizeof entry->bit, "%" PRIu64, bit);
 }
 
+void entry_copies(struct entry *entry, uint64_t copies) {
+    snprintf(entry->copies, sizeof entry->copies, "%" PRIu64, copies);
+}
+
 void entry_rate(struct entry *entry, uint64_t rate) {
     if (rate_name(rate) != NULL) {
         snprintf(entry->rate, sizeof entry->rate, "%s", rate_name(rate));
@@ -278,6 +282,9 @@ static void print_part(FILE *to, const char *what, const struct entry_part *part
 
 static void print_run(FILE *to, const struct entry *entry) {
     fprintf(to, " header=%s", entry->header);
+    if (entry->copies[0] != '\0') {
+        fprintf(to, " copies=%s", entry->copies);
+    }
     print_size(to, "marker", entry->marker);
     fprintf(to, " marker-symbols=%s", entry->marker_digits);
     print_part(to, "frames", &entry->frames);

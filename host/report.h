@@ -50,6 +50,7 @@ struct entry {
     struct entry_part frames, slots; /* an uplink's too */
     struct entry_part capture;       /* in which the run is, and where it begins */
     char slot[ENTRY_NUMBER];
+    char copies[ENTRY_NUMBER]; /* "" where they were not given */
     char rate[ENTRY_NUMBER];
     struct entry_part blocks, words; /* a pass's */
     char bit[ENTRY_NUMBER];          /* a spread's */
@@ -61,6 +62,7 @@ void entry_begin(struct entry *entry, const char *what);
 void entry_header(struct entry *entry, const uint8_t *header, size_t len);
 void entry_marker(struct entry *entry, const uint8_t *marker, size_t len);
 void entry_rate(struct entry *entry, uint64_t rate);
+void entry_copies(struct entry *entry, uint64_t copies);
 void entry_answer(struct entry *entry, uint64_t answer);
 
 /* It is about a run in a capture, which begins at a slot. */

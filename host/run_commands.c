@@ -3,6 +3,7 @@
 #include "files.h"
 #include "library.h"
 #include "mahyrei.h"
+#include "numbers.h"
 #include "places.h"
 #include "progress.h"
 #include "sheet.h"
@@ -33,9 +34,14 @@ static struct operands name_operands(enum way way, const struct line *line, stru
 static bool take_in_run(bool writing, const struct operands *operands, struct lent *run,
                         struct entry *entry) {
     struct bytes *const from = writing ? &run->frames : &run->slots;
-    const size_t limit = writing ? FRAMES_LIMIT : SLOTS_LIMIT;
-    if (!take_in_header(operands, run, entry) ||
-        !take_in(writing ? operands->frames : operands->slots, limit, from)) {
+    if (!take_in_header(operands, run, entry)) {
+        return false;
+    }
+    struct sheet sheet;
+    sheet_of(&run->header, &sheet);
+    sheet_repeat(&sheet, run->copies);
+    const size_t limit = writing ? FRAMES_LIMIT : slots_limit(&sheet);
+    if (!take_in(writing ? operands->frames : operands->slots, limit, from)) {
         return false;
     }
     entry_part(writing ? &entry->frames : &entry->slots, from->at, from->len, from->len < limit);
@@ -50,6 +56,7 @@ static enum status call(bool writing, const struct operands *operands, struct le
     uint64_t answer;
     /* Where the header is refused there is no room, and the call says why. */
     sheet_of(&run->header, &sheet);
+    sheet_repeat(&sheet, run->copies);
     if (!make_room(writing ? sheet.sizes.slot_bytes : sheet.sizes.frame_bytes, to)) {
         return FAILED;
     }
@@ -90,12 +97,30 @@ static enum status call_captured(struct operands *operands, struct lent *run, st
     return status;
 }
 
+/* Once, unless the line says how often; whether there is such a factor is the library's to say. */
+static bool take_copies(const struct line *line, struct lent *run, struct entry *entry) {
+    run->copies = 1;
+    if (line->options[COPIES] == NULL) {
+        return true;
+    }
+    if (in_capture(line)) {
+        complain_text("--copies",
+                      "a run that is found in a capture has symbols that are sent once");
+        return false;
+    }
+    if (!take_number(line->options[COPIES], &run->copies)) {
+        return false;
+    }
+    entry_copies(entry, run->copies);
+    return true;
+}
+
 static enum status make_run(enum way way, const struct line *line, struct lent *run,
                             struct entry *entry) {
     const bool writing = way == WRITING, captured = in_capture(line);
     struct operands operands = name_operands(way, line, entry);
     const char *const name = way == VERIFYING ? NULL : line->operands[3];
-    if ((name != NULL && !ready(line, &operands, name)) ||
+    if (!take_copies(line, run, entry) || (name != NULL && !ready(line, &operands, name)) ||
         !(captured ? take_in_captured(&operands, run, entry)
                    : take_in_run(writing, &operands, run, entry))) {
         return FAILED;

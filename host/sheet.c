@@ -7,7 +7,19 @@
 
 unsigned sheet_of(const struct bytes *header, struct sheet *sheet) {
     mahyrei_header_fields(header->at, header->len, &sheet->fields);
+    sheet->copies = 1;
     return mahyrei_sizes(header->at, header->len, &sheet->sizes);
+}
+
+/* A factor that there is not makes no sizes: the library says so. */
+void sheet_repeat(struct sheet *sheet, uint64_t copies) {
+    sheet->copies = copies <= MAHYREI_COPIES_MAX ? copies : 1;
+    sheet->sizes.slots = sheet->sizes.symbols * sheet->copies * sheet->sizes.group;
+    sheet->sizes.slot_bytes = (size_t)((sheet->sizes.slots + 7) / 8);
+}
+
+size_t slots_limit(const struct sheet *sheet) {
+    return sheet->sizes.slot_bytes < SLOTS_LIMIT ? SLOTS_LIMIT : sheet->sizes.slot_bytes + 1;
 }
 
 void print_sheet(FILE *to, const struct sheet *sheet, unsigned number) {

@@ -13,10 +13,18 @@
 struct sheet {
     struct mahyrei_fields fields;
     struct mahyrei_sizes sizes;
+    uint64_t copies; /* how often each symbol is sent */
 };
 
-/* Fills in the sheet by the plain functions: 0, or a number from 1 to 7. */
+/* Fills in the sheet by the plain functions: 0, or a number from 1 to 7. Symbols are sent once. */
 unsigned sheet_of(const struct bytes *header, struct sheet *sheet);
+
+/* The sheet of the same run with so many copies. */
+void sheet_repeat(struct sheet *sheet, uint64_t copies);
+
+/* How much is read of slots: one byte more than such a run has, and never less than one copy of any
+ * run could have. */
+size_t slots_limit(const struct sheet *sheet);
 
 /* The sheet for this number: as the line that runsheet prints; a line for each field and size; as
  * JSON. */

@@ -8,14 +8,17 @@
  * with one bit of a block.
  *
  * A run is a set of transfer frames turned into slots: frame markers, blocks, their words, PPM
- * symbols, channel interleaver, codeblock markers, slots with guard slots. run_write makes the
- * slots of the frames; run_read accepts slots only if some frames make them, and gives those
- * frames back. In a capture that begins on any slot, run_find finds the first marker, and run_cut
- * packs the run that begins there anew, so that run_read can read it.
+ * symbols, channel interleaver, codeblock markers, slots with guard slots. Each symbol is sent
+ * once, or on a faint link up to 32 times in a row. run_write makes the slots of the frames;
+ * run_read pools the copies of each symbol, accepts slots only if the pooled symbols are those of
+ * some frames, and gives those frames back. Where each symbol is sent once, that is only if some
+ * frames make the slots, bit for bit. In a capture that begins on any slot, run_find finds the
+ * first marker, and run_cut packs the run that begins there anew, so that run_read can read it;
+ * both are for symbols that are sent once.
  *
  * The uplink is apart from these: command frames of 64 bits, each a codeblock of 512 slots.
  * uplink_write makes the slots of the frames; uplink_read accepts slots only if some frames make
- * them, and gives those frames back. No call corrects anything.
+ * them, and gives those frames back. But for pooling, no call corrects anything.
  *
  * Link with libmahyrei.a (-lmahyrei), which needs nothing but memcpy and memset. All calls
  *   - are total: every number, every length and every content of the slices gets an answer;
@@ -79,21 +82,25 @@ extern "C" {
  *      7  A, the frames of the run, 1 to 64
  *     16  zero
  *
- * The marker is lent beside the header: W symbols, one byte each, each below M.
+ * The marker is lent beside the header: W symbols, one byte each, each below M. So is the factor:
+ * how many copies of each symbol, markers and guard slots included, are sent in a row, 1, 2, 3, 4,
+ * 8, 16 or 32.
  *
  * What follows from a header, with k the information bits of a block and M/4 guard slots after
  * each symbol:
  *   blocks and words   C = A * (8 * F + 32) / k, rounded up
  *   symbols, markers counted
  *                      (C + N * (N - 1) * B / S) * (S + W)
- *   slots              symbols * (M + M / 4), at most 1,457,029,760
+ *   slots              symbols * copies * (M + M / 4), at most 1,457,029,760 for one copy and
+ *                      46,624,952,320 for 32
  *   slot bytes         slots / 8, rounded up; spare bits at the end are zero
  *   frame bytes        A * F, at most 131,072
  */
 #define MAHYREI_HEADER_BYTES 8
 #define MAHYREI_MARKER_MAX 32
+#define MAHYREI_COPIES_MAX 32
 #define MAHYREI_FRAMES_BYTES_MAX 131072
-#define MAHYREI_SLOTS_BYTES_MAX 182128720
+#define MAHYREI_SLOTS_BYTES_MAX UINT64_C(5828119040)
 
 /* The most bytes of a capture that is searched: each of its bits is a slot, and the place of a slot
  * has room in an answer. */
@@ -101,9 +108,9 @@ extern "C" {
 
 /*
  * The number in an answer: 0, or the number of the first question whose answer is no. The
- * questions are put in the order of their numbers, but that 19 and 27 come after 8, and 28 and 29
- * after 9; a call skips those it has no input for. 9 to 19, 28 and 29 are about the contents of
- * what is read.
+ * questions are put in the order of their numbers, but that 20 comes after 7, 19 and 27 after 8,
+ * and 28 and 29 after 9; a call skips those it has no input for. 9 to 19, 28 and 29 are about the
+ * contents of what is read.
  */
 enum mahyrei_number {
     /* Accepted: every byte of the written slice has been set. run_find writes nothing: its place is
@@ -126,18 +133,20 @@ enum mahyrei_number {
     /* Run calls: W is not 1 to 32, or one of the lent marker symbols, up to the W-th, is M or
      * more. */
     MAHYREI_BAD_MARKER = 7,
-    /* A slice has another length than the rate or the header implies. Passes: the slices do not
-     * hold n whole blocks and n words, with n from 1 to MAHYREI_PASS_MAX. Captures: there are more
-     * than MAHYREI_CAPTURE_BYTES_MAX bytes, or in run_cut the run does not end within them. Uplink:
-     * the slices do not hold n whole frames and n codeblocks, with n from 1 to
-     * MAHYREI_UPLINK_MAX. */
+    /* A slice has another length than the rate or the header implies, the factor included. Passes:
+     * the slices do not hold n whole blocks and n words, with n from 1 to MAHYREI_PASS_MAX.
+     * Captures: there are more than MAHYREI_CAPTURE_BYTES_MAX bytes, or in run_cut the run does not
+     * end within them. Uplink: the slices do not hold n whole frames and n codeblocks, with n from
+     * 1 to MAHYREI_UPLINK_MAX. */
     MAHYREI_BAD_LENGTH = 8,
 
     /* run_read: a spare bit of the last slot byte is set; there are such bits only where m is 2, 3
      * or 4. */
     MAHYREI_BAD_SPARE = 9,
-    /* run_read: the slots of a symbol do not hold exactly one pulse among the first M, and none in
-     * the guard slots. The place is the symbol, markers counted, as it is for 11 and 12. */
+    /* run_read: pulses are counted for each slot of a symbol, guard slots too, over all its copies,
+     * and no slot among the first M has more of them than every other slot. For one copy: its slots
+     * do not hold exactly one pulse among the first M, and none in the guard slots. The place is
+     * the symbol, markers counted and copies not, as it is for 11 and 12. */
     MAHYREI_BAD_PULSE = 10,
     /* run_read: a marker symbol is not the one lent. */
     MAHYREI_WRONG_MARKER = 11,
@@ -166,6 +175,9 @@ enum mahyrei_number {
 
     /* run_find: at no slot of the capture a whole marker begins. */
     MAHYREI_NO_MARKER = 19,
+
+    /* run_write and run_read: the factor is not 1, 2, 3, 4, 8, 16 or 32. */
+    MAHYREI_BAD_COPIES = 20,
 
     /* bit_spread: a block has no bit of this number: it has 5006, 7526 or 10046, counted from 0,
      * and the two spare bits do not count. */
@@ -264,12 +276,13 @@ uint64_t bit_spread(uint64_t rate, uint64_t bit, uint8_t *places, size_t places_
  * run_write: makes the slots of a run.
  *
  * Reads   header, MAHYREI_HEADER_BYTES bytes; marker, W bytes; frames, A * F bytes, the frames
- *         back to back without their markers.
+ *         back to back without their markers. copies is the factor.
  * Writes  slots, the slot bytes that the header implies, all of them, whatever they held; none on
  *         refusal.
- * Returns 0 on acceptance; otherwise a number from 1 to 8, place 0 (so the answer is the number).
+ * Returns 0 on acceptance; otherwise a number from 1 to 8, or 20, place 0 (so the answer is the
+ *         number).
  */
-uint64_t run_write(const uint8_t *header, size_t header_len, const uint8_t *marker,
+uint64_t run_write(uint64_t copies, const uint8_t *header, size_t header_len, const uint8_t *marker,
                    size_t marker_len, const uint8_t *frames, size_t frames_len, uint8_t *slots,
                    size_t slots_len);
 
@@ -277,14 +290,15 @@ uint64_t run_write(const uint8_t *header, size_t header_len, const uint8_t *mark
  * run_read: gives back the frames that make a run.
  *
  * Reads   header, MAHYREI_HEADER_BYTES bytes; marker, W bytes; slots, the slot bytes that the
- *         header implies.
+ *         header implies. copies is the factor.
  * Writes  frames, A * F bytes, all of them, whatever they held, and only when the whole run has
  *         been judged; none on refusal.
- * Returns 0 on acceptance: run_write with the same header and marker makes these slots of these
- *         frames and of no others. Otherwise place * 256 + number, with a number from 1 to 16, or
- *         18; 10 to 16 have a place. Take it apart by answer_number and answer_place.
+ * Returns 0 on acceptance: the pooled symbols are those that run_write sends for these frames, with
+ *         the same header and marker, and for no others; where copies is 1, run_write makes these
+ *         slots of these frames. Otherwise place * 256 + number, with a number from 1 to 16, or 18
+ *         or 20; 10 to 16 have a place. Take it apart by answer_number and answer_place.
  */
-uint64_t run_read(const uint8_t *header, size_t header_len, const uint8_t *marker,
+uint64_t run_read(uint64_t copies, const uint8_t *header, size_t header_len, const uint8_t *marker,
                   size_t marker_len, const uint8_t *slots, size_t slots_len, uint8_t *frames,
                   size_t frames_len);
 

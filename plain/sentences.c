@@ -21,8 +21,10 @@ static const char *const SENTENCES[] = {
                            "most 2^53 bytes, and run_cut needs the whole run in it; an uplink has "
                            "1 to 64 frames, whole, and as many codeblocks.",
     [MAHYREI_BAD_SPARE] = "A spare bit behind the last slot is set.",
-    [MAHYREI_BAD_PULSE] = "A symbol's slots do not hold exactly one pulse, or it stands in a guard "
-                          "slot; the place is that symbol, markers counted.",
+    [MAHYREI_BAD_PULSE] =
+        "A symbol cannot be told: over all its copies, no data slot has more "
+        "pulses than every other slot (sent once: exactly one pulse, in a data "
+        "slot, is wanted); the place is that symbol, markers counted, copies not.",
     [MAHYREI_WRONG_MARKER] = "A marker symbol is not the one that was lent; the place is that "
                              "symbol, markers counted.",
     [MAHYREI_BAD_IDLE] = "A symbol that must be 0, since the channel interleaver puts nothing "
@@ -39,6 +41,8 @@ static const char *const SENTENCES[] = {
     [MAHYREI_BAD_FILL] = "A fill bit behind the last frame is set; the run may hold more than the "
                          "header says.",
     [MAHYREI_NO_MARKER] = "No slot of the capture begins a whole marker.",
+    [MAHYREI_BAD_COPIES] = "There is no such factor; each symbol is sent 1, 2, 3, 4, 8, 16 or 32 "
+                           "times.",
     [MAHYREI_BAD_BIT] = "There is no such block bit; a block has 5006, 7526 or 10046.",
     [MAHYREI_BAD_GROUP] = "Four slots are no bit: they do not hold exactly one pulse, or it stands "
                           "in a guard slot; the place is the group.",

@@ -50,12 +50,13 @@ __all__ = [
 ]
 
 # `make install` puts the whole path here.
-_LIBRARY = "libmahyrei.so.1"
+_LIBRARY = "libmahyrei.so.2"
 
 _HEADER_BYTES = 8
 _WORD_BYTES = 1890
 _BLOCK_BYTES = (626, 941, 1256)  # by rate
 _PASS_MOST = 211
+_COPIES_MOST = 32
 _UPLINK_FRAME_BYTES = 8
 _UPLINK_CODEBLOCK_BYTES = 64
 _UPLINK_MOST = 64
@@ -125,8 +126,8 @@ def _load():
         ("pass_write", u64, [u64] + given + room),
         ("pass_read", u64, [u64] + given + room),
         ("bit_spread", u64, [u64, u64] + room),
-        ("run_write", u64, given * 3 + room),
-        ("run_read", u64, given * 3 + room),
+        ("run_write", u64, [u64] + given * 3 + room),
+        ("run_read", u64, [u64] + given * 3 + room),
         ("run_find", u64, given * 3),
         ("run_cut", u64, given * 2 + [u64] + room),
         ("uplink_write", u64, given + room),
@@ -246,18 +247,24 @@ def bit_spread(rate, bit):
     return _written(lambda *room: _library.bit_spread(rate, bit, *room), [], _WORD_BYTES)
 
 
-def run_write(header, marker, frames):
-    """The slots of a run: header of eight bytes, marker of W, frames of A times F. Refused with a
-    number from 1 to 8."""
-    slices = [_bytes(header), _bytes(marker), _bytes(frames)]
-    return _written(_library.run_write, slices, _lengths(slices[0]).slot_bytes)
+def run_write(header, marker, frames, copies=1):
+    """The slots of a run: header of eight bytes, marker of W, frames of A times F, each symbol sent
+    1, 2, 3, 4, 8, 16 or 32 times in a row. Refused with a number from 1 to 8, or 20."""
+    slices, copies = [_bytes(header), _bytes(marker), _bytes(frames)], _number(copies)
+    slots = _lengths(slices[0]).slots * min(copies, _COPIES_MOST)
+    return _written(
+        lambda *rest: _library.run_write(copies, *rest), slices, (slots + 7) // 8
+    )
 
 
-def run_read(header, marker, slots):
-    """The frames that make these slots under this header and marker, and no others do. Refused
-    with a number from 1 to 16, or 18. Nothing is corrected."""
-    slices = [_bytes(header), _bytes(marker), _bytes(slots)]
-    return _written(_library.run_read, slices, _lengths(slices[0]).frame_bytes)
+def run_read(header, marker, slots, copies=1):
+    """The frames of these slots under this header and marker: those for which run_write sends the
+    symbols that the copies tell, pooled, and no others. Refused with a number from 1 to 16, or 18
+    or 20. With one copy nothing is corrected."""
+    slices, copies = [_bytes(header), _bytes(marker), _bytes(slots)], _number(copies)
+    return _written(
+        lambda *rest: _library.run_read(copies, *rest), slices, _lengths(slices[0]).frame_bytes
+    )
 
 
 def run_find(header, marker, capture):

@@ -179,7 +179,7 @@ static void test_short(void) {
         {{0xF2, 0xFF}, 2, 19}, /* the guard slot has one of them */
         {{0xFA, 0x7F}, 2, 19},
     };
-    const struct run run = {0, 2, 1, 1, 40, 1, 2};
+    const struct run run = {0, 2, 1, 1, 40, 1, 2, 1};
     const uint8_t marker[] = {2};
     for (size_t i = 0; i < sizeof CASES / sizeof CASES[0]; i++) {
         CHECK(search(&run, marker, CASES[i].capture, CASES[i].len) == CASES[i].answer);
@@ -234,7 +234,7 @@ static void test_all_orders(void) {
     uint8_t marker[MAHYREI_MARKER_MAX];
     for (uint64_t m = 2; m <= 8; m++) {
         for (size_t i = 0; i < sizeof LENGTHS / sizeof LENGTHS[0]; i++) {
-            const struct run run = {1, m, 1, 1, 100, LENGTHS[i], 1};
+            const struct run run = {1, m, 1, 1, 100, LENGTHS[i], 1, 1};
             for (size_t at = 0; at < 20; at += 1 + (size_t)random_number() % 3) {
                 for (size_t s = 0; s < run.W; s++) {
                     const size_t M = pulse_order(&run);
@@ -250,7 +250,7 @@ static void test_all_orders(void) {
 
 /* The longest marker, which is the whole capture: 1,280 bytes. */
 static void test_whole_capture(void) {
-    const struct run run = {0, 8, 1, 1, 40, 32, 1};
+    const struct run run = {0, 8, 1, 1, 40, 32, 1, 1};
     uint8_t marker[32];
     for (size_t i = 0; i < 32; i++) {
         marker[i] = (uint8_t)(255 - 8 * i);
@@ -266,7 +266,7 @@ static void test_whole_capture(void) {
 
 /* Many that look like the marker for long: symbols 0 again and again, and at last a 1. */
 static void test_worst(void) {
-    const struct run run = {0, 4, 1, 1, 40, 32, 1};
+    const struct run run = {0, 4, 1, 1, 40, 32, 1, 1};
     const uint8_t zeros[32] = {0};
     uint8_t marker[32] = {0};
     marker[31] = 1;
@@ -284,7 +284,7 @@ static void test_worst(void) {
 /* A place above 2 to the power 32, in a capture of which all but the end is empty pages. */
 static void test_far(void) {
     static const size_t LEN = (UINT64_C(1) << 29) + PAGE;
-    const struct run run = {0, 2, 1, 1, 40, 2, 1};
+    const struct run run = {0, 2, 1, 1, 40, 2, 1, 1};
     const uint64_t slot = (UINT64_C(1) << 32) + 12345;
     const uint8_t marker[] = {0, 3};
     uint8_t header[MAHYREI_HEADER_BYTES];
@@ -314,19 +314,19 @@ static uint8_t frames[2048];
 
 /* Rate 1/2, m 4, one frame of 223 bytes, one marker symbol: 75,620 slots, 9,453 bytes, four spare
  * bits. */
-static const struct run ONE_WORD = {1, 4, 1, 1, 223, 1, 1};
+static const struct run ONE_WORD = {1, 4, 1, 1, 223, 1, 1, 1};
 /* m 2: no spare bits; m 8. */
-static const struct run RUNS[] = {{1, 4, 1, 1, 223, 1, 1},
-                                  {0, 2, 1, 9, 200, 2, 1},
-                                  {2, 8, 1, 1, 900, 3, 1},
-                                  {1, 3, 1, 1, 100, 5, 2},
-                                  {0, 6, 1, 1, 300, 32, 1}};
+static const struct run RUNS[] = {{1, 4, 1, 1, 223, 1, 1, 1},
+                                  {0, 2, 1, 9, 200, 2, 1, 1},
+                                  {2, 8, 1, 1, 900, 3, 1, 1},
+                                  {1, 3, 1, 1, 100, 5, 2, 1},
+                                  {0, 6, 1, 1, 300, 32, 1, 1}};
 
 static void write_run(const struct run *run, const uint8_t *marker) {
     uint8_t header[MAHYREI_HEADER_BYTES];
     pack_header(run, header);
     fill_random(frames, frame_bytes(run));
-    CHECK(run_write(header, sizeof header, marker, run->W, frames, frame_bytes(run), slots,
+    CHECK(run_write(1, header, sizeof header, marker, run->W, frames, frame_bytes(run), slots,
                     slot_bytes(run)) == MAHYREI_ACCEPTED);
 }
 
@@ -362,7 +362,7 @@ static void test_run_at(const struct run *run, const uint8_t *marker, size_t at,
     CHECK(around == ANYTHING || answer == at_slot(at));
     CHECK(cut(header, sizeof header, capture, len, at, bytes) == MAHYREI_ACCEPTED);
     CHECK(memcmp(lent_slots.slice, slots, bytes) == 0);
-    CHECK(run_read(header, sizeof header, marker, run->W, lent_slots.slice, bytes, back,
+    CHECK(run_read(1, header, sizeof header, marker, run->W, lent_slots.slice, bytes, back,
                    frame_bytes(run)) == MAHYREI_ACCEPTED);
     CHECK(memcmp(back, frames, frame_bytes(run)) == 0);
     /* the capture ends where the run does, or earlier */
@@ -465,11 +465,11 @@ static void test_refused_headers(void) {
         struct run run;
         unsigned number;
     } WRONG[] = {
-        {{3, 15, 0, 0, 0, 0, 0}, 2},      {{0, 1, 0, 0, 0, 0, 0}, 3},
-        {{0, 9, 0, 0, 0, 0, 0}, 3},       {{0, 2, 0, 1, 0, 0, 0}, 4},
-        {{0, 2, 1, 257, 0, 0, 0}, 4},     {{0, 8, 10, 20, 0, 0, 0}, 5},
-        {{0, 8, 10, 21, 0, 0, 1}, 6},     {{0, 8, 10, 21, 2048, 0, 65}, 6},
-        {{0, 8, 10, 21, 2048, 0, 64}, 7}, {{0, 8, 10, 21, 2048, 33, 64}, 7},
+        {{3, 15, 0, 0, 0, 0, 0, 1}, 2},      {{0, 1, 0, 0, 0, 0, 0, 1}, 3},
+        {{0, 9, 0, 0, 0, 0, 0, 1}, 3},       {{0, 2, 0, 1, 0, 0, 0, 1}, 4},
+        {{0, 2, 1, 257, 0, 0, 0, 1}, 4},     {{0, 8, 10, 20, 0, 0, 0, 1}, 5},
+        {{0, 8, 10, 21, 0, 0, 1, 1}, 6},     {{0, 8, 10, 21, 2048, 0, 65, 1}, 6},
+        {{0, 8, 10, 21, 2048, 0, 64, 1}, 7}, {{0, 8, 10, 21, 2048, 33, 64, 1}, 7},
     };
     uint8_t header[MAHYREI_HEADER_BYTES + 1] = {0};
     const uint8_t marker[33] = {0};
@@ -506,7 +506,7 @@ static void test_refused_headers(void) {
 
 /* 7 for the symbols up to the W-th, then 8 for their number, then 19. run_cut is lent none. */
 static void test_refused_markers(void) {
-    const struct run run = {0, 3, 1, 1, 10, 4, 1};
+    const struct run run = {0, 3, 1, 1, 10, 4, 1, 1};
     static const struct {
         uint8_t marker[6];
         size_t len;

@@ -42,7 +42,7 @@ static void pack(const struct mahyrei_fields *f, uint8_t header[MAHYREI_HEADER_B
 
 /* The proved number of a header alone: with nothing else lent, a good one gets 8. */
 static unsigned proved(const uint8_t *header, size_t len) {
-    const unsigned number = answer_number(run_write(header, len, NULL, 0, NULL, 0, NULL, 0));
+    const unsigned number = answer_number(run_write(1, header, len, NULL, 0, NULL, 0, NULL, 0));
     return number == MAHYREI_BAD_LENGTH ? MAHYREI_ACCEPTED : number;
 }
 
@@ -101,7 +101,7 @@ static void try_sizes(const uint8_t header[MAHYREI_HEADER_BYTES]) {
     if (marker == NULL || frames == NULL || slots == NULL) {
         exit(2);
     }
-    check(run_write(header, MAHYREI_HEADER_BYTES, marker, sizes.marker_bytes, frames,
+    check(run_write(1, header, MAHYREI_HEADER_BYTES, marker, sizes.marker_bytes, frames,
                     sizes.frame_bytes, slots, sizes.slot_bytes) == MAHYREI_ACCEPTED,
           "a run of these sizes", header);
     free(marker);
@@ -135,7 +135,7 @@ static void try_names(void) {
     check(mahyrei_fields_check(&fields, &wrong) == MAHYREI_BAD_FIT && strcmp(wrong, "N and B") == 0,
           "fields that do not fit", NULL);
     for (unsigned number = 0; number < 256; number++) {
-        const bool given = (number <= 19 && number != 17) || (number >= 27 && number <= 29);
+        const bool given = (number <= 20 && number != 17) || (number >= 27 && number <= 29);
         check((mahyrei_sentence(number) != NULL) == given, "sentences", NULL);
     }
     check(mahyrei_sentence(256) == NULL && mahyrei_sentence(UINT32_MAX) == NULL, "sentences", NULL);

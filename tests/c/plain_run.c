@@ -13,7 +13,7 @@ static const uint8_t FRAME_MARKER[] = {0x1A, 0xCF, 0xFC, 0x1D};
 enum { MARKER_BITS = 8 * sizeof FRAME_MARKER };
 
 struct run {
-    size_t rate, m, N, B, F, W, A;
+    size_t rate, m, N, B, F, W, A, copies;
     size_t M, S, k, C, places, symbols, group, slots, slot_bytes;
 };
 
@@ -41,8 +41,13 @@ static uint8_t *zeros(size_t count) {
     return bytes;
 }
 
-/* Questions 1 to 7, and what follows from the header. */
-static unsigned ask_header(struct run *r, const uint8_t *header, size_t header_len,
+static int is_factor(uint64_t copies) {
+    return copies >= 1 && copies <= MAHYREI_COPIES_MAX &&
+           (copies == 3 || (copies & (copies - 1)) == 0);
+}
+
+/* Questions 1 to 7, and 20, and what follows from the header. */
+static unsigned ask_header(struct run *r, uint64_t copies, const uint8_t *header, size_t header_len,
                            const uint8_t *marker, size_t marker_len) {
     if (header_len != MAHYREI_HEADER_BYTES || header[6] != 0 || header[7] != 0) {
         return 1;
@@ -80,20 +85,24 @@ static unsigned ask_header(struct run *r, const uint8_t *header, size_t header_l
             return 7;
         }
     }
+    if (!is_factor(copies)) {
+        return 20;
+    }
+    r->copies = copies;
     r->k = word_block_bytes(r->rate) * 8 - 2;
     r->C = (r->A * (8 * r->F + MARKER_BITS) + r->k - 1) / r->k;
     r->places = r->C * r->S + unhit;
     r->symbols = r->places / r->S * (r->S + r->W);
     r->group = r->M + r->M / 4;
-    r->slots = r->symbols * r->group;
+    r->slots = r->symbols * r->copies * r->group;
     r->slot_bytes = (r->slots + 7) / 8;
     return 0;
 }
 
-/* Questions 1 to 8 of run_write and run_read. */
-static unsigned ask(struct run *r, const uint8_t *header, size_t header_len, const uint8_t *marker,
-                    size_t marker_len, size_t frames_len, size_t slots_len) {
-    const unsigned number = ask_header(r, header, header_len, marker, marker_len);
+/* Questions 1 to 7, 20 and 8 of run_write and run_read. */
+static unsigned ask(struct run *r, uint64_t copies, const uint8_t *header, size_t header_len,
+                    const uint8_t *marker, size_t marker_len, size_t frames_len, size_t slots_len) {
+    const unsigned number = ask_header(r, copies, header, header_len, marker, marker_len);
     if (number != 0) {
         return number;
     }
@@ -116,11 +125,12 @@ static size_t stand(const struct run *r, size_t t) {
     return p / r->S * (r->S + r->W) + r->W + p % r->S;
 }
 
-uint64_t run_write(const uint8_t *header, size_t header_len, const uint8_t *marker,
+uint64_t run_write(uint64_t copies, const uint8_t *header, size_t header_len, const uint8_t *marker,
                    size_t marker_len, const uint8_t *frames, size_t frames_len, uint8_t *slots,
                    size_t slots_len) {
     struct run r;
-    const unsigned number = ask(&r, header, header_len, marker, marker_len, frames_len, slots_len);
+    const unsigned number =
+        ask(&r, copies, header, header_len, marker, marker_len, frames_len, slots_len);
     if (number != 0) {
         return number;
     }
@@ -143,11 +153,39 @@ uint64_t run_write(const uint8_t *header, size_t header_len, const uint8_t *mark
         }
     }
     memset(slots, 0, slots_len);
-    for (size_t i = 0; i < r.symbols; i++) {
-        put_bit(slots, i * r.group + symbols[i]);
+    for (size_t i = 0; i < r.symbols * r.copies; i++) { /* copy i % copies of a symbol */
+        put_bit(slots, i * r.group + symbols[i / r.copies]);
     }
     free(symbols);
     return 0;
+}
+
+/* The pulses in each slot of a symbol, over its copies; most bytes hold none. */
+static void count_pulses(const struct run *r, const uint8_t *slots, size_t symbol,
+                         unsigned *counts) {
+    const size_t from = symbol * r->copies * r->group, end = from + r->copies * r->group;
+    memset(counts, 0, r->group * sizeof *counts);
+    for (size_t x = from; x < end; x++) {
+        if (x % 8 == 0 && slots[x / 8] == 0) {
+            x += 7;
+        } else {
+            counts[(x - from) % r->group] += (unsigned)get_bit(slots, x);
+        }
+    }
+}
+
+/* The slot that has more pulses than every other; the number of slots where none has. */
+static size_t leader(const unsigned *counts, size_t group) {
+    size_t first = 0;
+    for (size_t x = 1; x < group; x++) {
+        first = counts[x] > counts[first] ? x : first;
+    }
+    for (size_t x = 0; x < group; x++) {
+        if (x != first && counts[x] == counts[first]) {
+            return group;
+        }
+    }
+    return first;
 }
 
 /* Questions 9 and 10, and the symbols. */
@@ -158,17 +196,13 @@ static uint64_t read_slots(const struct run *r, const uint8_t *slots, uint8_t *s
         }
     }
     for (size_t i = 0; i < r->symbols; i++) {
-        size_t pulses = 0, pulse = 0;
-        for (size_t x = 0; x < r->group; x++) {
-            if (get_bit(slots, i * r->group + x)) {
-                pulses++;
-                pulse = x;
-            }
-        }
-        if (pulses != 1 || pulse >= r->M) {
+        unsigned counts[320];
+        count_pulses(r, slots, i, counts);
+        const size_t symbol = leader(counts, r->group);
+        if (symbol >= r->M) {
             return i * 256 + 10;
         }
-        symbols[i] = (uint8_t)pulse;
+        symbols[i] = (uint8_t)symbol;
     }
     return 0;
 }
@@ -235,11 +269,12 @@ static uint64_t read_stream(const struct run *r, const uint8_t *stream, uint8_t 
     return 0;
 }
 
-uint64_t run_read(const uint8_t *header, size_t header_len, const uint8_t *marker,
+uint64_t run_read(uint64_t copies, const uint8_t *header, size_t header_len, const uint8_t *marker,
                   size_t marker_len, const uint8_t *slots, size_t slots_len, uint8_t *frames,
                   size_t frames_len) {
     struct run r;
-    const unsigned number = ask(&r, header, header_len, marker, marker_len, frames_len, slots_len);
+    const unsigned number =
+        ask(&r, copies, header, header_len, marker, marker_len, frames_len, slots_len);
     if (number != 0) {
         return number;
     }
@@ -266,7 +301,7 @@ static int marker_at(const struct run *r, const uint8_t *marker, const uint8_t *
 uint64_t run_find(const uint8_t *header, size_t header_len, const uint8_t *marker,
                   size_t marker_len, const uint8_t *capture, size_t capture_len) {
     struct run r;
-    const unsigned number = ask_header(&r, header, header_len, marker, marker_len);
+    const unsigned number = ask_header(&r, 1, header, header_len, marker, marker_len);
     if (number != 0) {
         return number;
     }
@@ -284,7 +319,7 @@ uint64_t run_find(const uint8_t *header, size_t header_len, const uint8_t *marke
 uint64_t run_cut(const uint8_t *header, size_t header_len, const uint8_t *capture,
                  size_t capture_len, uint64_t slot, uint8_t *slots, size_t slots_len) {
     struct run r;
-    const unsigned number = ask_header(&r, header, header_len, NULL, 0);
+    const unsigned number = ask_header(&r, 1, header, header_len, NULL, 0);
     if (number != 0) {
         return number;
     }

@@ -1,6 +1,6 @@
 /*
  * Test of the two run calls from C: known answers, runs beside the words that word_write makes,
- * damaged runs, and refusals of every number with the lent bytes unchanged.
+ * damaged runs, copies that are pooled, and refusals of every number with the lent bytes unchanged.
  *
  * The sanitizers watch this program but not the library, which is not built with them. So each
  * slice is lent from pages of its own: it ends where a page begins that may not be touched, the
@@ -65,6 +65,7 @@ struct lent {
 };
 
 static struct lent lent_header, lent_marker, lent_frames, lent_slots;
+static uint64_t lent_copies;
 
 static void map_area(struct lent *lent) {
     lent->area =
@@ -82,19 +83,25 @@ static void protect(const struct lent *lent, int protection) {
     }
 }
 
-/* A slice of random bytes, with random bytes before it. */
-static void lend(struct lent *lent, size_t len) {
+/* A slice, with random bytes before it. */
+static void lend_room(struct lent *lent, size_t len) {
     if (len + MARGIN > AREA) {
         fprintf(stderr, "run_calls.c: %zu bytes are too many to lend\n", len);
         exit(1);
     }
     lent->slice = lent->area + AREA - len;
     lent->len = len;
-    fill_random(lent->slice - MARGIN, len + MARGIN);
+    fill_random(lent->slice - MARGIN, MARGIN);
+}
+
+/* A slice of random bytes. */
+static void lend(struct lent *lent, size_t len) {
+    lend_room(lent, len);
+    fill_random(lent->slice, len);
 }
 
 static void lend_copy(struct lent *lent, const uint8_t *bytes, size_t len) {
-    lend(lent, len);
+    lend_room(lent, len);
     if (len > 0) {
         memcpy(lent->slice, bytes, len);
     }
@@ -127,11 +134,12 @@ static uint64_t call(bool write) {
         protect(read[i], PROT_READ);
     }
     remember(to);
-    const uint64_t answer =
-        write ? run_write(lent_header.slice, lent_header.len, lent_marker.slice, lent_marker.len,
-                          lent_frames.slice, lent_frames.len, lent_slots.slice, lent_slots.len)
-              : run_read(lent_header.slice, lent_header.len, lent_marker.slice, lent_marker.len,
-                         lent_slots.slice, lent_slots.len, lent_frames.slice, lent_frames.len);
+    const uint64_t answer = write ? run_write(lent_copies, lent_header.slice, lent_header.len,
+                                              lent_marker.slice, lent_marker.len, lent_frames.slice,
+                                              lent_frames.len, lent_slots.slice, lent_slots.len)
+                                  : run_read(lent_copies, lent_header.slice, lent_header.len,
+                                             lent_marker.slice, lent_marker.len, lent_slots.slice,
+                                             lent_slots.len, lent_frames.slice, lent_frames.len);
     for (size_t i = 0; i < 3; i++) {
         protect(read[i], PROT_READ | PROT_WRITE);
         CHECK(unchanged(read[i], read[i]->len + MARGIN));
@@ -143,23 +151,31 @@ static uint64_t call(bool write) {
 
 /* ---- runs */
 
-/* The smallest runs with rows, one for each m, then runs with N = 1; the last has no fill bits. The
- * hash is that of the slots for the frames and the marker below, made alike by two programs with no
- * common code, tests/second/run.rs and tests/c/plain_run.c. */
+/* The smallest runs with rows, one for each m, then runs with N = 1, one of which has no fill bits;
+ * then runs of several copies. The hash is that of the slots for the frames and the marker below,
+ * made alike by two programs with no common code, tests/second/run.rs and tests/c/plain_run.c. */
 static const struct {
     struct run run;
     uint64_t fnv1a;
 } RUNS[] = {
-    {{0, 2, 6, 252, 300, 4, 2}, 0xDA2E8AB5572D7ED0},
-    {{1, 3, 5, 252, 500, 1, 3}, 0x824E77D7C50BF292},
-    {{2, 4, 5, 189, 2048, 32, 1}, 0x0F2DB8C95DF6FB12},
-    {{0, 5, 4, 252, 1, 7, 64}, 0xC14B564606A97BEC},
-    {{1, 6, 4, 210, 223, 16, 2}, 0x491AAC9BEC764952},
-    {{2, 7, 4, 180, 1000, 3, 3}, 0x062FEDCA568D620A},
-    {{0, 8, 6, 63, 1024, 2, 1}, 0xC484DF7237E699B4},
-    {{1, 8, 1, 256, 800, 5, 1}, 0xEB30B871FF0D46EA},
-    {{2, 3, 1, 9, 700, 2, 2}, 0x74619A6934328A3A},
-    {{1, 4, 1, 1, 67, 6, 53}, 0x5546D5C28A19C7DA},
+    {{0, 2, 6, 252, 300, 4, 2, 1}, 0xDA2E8AB5572D7ED0},
+    {{1, 3, 5, 252, 500, 1, 3, 1}, 0x824E77D7C50BF292},
+    {{2, 4, 5, 189, 2048, 32, 1, 1}, 0x0F2DB8C95DF6FB12},
+    {{0, 5, 4, 252, 1, 7, 64, 1}, 0xC14B564606A97BEC},
+    {{1, 6, 4, 210, 223, 16, 2, 1}, 0x491AAC9BEC764952},
+    {{2, 7, 4, 180, 1000, 3, 3, 1}, 0x062FEDCA568D620A},
+    {{0, 8, 6, 63, 1024, 2, 1, 1}, 0xC484DF7237E699B4},
+    {{1, 8, 1, 256, 800, 5, 1, 1}, 0xEB30B871FF0D46EA},
+    {{2, 3, 1, 9, 700, 2, 2, 1}, 0x74619A6934328A3A},
+    {{1, 4, 1, 1, 67, 6, 53, 1}, 0x5546D5C28A19C7DA},
+    {{1, 2, 6, 252, 223, 2, 3, 3}, 0x02CDCE83A7BB17A2},
+    {{0, 3, 5, 252, 100, 1, 2, 2}, 0x8C40F422E3C0A92C},
+    {{2, 4, 1, 1, 300, 3, 4, 8}, 0x617B17C2A34F6E9D},
+    {{1, 5, 4, 252, 40, 2, 5, 3}, 0xE58BABCB0CE1981C},
+    {{2, 6, 1, 9, 1200, 1, 1, 4}, 0x5CC177E41B78D2B5},
+    {{0, 7, 1, 1, 500, 4, 1, 2}, 0xFFEDBA38DCBEE085},
+    {{1, 2, 1, 1, 67, 6, 2, 16}, 0xFFF54E468AA5B681},
+    {{1, 3, 1, 7, 900, 32, 1, 32}, 0xB304924FB590185D},
 };
 enum { RUN_COUNT = sizeof RUNS / sizeof RUNS[0] };
 
@@ -189,6 +205,7 @@ static void lend_header(const struct run *run) {
     sample_marker(run, marker);
     lend_copy(&lent_header, header, sizeof header);
     lend_copy(&lent_marker, marker, run->W);
+    lent_copies = run->copies;
 }
 
 static void write_run(const struct run *run, const uint8_t *frames, uint8_t *slots) {
@@ -286,7 +303,9 @@ static void make_symbols(const struct run *run) {
 static void make_slots(const struct run *run, uint8_t *to) {
     memset(to, 0, slot_bytes(run));
     for (size_t i = 0; i < symbol_count(run); i++) {
-        flip(to, i * group_slots(run) + symbols[i]);
+        for (size_t copy = 0; copy < run->copies; copy++) {
+            flip(to, copy_start(run, i, copy) + symbols[i]);
+        }
     }
 }
 
@@ -305,7 +324,7 @@ static void test_known_runs(void) {
 /* Sizes that the specification states for its example. */
 static void test_example_sizes(void) {
     static const uint8_t EXAMPLE[] = {0x59, 0x50, 0xF0, 0x1B, 0xE8, 0x02, 0x00, 0x00};
-    const struct run run = {1, 6, 84, 120, 223, 16, 2};
+    const struct run run = {1, 6, 84, 120, 223, 16, 2, 1};
     uint8_t header[MAHYREI_HEADER_BYTES];
     pack_header(&run, header);
     CHECK(memcmp(header, EXAMPLE, sizeof header) == 0);
@@ -349,16 +368,16 @@ static void test_sequence(uint64_t rate) {
 
 /* The draft book's symbol example: bits 1101 0101 are the symbols 13 and 5 at m = 4. */
 static void test_symbol_example(void) {
-    const struct run run = {1, 4, 1, 1, 900, 2, 1};
+    const struct run run = {1, 4, 1, 1, 900, 2, 1, 1};
     size_t found = 0;
     sample_frames(&run, frames);
     write_run(&run, frames, slots);
     make_words(&run, SIZE_MAX);
     for (size_t i = 0; i < MAHYREI_WORD_BYTES; i++) {
         if (words[0][i] == 0xD5) {
-            const size_t first = (run.W + 2 * i) * group_slots(&run);
-            CHECK(get_bit(slots, first + 13) == 1);
-            CHECK(get_bit(slots, first + group_slots(&run) + 5) == 1);
+            const size_t symbol = run.W + 2 * i;
+            CHECK(get_bit(slots, copy_start(&run, symbol, 0) + 13) == 1);
+            CHECK(get_bit(slots, copy_start(&run, symbol + 1, 0) + 5) == 1);
             found++;
         }
     }
@@ -374,13 +393,17 @@ static uint64_t read_flipped(const struct run *run, size_t one, size_t other) {
     return read_run(run, damaged);
 }
 
-/* Questions 9 and 10 on a sound run: slots and symbols are those of the run. */
-static void test_slots(const struct run *run) {
-    const size_t group = group_slots(run), M = pulse_order(run), last = symbol_count(run) - 1;
+/* Question 9 on a sound run: slots and symbols are those of the run. */
+static void test_spare(const struct run *run) {
     for (size_t x = slot_count(run); x < 8 * slot_bytes(run); x++) {
         CHECK(read_flipped(run, x, x) == MAHYREI_BAD_SPARE);
         CHECK(read_flipped(run, x, symbols[0]) == MAHYREI_BAD_SPARE);
     }
+}
+
+/* Question 10 of one copy. */
+static void test_slots(const struct run *run) {
+    const size_t group = group_slots(run), M = pulse_order(run), last = symbol_count(run) - 1;
     for (int i = 0; i < 30; i++) {
         const size_t s = i == 0 ? 0 : i == 1 ? last : random_below(last + 1);
         const size_t pulse = s * group + symbols[s], guard = s * group + M + random_below(M / 4);
@@ -394,15 +417,93 @@ static void test_slots(const struct run *run) {
             CHECK(read_flipped(run, pulse, last * group + symbols[last]) == refused);
         }
     }
-    memset(damaged, 0, slot_bytes(run));
-    CHECK(read_run(run, damaged) == MAHYREI_BAD_PULSE);
+}
+
+/* In so many copies of symbol s, from one on, the pulse goes to slot `other`; to its own slot: it
+ * goes out. */
+static void move_pulses(const struct run *run, size_t s, size_t from, size_t count, size_t other) {
+    for (size_t copy = from; copy < from + count; copy++) {
+        flip(damaged, copy_start(run, s, copy) + symbols[s]);
+        if (other != symbols[s]) {
+            flip(damaged, copy_start(run, s, copy) + other);
+        }
+    }
+}
+
+static uint64_t read_moved(const struct run *run, size_t s, size_t from, size_t count,
+                           size_t other) {
+    memcpy(damaged, slots, slot_bytes(run));
+    move_pulses(run, s, from, count, other);
+    return read_run(run, damaged);
+}
+
+/* Reads what is accepted all the same, as the frames that were written. */
+static bool still_told(uint64_t answer, const struct run *run) {
+    return answer == MAHYREI_ACCEPTED && memcmp(lent_frames.slice, frames, frame_bytes(run)) == 0;
+}
+
+/* Pulses in every slot of the first copies of symbol s but the symbol's own. */
+static uint64_t read_noisy(const struct run *run, size_t s, size_t count) {
+    memcpy(damaged, slots, slot_bytes(run));
+    for (size_t copy = 0; copy < count; copy++) {
+        for (size_t q = 0; q < group_slots(run); q++) {
+            if (q != symbols[s]) {
+                flip(damaged, copy_start(run, s, copy) + q);
+            }
+        }
+    }
+    return read_run(run, damaged);
+}
+
+/* Question 10 of several copies: each kind of damage to one symbol alone. */
+static void test_copies_of(const struct run *run, size_t s) {
+    const size_t k = run->copies, M = pulse_order(run), any = random_below(k);
+    const size_t own = symbols[s], other = (own + 1 + random_below(M - 1)) % M;
+    const size_t guard = M + random_below(M / 4);
+    const uint64_t refused = s * 256 + MAHYREI_BAD_PULSE;
+    CHECK(still_told(read_moved(run, s, any, 1, own), run));   /* a copy without its pulse */
+    CHECK(still_told(read_moved(run, s, 1, k - 1, own), run)); /* one pulse is enough */
+    CHECK(read_moved(run, s, 0, k, own) == refused);
+    const size_t guard_slot = copy_start(run, s, any) + guard;
+    CHECK(still_told(read_flipped(run, guard_slot, guard_slot), run));
+    CHECK(still_told(read_noisy(run, s, k - 1), run));
+    CHECK(read_noisy(run, s, k) == refused);
+    CHECK((k > 2 ? still_told(read_moved(run, s, any, 1, other), run)
+                 : read_moved(run, s, any, 1, other) == refused));
+    CHECK(read_moved(run, s, 0, k / 2 + 1, guard) == refused);
+    if (k % 2 == 0) { /* a tie, with a data slot and with a guard slot */
+        CHECK(read_moved(run, s, 0, k / 2, other) == refused);
+        CHECK(read_moved(run, s, k / 2, k / 2, guard) == refused);
+        CHECK(still_told(read_moved(run, s, 0, k / 2 - 1, guard), run));
+    } else { /* another symbol is told */
+        const unsigned number = answer_number(read_moved(run, s, 0, k / 2 + 1, other));
+        CHECK(number > MAHYREI_BAD_PULSE && number < MAHYREI_BAD_CHECK);
+    }
+}
+
+static void test_copies(const struct run *run) {
+    const size_t last = symbol_count(run) - 1;
+    for (int i = 0; i < 12; i++) {
+        test_copies_of(run, i == 0 ? 0 : i == 1 ? last : random_below(last + 1));
+    }
+    memcpy(damaged, slots, slot_bytes(run));
+    for (size_t s = 0; s <= last; s++) { /* all symbols, each in another way */
+        const size_t M = pulse_order(run), copy = random_below(run->copies);
+        const size_t other = run->copies > 2 ? random_below(M) : symbols[s];
+        move_pulses(run, s, copy, 1, random_below(2) == 0 ? other : symbols[s]);
+    }
+    CHECK(still_told(read_run(run, damaged), run));
+    const size_t bad = last / 2; /* the first of two that cannot be told */
+    memcpy(damaged, slots, slot_bytes(run));
+    move_pulses(run, last, 0, run->copies, symbols[last]);
+    move_pulses(run, bad, 0, run->copies, symbols[bad]);
+    CHECK(read_run(run, damaged) == bad * 256 + MAHYREI_BAD_PULSE);
 }
 
 /* What reading answers when symbol s is another one. */
 static uint64_t read_changed(const struct run *run, size_t s) {
-    const size_t M = pulse_order(run), group = group_slots(run);
-    const size_t other = (symbols[s] + 1 + random_below(M - 1)) % M;
-    return read_flipped(run, s * group + symbols[s], s * group + other);
+    const size_t M = pulse_order(run);
+    return read_moved(run, s, 0, run->copies, (symbols[s] + 1 + random_below(M - 1)) % M);
 }
 
 /* Questions 11 to 13. */
@@ -435,8 +536,11 @@ static void test_damage(const struct run *run) {
     write_run(run, frames, slots);
     make_words(run, SIZE_MAX);
     make_symbols(run);
-    test_slots(run);
+    test_spare(run);
+    (run->copies == 1 ? test_slots : test_copies)(run);
     test_symbols(run);
+    memset(damaged, 0, slot_bytes(run));
+    CHECK(read_run(run, damaged) == MAHYREI_BAD_PULSE);
     CHECK(read_back(run, slots, frames));
 }
 
@@ -449,7 +553,7 @@ static uint64_t read_words(const struct run *run) {
 /* Questions 14 and 15 are put to a word before 13 is put to the next. At rate 2/3 the last coded
  * bit stands for the last termination bit alone, and block bit 0 goes into coded bits 0 to 4. */
 static void test_words(void) {
-    const struct run run = {2, 7, 4, 180, 1000, 3, 3};
+    const struct run run = {2, 7, 4, 180, 1000, 3, 3, 1};
     sample_frames(&run, frames);
     CHECK(block_count(&run) == 3);
     make_words(&run, SIZE_MAX);
@@ -496,9 +600,9 @@ static const struct {
     struct run run;
     size_t blocks, fill;
 } FILLS[] = {
-    {{1, 4, 1, 1, 67, 6, 53}, 4, 0},      {{1, 4, 1, 1, 138, 6, 53}, 8, 0},
-    {{0, 4, 1, 1, 622, 6, 1}, 2, 5004},   {{1, 4, 1, 1, 937, 6, 1}, 2, 7524},
-    {{2, 4, 1, 1, 1252, 6, 1}, 2, 10044}, {{2, 4, 1, 1, 1, 6, 1}, 1, 10006},
+    {{1, 4, 1, 1, 67, 6, 53, 1}, 4, 0},      {{1, 4, 1, 1, 138, 6, 53, 1}, 8, 0},
+    {{0, 4, 1, 1, 622, 6, 1, 1}, 2, 5004},   {{1, 4, 1, 1, 937, 6, 1, 1}, 2, 7524},
+    {{2, 4, 1, 1, 1252, 6, 1, 1}, 2, 10044}, {{2, 4, 1, 1, 1, 6, 1, 1}, 1, 10006},
 };
 
 static void test_fills(void) {
@@ -533,7 +637,7 @@ static void test_draft_order(const struct run *run) {
     uint8_t block[MAHYREI_BLOCK_BYTES_MAX];
     fill_random(frames, frame_bytes(run));
     if (more > 0) {
-        const size_t draft_slots = slot_count(run) + more * period(run) * group_slots(run);
+        const size_t draft_slots = copy_start(run, symbol_count(run) + more * period(run), 0);
         lend_header(run);
         lend(&lent_slots, (draft_slots + 7) / 8);
         lend(&lent_frames, frame_bytes(run));
@@ -556,6 +660,74 @@ static void test_draft_order(const struct run *run) {
     CHECK(read_words(run) == MAHYREI_BAD_FRAME_MARKER);
 }
 
+/* Pooled symbols by hand, M = 4: the slots of the copies, and the symbol, or none. */
+static void test_pooled_by_hand(void) {
+    static const struct {
+        size_t copies;
+        const char *slots;
+        int symbol;
+    } POOLED[] = {
+        {1, "00100", 2},
+        {1, "00001", -1},
+        {1, "01100", -1},
+        {1, "00101", -1},
+        {2, "00100 00010", -1},
+        {2, "00100 00000", 2},
+        {2, "11111 00100", 2},
+        {2, "00100 00001", -1},
+        {2, "10001 10001", -1},
+        {2, "00000 00000", -1},
+        {3, "00100 00100 00010", 2},
+        {3, "00100 00001 00001", -1},
+        {3, "01100 00100 01000", -1},
+        {3, "11000 01100 00110", -1},
+        {3, "00010 00000 00000", 3},
+        {4, "10000 10000 01000 00100", 0},
+        {4, "10000 10000 01000 01000", -1},
+        {4, "10001 10000 00001 00001", -1},
+    };
+    for (size_t i = 0; i < sizeof POOLED / sizeof POOLED[0]; i++) {
+        const struct run run = {0, 2, 1, 1, 100, 1, 1, POOLED[i].copies};
+        const uint8_t marker = (uint8_t)(POOLED[i].symbol < 0 ? 0 : POOLED[i].symbol);
+        fill_random(frames, frame_bytes(&run));
+        lend_header(&run);
+        lend_copy(&lent_marker, &marker, 1);
+        lend_copy(&lent_frames, frames, frame_bytes(&run));
+        lend(&lent_slots, slot_bytes(&run));
+        CHECK(call(true) == MAHYREI_ACCEPTED);
+        size_t x = 0;
+        for (const char *at = POOLED[i].slots; *at != '\0'; at++) {
+            if (*at != ' ' && get_bit(lent_slots.slice, x++) != (size_t)(*at - '0')) {
+                flip(lent_slots.slice, x - 1);
+            }
+        }
+        CHECK(x == copy_start(&run, 1, 0));
+        lend(&lent_frames, frame_bytes(&run));
+        const uint64_t answer = call(false);
+        CHECK(POOLED[i].symbol < 0 ? answer == MAHYREI_BAD_PULSE : still_told(answer, &run));
+        const uint8_t other = (uint8_t)(marker ^ 1);
+        lend_copy(&lent_marker, &other, 1);
+        CHECK(call(false) == (POOLED[i].symbol < 0 ? MAHYREI_BAD_PULSE : MAHYREI_WRONG_MARKER));
+    }
+}
+
+/* Bytes and spare bits by factor: N = 1, W = 1, one word. */
+static void test_sizes_of_copies(void) {
+    static const struct {
+        uint64_t m, copies;
+        size_t bytes, spare;
+    } SIZES[] = {{2, 1, 4726, 3},  {2, 2, 9452, 6},  {2, 3, 14177, 1},  {2, 4, 18903, 4},
+                 {2, 8, 37805, 0}, {4, 3, 28358, 4}, {3, 16, 100820, 0}};
+    for (size_t i = 0; i < sizeof SIZES / sizeof SIZES[0]; i++) {
+        const struct run run = {0, SIZES[i].m, 1, 1, 100, 1, 1, SIZES[i].copies};
+        CHECK(slot_bytes(&run) == SIZES[i].bytes);
+        CHECK(8 * slot_bytes(&run) - slot_count(&run) == SIZES[i].spare);
+        fill_random(frames, frame_bytes(&run));
+        write_run(&run, frames, slots);
+        CHECK(read_back(&run, slots, frames));
+    }
+}
+
 /* Both calls with a header that fails a question, whatever the slices. */
 static void test_refused_header(const struct run *wrong, unsigned number) {
     for (int write = 0; write < 2; write++) {
@@ -574,15 +746,15 @@ static void test_refused_headers(void) {
         struct run run;
         unsigned number;
     } WRONG[] = {
-        {{3, 15, 0, 0, 0, 0, 0}, 2},         {{0, 1, 0, 0, 0, 0, 0}, 3},
-        {{0, 9, 0, 0, 0, 0, 0}, 3},          {{0, 2, 0, 1, 0, 0, 0}, 4},
-        {{0, 2, 129, 1, 0, 0, 0}, 4},        {{0, 2, 1, 0, 0, 0, 0}, 4},
-        {{0, 2, 1, 257, 0, 0, 0}, 4},        {{0, 8, 10, 20, 0, 0, 0}, 5},
-        {{0, 8, 2, 256, 0, 0, 0}, 5},        {{0, 8, 10, 21, 0, 0, 1}, 6},
-        {{0, 8, 10, 21, 2049, 0, 1}, 6},     {{0, 8, 10, 21, 1, 0, 0}, 6},
-        {{0, 8, 10, 21, 2048, 0, 65}, 6},    {{0, 8, 10, 21, 2048, 0, 64}, 7},
-        {{0, 8, 10, 21, 2048, 33, 64}, 7},   {{0, 8, 10, 21, 2048, 63, 64}, 7},
-        {{0, 8, 127, 255, 2048, 32, 64}, 8},
+        {{3, 15, 0, 0, 0, 0, 0, 1}, 2},         {{0, 1, 0, 0, 0, 0, 0, 1}, 3},
+        {{0, 9, 0, 0, 0, 0, 0, 1}, 3},          {{0, 2, 0, 1, 0, 0, 0, 1}, 4},
+        {{0, 2, 129, 1, 0, 0, 0, 1}, 4},        {{0, 2, 1, 0, 0, 0, 0, 1}, 4},
+        {{0, 2, 1, 257, 0, 0, 0, 1}, 4},        {{0, 8, 10, 20, 0, 0, 0, 1}, 5},
+        {{0, 8, 2, 256, 0, 0, 0, 1}, 5},        {{0, 8, 10, 21, 0, 0, 1, 1}, 6},
+        {{0, 8, 10, 21, 2049, 0, 1, 1}, 6},     {{0, 8, 10, 21, 1, 0, 0, 1}, 6},
+        {{0, 8, 10, 21, 2048, 0, 65, 1}, 6},    {{0, 8, 10, 21, 2048, 0, 64, 1}, 7},
+        {{0, 8, 10, 21, 2048, 33, 64, 1}, 7},   {{0, 8, 10, 21, 2048, 63, 64, 1}, 7},
+        {{0, 8, 127, 255, 2048, 32, 64, 1}, 8},
     };
     for (size_t i = 0; i < sizeof WRONG / sizeof WRONG[0]; i++) {
         test_refused_header(&WRONG[i].run, WRONG[i].number);
@@ -616,7 +788,7 @@ static void test_refused_header_bytes(const struct run *run) {
 
 /* Question 7: the first W marker symbols that are lent, before any length. */
 static void test_refused_markers(void) {
-    const struct run run = {0, 3, 1, 1, 10, 4, 1};
+    const struct run run = {0, 3, 1, 1, 10, 4, 1, 1};
     static const struct {
         uint8_t marker[6];
         size_t len;
@@ -643,6 +815,34 @@ static void test_refused_markers(void) {
         }
         lend_null(&lent_frames);
         CHECK(call(true) == (MARKERS[i].number != 0 ? MARKERS[i].number : 8));
+    }
+}
+
+/* Question 20: after 7, marker symbols included, and before any length. */
+static void test_refused_copies(void) {
+    static const uint64_t LARGE[] = {64, 256 + 1, (UINT64_C(1) << 32) + 1, UINT64_C(1) << 63,
+                                     UINT64_MAX};
+    const struct run run = {0, 3, 1, 1, 10, 2, 1, 1}, wrong = {0, 3, 2, 1, 10, 2, 1, 1};
+    const uint64_t good = UINT64_C(1) << 1 | UINT64_C(1) << 2 | UINT64_C(1) << 3 |
+                          UINT64_C(1) << 4 | UINT64_C(1) << 8 | UINT64_C(1) << 16 |
+                          UINT64_C(1) << 32;
+    for (uint64_t i = 0; i < 64 + sizeof LARGE / sizeof LARGE[0]; i++) {
+        const bool is_good = i < 64 && (good >> i & 1) != 0;
+        const uint64_t copies = i < 64 ? i : LARGE[i - 64];
+        for (int write = 0; write < 2; write++) {
+            lend_header(&run);
+            lent_copies = copies;
+            lend(&lent_frames, frame_bytes(&run));
+            lend(&lent_slots, 1);
+            CHECK(call(write) == (is_good ? MAHYREI_BAD_LENGTH : MAHYREI_BAD_COPIES));
+            lend_null(&lent_marker);
+            CHECK(call(write) == (is_good ? MAHYREI_BAD_LENGTH : MAHYREI_BAD_COPIES));
+            lend_copy(&lent_marker, (const uint8_t[]){8}, 1);
+            CHECK(call(write) == MAHYREI_BAD_MARKER);
+            lend_header(&wrong);
+            lent_copies = copies;
+            CHECK(call(write) == MAHYREI_BAD_FIT);
+        }
     }
 }
 
@@ -675,7 +875,8 @@ static void test_refused_lengths(const struct run *run) {
 static void test_every_number_met(void) {
     unsigned long total = 0, expected = 0;
     for (size_t number = 0; number < 256; number++) {
-        const bool written = number <= 8, read = number <= 16 || number == 18;
+        const bool written = number <= 8 || number == 20;
+        const bool read = number <= 16 || number == 18 || number == 20;
         total += met[0][number] + met[1][number];
         expected += (written ? met[1][number] : 0) + (read ? met[0][number] : 0);
         CHECK(!written || met[1][number] > 0);
@@ -698,8 +899,11 @@ int main(void) {
     test_symbol_example();
     test_words();
     test_fills();
+    test_pooled_by_hand();
+    test_sizes_of_copies();
     test_refused_headers();
     test_refused_markers();
+    test_refused_copies();
     for (size_t i = 0; i < RUN_COUNT; i++) {
         const struct run *run = &RUNS[i].run;
         test_random_runs(run);

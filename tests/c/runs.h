@@ -11,6 +11,7 @@
 
 struct run {
     uint64_t rate, m, N, B, F, W, A; /* as in the header */
+    uint64_t copies;                 /* the factor */
 };
 
 enum { FRAME_MARKER_BITS = 32 };
@@ -67,8 +68,13 @@ static inline size_t group_slots(const struct run *run) {
     return pulse_order(run) + pulse_order(run) / 4;
 }
 
+/* The first slot of a copy of a symbol. */
+static inline size_t copy_start(const struct run *run, size_t symbol, size_t copy) {
+    return (symbol * run->copies + copy) * group_slots(run);
+}
+
 static inline size_t slot_count(const struct run *run) {
-    return symbol_count(run) * group_slots(run);
+    return copy_start(run, symbol_count(run), 0);
 }
 
 static inline size_t slot_bytes(const struct run *run) {

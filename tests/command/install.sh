@@ -4,7 +4,7 @@
 # README, the man page, the C header and the sentences have the same numbers, and none has a 17.
 once_numbers() {
     local number sentences=''
-    same 'numbers of README' "$(seq -s ' ' 0 16) 18 19 27 28 29" "$(numbers | xargs)"
+    same 'numbers of README' "$(seq -s ' ' 0 16) 18 19 20 27 28 29" "$(numbers | xargs)"
     same 'numbers of the man page' "$(numbers | xargs)" \
         "$(sed -n 's/^\.IP \([0-9]*\) 4$/\1/p' "$root/host/mahyrei.1" | xargs)"
     same 'numbers of the header' "$(numbers | xargs)" \
@@ -50,7 +50,7 @@ once_install() {
     begin
     local prefix_folder="$work/a prefix" files libraries flags
     made install PREFIX="$prefix_folder"
-    libraries='lib/libmahyrei.a lib/libmahyrei.so lib/libmahyrei.so.0.2.0 lib/libmahyrei.so.1'
+    libraries='lib/libmahyrei.a lib/libmahyrei.so lib/libmahyrei.so.0.3.0 lib/libmahyrei.so.2'
     files="bin/mahyrei include/mahyrei.h include/mahyrei_plain.h $libraries lib/pkgconfig/mahyrei.pc"
     files+=' share/bash-completion/completions/mahyrei share/mahyrei/python/mahyrei.py'
     same 'files of make install' "$files share/man/man1/mahyrei.1 share/man/man3/mahyrei.3" \

@@ -10,7 +10,8 @@
  * plain C version (tests/c/plain_run.c, bench/plain_word.c, plain_pass.c and plain_uplink.c), which
  * is built into the fuzzer and guides it, the library being closed to it; a refused call changes no
  * lent byte; what is accepted goes back to where it came from, bit for bit but for a block's spare
- * bits; number and place are ones that the call can give.
+ * bits, and slots of several copies at least to the same frames; number and place are ones that the
+ * call can give.
  *
  * The sanitizers do not see into the library either. So each slice is lent from pages of its own,
  * right before or right behind a page that may not be touched, with a margin of bytes on its other
@@ -36,7 +37,7 @@
 enum {
     PAGE = 4096,
     MARGIN = 64,
-    SLOTS_MOST = 1 << 20, /* slot bytes; runs up to the largest of 182 MB are too slow to fuzz */
+    SLOTS_MOST = 1 << 20, /* slot bytes; runs up to the largest of 5.8 GB are too slow to fuzz */
     AREA = SLOTS_MOST + PAGE,
     MARKER_ROOM = 64, /* W has six bits */
     CODEBLOCK = MAHYREI_UPLINK_CODEBLOCK_BYTES
@@ -58,8 +59,8 @@ static const uint32_t CAN_ANSWER[CALLS] = {
     [BIT_SPREAD] = 1U << 0 | 1U << 2 | 1U << 8 | 1U << 27,
     [UPLINK_WRITE] = 1U << 0 | 1U << 8,
     [UPLINK_READ] = 1U << 0 | 1U << 8 | 1U << 28 | 1U << 29,
-    [RUN_WRITE] = 0x1FF,
-    [RUN_READ] = 0x1FFFF | 1U << 18,
+    [RUN_WRITE] = 0x1FF | 1U << 20,
+    [RUN_READ] = 0x1FFFF | 1U << 18 | 1U << 20,
     [RUN_FIND] = 0x1FF | 1U << 19,
     [RUN_CUT] = 0x1FF,
 };
@@ -157,9 +158,10 @@ struct lent {
 enum { HEADER, MARKER, FROM, TO, SLICES };
 
 static struct lent lent[SLICES];
-static uint64_t block_bit; /* that bit_spread is asked about */
-static uint64_t from_slot; /* that run_cut is told */
-static uint8_t placement;  /* a bit for each slice, and one for NULL in place of an empty slice */
+static uint64_t lent_copies; /* of a run */
+static uint64_t block_bit;   /* that bit_spread is asked about */
+static uint64_t from_slot;   /* that run_cut is told */
+static uint8_t placement;    /* a bit for each slice, and one for NULL in place of an empty slice */
 
 static void map_area(struct lent *slice) {
     uint8_t *pages =
@@ -237,7 +239,7 @@ static struct run lent_run(void) {
         packed <<= WIDTHS[i];
     }
     return (struct run){fields[0], fields[1], fields[2], fields[3],
-                        fields[4], fields[5], fields[6]};
+                        fields[4], fields[5], fields[6], lent_copies};
 }
 
 static uint64_t put_library(enum call call, uint64_t rate) {
@@ -259,11 +261,11 @@ static uint64_t put_library(enum call call, uint64_t rate) {
     case UPLINK_READ:
         return uplink_read(from->slice, from->len, to->slice, to->len);
     case RUN_WRITE:
-        return run_write(h->slice, h->len, m->slice, m->len, from->slice, from->len, to->slice,
-                         to->len);
+        return run_write(lent_copies, h->slice, h->len, m->slice, m->len, from->slice, from->len,
+                         to->slice, to->len);
     case RUN_READ:
-        return run_read(h->slice, h->len, m->slice, m->len, from->slice, from->len, to->slice,
-                        to->len);
+        return run_read(lent_copies, h->slice, h->len, m->slice, m->len, from->slice, from->len,
+                        to->slice, to->len);
     case RUN_FIND:
         return run_find(h->slice, h->len, m->slice, m->len, from->slice, from->len);
     default:
@@ -290,11 +292,11 @@ static uint64_t put_plain(enum call call, uint64_t rate, uint8_t *to, size_t to_
     case UPLINK_READ:
         return plain_uplink_read(from->slice, from->len, to, to_len);
     case RUN_WRITE:
-        return plain_run_write(h->slice, h->len, m->slice, m->len, from->slice, from->len, to,
-                               to_len);
+        return plain_run_write(lent_copies, h->slice, h->len, m->slice, m->len, from->slice,
+                               from->len, to, to_len);
     case RUN_READ:
-        return plain_run_read(h->slice, h->len, m->slice, m->len, from->slice, from->len, to,
-                              to_len);
+        return plain_run_read(lent_copies, h->slice, h->len, m->slice, m->len, from->slice,
+                              from->len, to, to_len);
     case RUN_FIND:
         return plain_run_find(h->slice, h->len, m->slice, m->len, from->slice, from->len);
     default:
@@ -371,6 +373,16 @@ static uint64_t put(enum call call, uint64_t rate) {
     return answer;
 }
 
+/* Puts a call that is accepted, with what another has written. */
+static void put_written(enum call call, uint64_t rate, size_t to_len) {
+    static uint8_t written[AREA];
+    const size_t len = lent[TO].len;
+    memcpy(written, lent[TO].slice, len);
+    lend(FROM, len, written, len);
+    lend_to(to_len);
+    require(put(call, rate) == MAHYREI_ACCEPTED, call, "refused what the other call made");
+}
+
 /* Puts a call and, where it is accepted, the call that goes the other way. */
 static void put_and_back(enum call call, uint64_t rate) {
     static uint8_t came[AREA], went[AREA];
@@ -391,9 +403,12 @@ static void put_and_back(enum call call, uint64_t rate) {
             came[last] &= 0xFC;
         }
     }
-    lend(FROM, to_len, went, to_len);
-    lend_to(from_len);
-    require(put(back, rate) == MAHYREI_ACCEPTED, back, "refused what the other call made");
+    put_written(back, rate, from_len);
+    if (call == RUN_READ && lent_copies > 1) { /* a copy may have been damaged */
+        put_written(call, rate, to_len);
+        require(memcmp(lent[TO].slice, went, to_len) == 0, call, "did not lead back");
+        return;
+    }
     require(memcmp(lent[TO].slice, came, from_len) == 0, back, "did not lead back");
 }
 
@@ -606,6 +621,9 @@ static void fit_rows(struct run *run) {
     }
 }
 
+static const uint64_t FACTORS[] = {1, 2, 3, 4, 8, 16, 32};
+enum { FACTOR_COUNT = sizeof FACTORS / sizeof FACTORS[0] };
+
 /* A header that passes, of a run of at most SLOTS_MOST bytes. */
 static struct run make_run(struct input *in) {
     struct run run = {.rate = take(in, 1) % 3, .m = 2 + take(in, 1) % 7};
@@ -614,11 +632,16 @@ static struct run make_run(struct input *in) {
     run.F = 1 + take(in, 2) % 2048;
     run.W = 1 + take(in, 1) % 32;
     run.A = 1 + take(in, 1) % 64;
+    size_t factor = take_below(in, 1, 2 * FACTOR_COUNT); /* one copy in half of the runs */
+    factor = factor < FACTOR_COUNT ? factor : 0;
+    run.copies = FACTORS[factor];
     /* small runs, which are fast, more often than large ones */
     const size_t most = SLOTS_MOST >> take_below(in, 1, 8);
     fit_rows(&run);
-    while (slot_bytes(&run) > most && (run.A > 1 || run.F > 1 || run.N > 1)) {
-        if (run.A > 1) {
+    while (slot_bytes(&run) > most && (factor > 0 || run.A > 1 || run.F > 1 || run.N > 1)) {
+        if (factor > 0) {
+            run.copies = FACTORS[--factor];
+        } else if (run.A > 1) {
             run.A /= 2;
         } else if (run.F > 1) {
             run.F /= 2;
@@ -630,24 +653,27 @@ static struct run make_run(struct input *in) {
     return run;
 }
 
-/* The symbol whose group this is: its first pulse, or 0. */
+/* The symbol whose first copy this is: its first pulse, or 0. */
 static size_t get_symbol(const struct run *run, const uint8_t *slots, size_t s) {
     for (size_t q = 0; q < pulse_order(run); q++) {
-        if (get_bit(slots, s * group_slots(run) + q)) {
+        if (get_bit(slots, copy_start(run, s, 0) + q)) {
             return q;
         }
     }
     return 0;
 }
 
-/* One pulse in the group, at any of its slots. */
-static void put_pulse(const struct run *run, uint8_t *slots, size_t s, size_t at) {
-    for (size_t q = 0; q < group_slots(run); q++) {
-        const size_t x = s * group_slots(run) + q;
-        if (get_bit(slots, x) != (q == at)) {
+/* One pulse in each of the first copies, at any slot of the group. */
+static void put_copies(const struct run *run, uint8_t *slots, size_t s, size_t at, size_t count) {
+    for (size_t x = copy_start(run, s, 0); x < copy_start(run, s, count); x++) {
+        if (get_bit(slots, x) != (x % group_slots(run) == at)) {
             flip(slots, x);
         }
     }
+}
+
+static void put_pulse(const struct run *run, uint8_t *slots, size_t s, size_t at) {
+    put_copies(run, slots, s, at, run->copies);
 }
 
 static void get_word(const struct run *run, const uint8_t *slots, size_t c, uint8_t *word) {
@@ -671,7 +697,7 @@ static void put_word_back(const struct run *run, uint8_t *slots, size_t c, const
             symbol = symbol * 2 + get_bit(word, x);
         }
         const size_t s = stand(run, c * S + i);
-        if (!get_bit(slots, s * group_slots(run) + symbol)) { /* most stand already */
+        if (!get_bit(slots, copy_start(run, s, 0) + symbol)) { /* most stand already */
             put_pulse(run, slots, s, symbol);
         }
     }
@@ -729,7 +755,7 @@ static void damage_run(struct input *in, const struct run *run, uint8_t *slots) 
         const size_t at = (size_t)take(in, 2);
         switch (how) {
         case 0:
-            flip(slots, s * group + at % group);
+            flip(slots, copy_start(run, s, at / group % run->copies) + at % group);
             break;
         case 1: /* spare, where there are such bits */
             flip(slots, 8 * slot_bytes(run) - 1 - at % (spare > 0 ? spare : 8));
@@ -743,6 +769,12 @@ static void damage_run(struct input *in, const struct run *run, uint8_t *slots) 
             break;
         case 5: /* a marker symbol */
             put_pulse(run, slots, s / period(run) * period(run) + at % run->W, s % M);
+            break;
+        case 6: /* half of the copies, or one more */
+            put_copies(run, slots, s, at % group, (run->copies + at / group % 2) / 2);
+            break;
+        case 7: /* some of the copies */
+            put_copies(run, slots, s, at % group, at / group % run->copies);
             break;
         default:
             damage_run_word(in, run, slots);
@@ -769,6 +801,7 @@ static void lend_header(struct input *in, const struct run *run) {
     size_t len = MAHYREI_HEADER_BYTES;
     pack_header(run, header);
     const size_t choice = take_below(in, 1, 32);
+    lent_copies = run->copies;
     if (choice < 8) {
         set_field(header, choice, choice == 0 ? 3 : take(in, 2)); /* any other rate there is */
     } else if (choice == 8) {
@@ -777,6 +810,8 @@ static void lend_header(struct input *in, const struct run *run) {
         }
     } else if (choice == 9) {
         len = take_below(in, 1, sizeof header);
+    } else if (choice == 10) {
+        lent_copies = take(in, 8);
     }
     lend(HEADER, len, header, len);
 }
@@ -800,7 +835,8 @@ static void make_slots(struct input *in, const struct run *run, const uint8_t *m
     fill(in, frames, frame_bytes(run));
     pack_header(run, header);
     memset(given, 0, slot_bytes(run)); /* an input says all that it does */
-    if (run_write(header, sizeof header, marker, run->W, frames, frame_bytes(run), given,
+    if (run_write(run->copies, header, sizeof header, marker, run->W, frames, frame_bytes(run),
+                  given,
                   slot_bytes(run)) == MAHYREI_ACCEPTED) { /* not where a marker symbol is M */
         damage_run(in, run, given);
     }
@@ -867,7 +903,8 @@ static size_t make_capture(struct input *in, const struct run *run, const uint8_
 
 static void put_find(struct input *in) {
     uint8_t marker[MARKER_ROOM];
-    const struct run run = make_run(in);
+    struct run run = make_run(in);
+    run.copies = 1;
     lend_header(in, &run);
     make_marker(in, &run, marker);
     lend(MARKER, choose_len(in, run.W) % MARKER_ROOM, marker, MARKER_ROOM);
@@ -881,14 +918,15 @@ static void put_find(struct input *in) {
 static void put_cut(struct input *in) {
     static uint8_t frames[MAHYREI_FRAMES_BYTES_MAX], written[AREA];
     uint8_t marker[MARKER_ROOM], header[MAHYREI_HEADER_BYTES];
-    const struct run run = make_run(in);
+    struct run run = make_run(in);
+    run.copies = 1;
     const size_t bytes = slot_bytes(&run), count = slot_count(&run);
     lend_header(in, &run);
     make_marker(in, &run, marker);
     fill(in, frames, frame_bytes(&run));
     pack_header(&run, header);
-    const bool sound = run_write(header, sizeof header, marker, run.W, frames, frame_bytes(&run),
-                                 written, bytes) == MAHYREI_ACCEPTED;
+    const bool sound = run_write(run.copies, header, sizeof header, marker, run.W, frames,
+                                 frame_bytes(&run), written, bytes) == MAHYREI_ACCEPTED;
     const size_t at = take_below(in, 1, 256), len = (at + count + 7) / 8 + take_below(in, 1, 32);
     fill(in, given, len);
     for (size_t x = 0; sound && x < count; x++) {
@@ -903,6 +941,7 @@ static void put_cut(struct input *in) {
     lend_to(choose_len(in, bytes));
     const bool same =
         lent[HEADER].len == sizeof header && memcmp(lent[HEADER].slice, header, sizeof header) == 0;
+    lent_copies = run.copies;
     if (put(RUN_CUT, 0) != MAHYREI_ACCEPTED || !sound || !same || from_slot != at) {
         return;
     }

@@ -16,7 +16,7 @@
 
 enum {
     /* of call and number, as calls.c has them */
-    PAIRS = 3 + 6 + 3 + 6 + 4 + 2 + 4 + 9 + 18 + 10 + 9,
+    PAIRS = 3 + 6 + 3 + 6 + 4 + 2 + 4 + 10 + 19 + 10 + 9,
     LEAST_INPUTS = 1500,
     MOST_INPUTS = 20000,
     RANDOM_LEN = 96,
@@ -88,19 +88,19 @@ static void put_sound_word(uint8_t rate) {
     put_sound(WORD_READ, input, sizeof input);
 }
 
-/* The bytes before the slots are those that calls.c takes: call and placement, eight for the run
+/* The bytes before the slots are those that calls.c takes: call and placement, nine for the run
  * and one for its size, its header as it is, a marker of zeros, right lengths, then the rest. */
 static void put_sound_run(uint8_t rate, uint8_t m) {
-    const struct run run = {rate, m, 1, 1, 100, 1, 2};
+    const struct run run = {rate, m, 1, 1, 100, 1, 2, 1};
     const uint8_t order = (uint8_t)(m - 2);
-    const uint8_t before[] = {RUN_READ, 0,  rate, order, 0, 0, 0, 99, 0, 1,
-                              0,        31, 0,    0,     0, 0, 0, 0,  7};
+    const uint8_t before[] = {RUN_READ, 0, rate, order, 0, 0, 0, 99, 0, 1,
+                              0,        0, 31,   0,     0, 0, 0, 0,  0, 7};
     static const uint8_t frames[200], marker[1];
     static uint8_t input[INPUT_MOST];
     uint8_t header[MAHYREI_HEADER_BYTES];
     pack_header(&run, header);
     memcpy(input, before, sizeof before);
-    run_write(header, sizeof header, marker, sizeof marker, frames, sizeof frames,
+    run_write(run.copies, header, sizeof header, marker, sizeof marker, frames, sizeof frames,
               input + sizeof before, slot_bytes(&run));
     put_sound(RUN_READ, input, sizeof before + slot_bytes(&run));
 }

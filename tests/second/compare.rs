@@ -140,9 +140,12 @@ impl Call {
             Call::WordWrite | Call::PassWrite => &[0, 2, 8],
             Call::WordRead | Call::PassRead => &[0, 2, 8, 13, 14, 15],
             Call::BitSpread => &[0, 2, 8, 27],
-            Call::RunWrite | Call::RunCut => &[0, 1, 2, 3, 4, 5, 6, 7, 8],
+            Call::RunWrite => &[0, 1, 2, 3, 4, 5, 6, 7, 8, 20],
+            Call::RunRead => &[
+                0, 1, 2, 3, 4, 5, 6, 7, 8, 9, 10, 11, 12, 13, 14, 15, 16, 18, 20,
+            ],
             Call::RunFind => &[0, 1, 2, 3, 4, 5, 6, 7, 8, 19],
-            Call::RunRead => &[0, 1, 2, 3, 4, 5, 6, 7, 8, 9, 10, 11, 12, 13, 14, 15, 16, 18],
+            Call::RunCut => &[0, 1, 2, 3, 4, 5, 6, 7, 8],
             Call::UplinkWrite => &[0, 8],
             Call::UplinkRead => &[0, 8, 28, 29],
         }
@@ -187,7 +190,7 @@ impl Way {
 }
 
 /// What each number says. No call answers any other.
-const NUMBERS: [(u8, &str); 22] = [
+const NUMBERS: [(u8, &str); 23] = [
     (0, "accepted"),
     (1, "header"),
     (2, "rate"),
@@ -207,6 +210,7 @@ const NUMBERS: [(u8, &str); 22] = [
     (16, "frame marker"),
     (18, "fill bits"),
     (19, "whole marker"),
+    (20, "factor"),
     (27, "block bit"),
     (28, "groups"),
     (29, "parity"),

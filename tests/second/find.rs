@@ -27,7 +27,7 @@ pub fn marker_slots(run: &Run, marker: &[u8]) -> Vec<bool> {
 /// Question 19: the earliest slot at which the whole marker stands, or the first question whose
 /// answer is no.
 pub fn find(header: &[u8], marker: &[u8], capture: &[u8]) -> Result<usize, Refusal> {
-    let run = accept(header, marker)?;
+    let run = accept(1, header, marker)?;
     if marker.len() != run.marker_len() || capture.len() as u64 > CAPTURE_MOST {
         return refuse(8, 0);
     }
@@ -43,7 +43,7 @@ pub fn find(header: &[u8], marker: &[u8], capture: &[u8]) -> Result<usize, Refus
 /// The slots of the run that begins at this slot of the capture, packed anew, or the first question
 /// whose answer is no.
 pub fn cut(header: &[u8], capture: &[u8], from: u64, slots_len: usize) -> Result<Vec<u8>, Refusal> {
-    let run = Run::of(header)?;
+    let run = Run::of(1, header)?;
     let end = u128::from(from) + run.slots() as u128;
     let lengths_right = capture.len() as u64 <= CAPTURE_MOST && slots_len == run.slots_len();
     if !lengths_right || end > 8 * capture.len() as u128 {
@@ -69,6 +69,7 @@ mod tests {
         frame_bytes: 40,
         marker: 1,
         frames: 2,
+        copies: 1,
         spare: 0,
     };
 
@@ -112,10 +113,10 @@ mod tests {
     #[test]
     fn run_at_any_slot() {
         let header = ONE_WORD.pack();
-        let run = Run::of(&header).unwrap();
+        let run = Run::of(1, &header).unwrap();
         assert_eq!((run.slots(), run.slots_len()), (75_620, 9_453));
         let frames: Vec<u8> = (0..223).map(|i| (i * i / 3) as u8).collect();
-        let slots = run::write(&header, &[5], &frames, run.slots_len()).unwrap();
+        let slots = run::write(1, &header, &[5], &frames, run.slots_len()).unwrap();
         for at in [0, 1, 7, 8, 13] {
             for around in [false, true] {
                 let mut bits = vec![around; at];
@@ -126,7 +127,7 @@ mod tests {
                 let again = cut(&header, &capture, at as u64, run.slots_len());
                 assert_eq!(again.as_ref(), Ok(&slots));
                 assert_eq!(
-                    run::read(&header, &[5], &slots, frames.len()).as_ref(),
+                    run::read(1, &header, &[5], &slots, frames.len()).as_ref(),
                     Ok(&frames)
                 );
                 let last = (8 * capture.len() - run.slots()) as u64;

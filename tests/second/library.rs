@@ -32,6 +32,7 @@ mod c {
         ) -> u64;
         pub fn bit_spread(rate: u64, bit: u64, places: *mut u8, places_len: usize) -> u64;
         pub fn run_write(
+            copies: u64,
             header: *const u8,
             header_len: usize,
             marker: *const u8,
@@ -42,6 +43,7 @@ mod c {
             slots_len: usize,
         ) -> u64;
         pub fn run_read(
+            copies: u64,
             header: *const u8,
             header_len: usize,
             marker: *const u8,
@@ -110,9 +112,16 @@ pub fn bit_spread(rate: u64, bit: u64, places: &mut [u8]) -> u64 {
     unsafe { c::bit_spread(rate, bit, places.as_mut_ptr(), places.len()) }
 }
 
-pub fn run_write(header: &[u8], marker: &[u8], frames: &[u8], slots: &mut [u8]) -> u64 {
+pub fn run_write(
+    copies: u64,
+    header: &[u8],
+    marker: &[u8],
+    frames: &[u8],
+    slots: &mut [u8],
+) -> u64 {
     unsafe {
         c::run_write(
+            copies,
             header.as_ptr(),
             header.len(),
             marker.as_ptr(),
@@ -125,9 +134,10 @@ pub fn run_write(header: &[u8], marker: &[u8], frames: &[u8], slots: &mut [u8]) 
     }
 }
 
-pub fn run_read(header: &[u8], marker: &[u8], slots: &[u8], frames: &mut [u8]) -> u64 {
+pub fn run_read(copies: u64, header: &[u8], marker: &[u8], slots: &[u8], frames: &mut [u8]) -> u64 {
     unsafe {
         c::run_read(
+            copies,
             header.as_ptr(),
             header.len(),
             marker.as_ptr(),

@@ -12,6 +12,8 @@ pub const FRAME_MARKER: u32 = 0x1ACF_FC1D;
 pub const FRAME_MARKER_BITS: usize = 32;
 /// The most marker symbols.
 pub const MARKER_MOST: usize = 32;
+/// How often each symbol can be sent in a row.
+pub const FACTORS: [u64; 7] = [1, 2, 3, 4, 8, 16, 32];
 
 /// The fields of a header, each of any value that its bits can hold.
 #[derive(Clone, Copy, Debug, PartialEq, Eq)]
@@ -29,6 +31,8 @@ pub struct Header {
     pub marker: u64,
     /// A.
     pub frames: u64,
+    /// How often each symbol is sent; lent beside the header.
+    pub copies: u64,
     /// The last 16 bits, which are zero.
     pub spare: u64,
 }
@@ -69,12 +73,19 @@ impl Header {
             frame_bytes,
             marker,
             frames,
+            copies: 1,
             spare,
         }
     }
+
+    /// Questions 1 to 6, and W's range of 7.
+    pub fn run(&self) -> Result<Run, Refusal> {
+        Run::of(self.copies, &self.pack())
+    }
 }
 
-/// What a header that passes questions 1 to 6, and W's range of 7, decides.
+/// What a header that passes questions 1 to 6, and W's range of 7, decides, and the factor, which may
+/// be one that there is not.
 pub struct Run {
     rate_number: u64,
     rate: &'static Rate,
@@ -84,11 +95,12 @@ pub struct Run {
     frame_bytes: usize,
     marker: usize,
     frames: usize,
+    copies: u64,
 }
 
 impl Run {
     /// Questions 1 to 6, and W's range of 7.
-    pub fn of(header: &[u8]) -> Result<Run, Refusal> {
+    pub fn of(copies: u64, header: &[u8]) -> Result<Run, Refusal> {
         let Ok(header) = header.try_into() else {
             return refuse(1, 0);
         };
@@ -114,6 +126,7 @@ impl Run {
             frame_bytes: header.frame_bytes as usize,
             marker: header.marker as usize,
             frames: header.frames as usize,
+            copies,
         };
         if run.unhit() % run.word_symbols() != 0 {
             return refuse(5, 0);
@@ -197,13 +210,28 @@ impl Run {
         before * self.period() + self.marker + rest
     }
 
-    /// Symbols with markers.
+    /// Symbols with markers; copies are not counted.
     pub fn symbols(&self) -> usize {
         self.places() / self.word_symbols() * self.period()
     }
 
+    /// Question 20.
+    pub fn is_factor(&self) -> bool {
+        FACTORS.contains(&self.copies)
+    }
+
+    /// How often each symbol is sent.
+    pub fn copies(&self) -> usize {
+        self.copies as usize
+    }
+
+    /// The first slot of a copy of a symbol.
+    pub fn copy_start(&self, symbol: usize, copy: usize) -> usize {
+        (symbol * self.copies() + copy) * self.group()
+    }
+
     pub fn slots(&self) -> usize {
-        self.symbols() * self.group()
+        self.copy_start(self.symbols(), 0)
     }
 
     pub fn slots_len(&self) -> usize {
@@ -211,24 +239,28 @@ impl Run {
     }
 }
 
-/// Questions 1 to 7.
-pub fn accept(header: &[u8], marker: &[u8]) -> Result<Run, Refusal> {
-    let run = Run::of(header)?;
+/// Questions 1 to 7, and 20.
+pub fn accept(copies: u64, header: &[u8], marker: &[u8]) -> Result<Run, Refusal> {
+    let run = Run::of(copies, header)?;
     let too_high = |&symbol: &u8| usize::from(symbol) >= run.order();
     if marker.iter().take(run.marker).any(too_high) {
         return refuse(7, 0);
     }
+    if !run.is_factor() {
+        return refuse(20, 0);
+    }
     Ok(run)
 }
 
-/// Questions 1 to 8.
+/// Questions 1 to 7, 20 and 8.
 fn accept_slices(
+    copies: u64,
     header: &[u8],
     marker: &[u8],
     frames_len: usize,
     slots_len: usize,
 ) -> Result<Run, Refusal> {
-    let run = accept(header, marker)?;
+    let run = accept(copies, header, marker)?;
     let lent = [marker.len(), frames_len, slots_len];
     if lent != [run.marker, run.frames_len(), run.slots_len()] {
         return refuse(8, 0);
@@ -293,12 +325,14 @@ pub fn mark(run: &Run, places: &[u8], marker: &[u8]) -> Vec<u8> {
         .collect()
 }
 
-/// Step 10: the slots.
+/// Step 10: the slots, each symbol as often in a row as the factor says.
 pub fn slots_of_symbols(run: &Run, symbols: &[u8]) -> Vec<u8> {
-    let mut slots = vec![0; (symbols.len() * run.group()).div_ceil(8)];
+    let mut slots = vec![0; run.copy_start(symbols.len(), 0).div_ceil(8)];
     for (i, &symbol) in symbols.iter().enumerate() {
-        let pulse = i * run.group() + usize::from(symbol);
-        slots[pulse / 8] |= 0x80 >> (pulse % 8);
+        for copy in 0..run.copies() {
+            let pulse = run.copy_start(i, copy) + usize::from(symbol);
+            slots[pulse / 8] |= 0x80 >> (pulse % 8);
+        }
     }
     slots
 }
@@ -327,8 +361,32 @@ fn spare_slots_zero(run: &Run, slots: &[u8]) -> Result<(), Refusal> {
     Ok(())
 }
 
-/// Question 10, and the symbols.
+/// Question 10, and the symbols: of each, the slot with more pulses over all copies than any other.
 fn symbols_of_slots(run: &Run, slots: &[u8]) -> Result<Vec<u8>, Refusal> {
+    let mut pulses = pulses(slots).peekable();
+    let mut counts = vec![0; run.group()];
+    let tell = |symbol: usize| {
+        let end = run.copy_start(symbol + 1, 0);
+        counts.fill(0);
+        while let Some(pulse) = pulses.next_if(|&pulse| pulse < end) {
+            counts[pulse % run.group()] += 1;
+        }
+        let most = counts.iter().max();
+        let mut leaders = (0..run.group()).filter(|&slot| Some(&counts[slot]) == most);
+        match (leaders.next(), leaders.next()) {
+            (Some(slot), None) if slot < run.order() => Ok(slot as u8),
+            _ => refuse(10, symbol),
+        }
+    };
+    let told = (0..run.symbols()).map(tell).collect();
+    if run.copies() == 1 {
+        assert_eq!(told, lone_pulses(run, slots)); // with one copy it is the same test
+    }
+    told
+}
+
+/// Question 10 as it is without copies: exactly one pulse, and not in a guard slot.
+fn lone_pulses(run: &Run, slots: &[u8]) -> Result<Vec<u8>, Refusal> {
     let mut symbols = Vec::with_capacity(run.symbols());
     for pulse in pulses(slots) {
         let (group, slot) = (pulse / run.group(), pulse % run.group());
@@ -403,12 +461,13 @@ fn frames_of_stream(run: &Run, stream: &[bool]) -> Result<Vec<u8>, Refusal> {
 
 /// The run writer: the slots, or the first question whose answer is no.
 pub fn write(
+    copies: u64,
     header: &[u8],
     marker: &[u8],
     frames: &[u8],
     slots_len: usize,
 ) -> Result<Vec<u8>, Refusal> {
-    let run = accept_slices(header, marker, frames.len(), slots_len)?;
+    let run = accept_slices(copies, header, marker, frames.len(), slots_len)?;
     let words = words(&run, &stream(&run, frames));
     let symbols = mark(&run, &places(&run, &words), marker);
     Ok(slots_of_symbols(&run, &symbols))
@@ -416,12 +475,13 @@ pub fn write(
 
 /// The run reader: the frames, or the first question whose answer is no.
 pub fn read(
+    copies: u64,
     header: &[u8],
     marker: &[u8],
     slots: &[u8],
     frames_len: usize,
 ) -> Result<Vec<u8>, Refusal> {
-    let run = accept_slices(header, marker, frames_len, slots.len())?;
+    let run = accept_slices(copies, header, marker, frames_len, slots.len())?;
     spare_slots_zero(&run, slots)?;
     let symbols = symbols_of_slots(&run, slots)?;
     let places = unmark(&run, &symbols, marker)?;
@@ -443,6 +503,7 @@ mod tests {
         frame_bytes: 40,
         marker: 3,
         frames: 2,
+        copies: 1,
         spare: 0,
     };
 
@@ -455,6 +516,7 @@ mod tests {
         frame_bytes: 500,
         marker: 2,
         frames: 3,
+        copies: 1,
         spare: 0,
     };
 
@@ -466,7 +528,7 @@ mod tests {
     }
 
     fn run(header: Header) -> Run {
-        Run::of(&header.pack()).unwrap()
+        header.run().unwrap()
     }
 
     fn sample(len: usize) -> Vec<u8> {
@@ -475,7 +537,7 @@ mod tests {
 
     /// The number that a header gets before any slice is looked at, 0 where it passes.
     fn number(header: Header) -> u8 {
-        Run::of(&header.pack()).map_or_else(|refusal| refusal.number, |_| 0)
+        header.run().map_or_else(|refusal| refusal.number, |_| 0)
     }
 
     // The rows of the bench table on steps 8 and 10.
@@ -541,7 +603,7 @@ mod tests {
 
     #[test]
     fn example_sheet() {
-        let run = Run::of(&EXAMPLE).unwrap();
+        let run = Run::of(1, &EXAMPLE).unwrap();
         assert_eq!(
             (run.rate_number, run.order(), run.rows, run.step),
             (1, 64, 84, 120)
@@ -565,9 +627,21 @@ mod tests {
             frames: 64,
             ..SMALL
         };
-        let run = run(largest);
-        assert_eq!((run.blocks(), run.symbols()), (210, 4_553_218));
-        assert_eq!((run.slots(), run.slots_len()), (1_457_029_760, 182_128_720));
+        let once = run(largest);
+        assert_eq!((once.blocks(), once.symbols()), (210, 4_553_218));
+        assert_eq!(
+            (once.slots(), once.slots_len()),
+            (1_457_029_760, 182_128_720)
+        );
+        let most = run(Header {
+            copies: 32,
+            ..largest
+        });
+        assert_eq!((most.blocks(), most.symbols()), (210, 4_553_218));
+        assert_eq!(
+            (most.slots(), most.slots_len()),
+            (46_624_952_320, 5_828_119_040)
+        );
     }
 
     #[test]
@@ -605,10 +679,22 @@ mod tests {
             }),
             6
         );
-        assert_eq!(accept(&SMALL.pack(), &[3, 3, 3]).map(|_| ()), Ok(()));
-        assert_eq!(accept(&SMALL.pack(), &[3, 3, 4]).map(|_| ()), refuse(7, 0));
+        assert_eq!(accept(1, &SMALL.pack(), &[3, 3, 3]).map(|_| ()), Ok(()));
+        assert_eq!(
+            accept(1, &SMALL.pack(), &[3, 3, 4]).map(|_| ()),
+            refuse(7, 0)
+        );
+        for copies in (0..100).chain([1 << 32 | 1, u64::MAX]) {
+            let accepted = accept(copies, &SMALL.pack(), &[3, 3, 3]).map(|_| ());
+            let wanted = match copies {
+                1 | 2 | 3 | 4 | 8 | 16 | 32 => Ok(()),
+                _ => refuse(20, 0),
+            };
+            assert_eq!(accepted, wanted);
+        }
+        assert_eq!(accept(5, &SMALL.pack(), &[4]).map(|_| ()), refuse(7, 0));
         for len in [0, 7, 9] {
-            assert_eq!(Run::of(&vec![0; len]).map(|_| ()), refuse(1, 0));
+            assert_eq!(Run::of(1, &vec![0; len]).map(|_| ()), refuse(1, 0));
         }
     }
 
@@ -616,10 +702,10 @@ mod tests {
     #[test]
     fn marker_before_length() {
         let header = SMALL.pack();
-        assert_eq!(write(&header, &[4], &[], 0), refuse(7, 0));
-        assert_eq!(write(&header, &[3], &[], 0), refuse(8, 0));
-        assert_eq!(write(&header, &[0, 1, 2, 4], &[], 0), refuse(8, 0));
-        assert_eq!(write(&header, &[], &[], 0), refuse(8, 0));
+        assert_eq!(write(1, &header, &[4], &[], 0), refuse(7, 0));
+        assert_eq!(write(1, &header, &[3], &[], 0), refuse(8, 0));
+        assert_eq!(write(1, &header, &[0, 1, 2, 4], &[], 0), refuse(8, 0));
+        assert_eq!(write(1, &header, &[], &[], 0), refuse(8, 0));
     }
 
     /// The only runs with no fill.
@@ -672,13 +758,60 @@ mod tests {
 
     #[test]
     fn written_runs_are_read() {
-        for header in [SMALL, TWO_WORDS] {
-            let run = run(header);
+        for (header, copies) in [SMALL, TWO_WORDS]
+            .into_iter()
+            .flat_map(|h| FACTORS.map(|k| (h, k)))
+        {
+            let run = run(Header { copies, ..header });
             let (header, marker) = (header.pack(), &[3, 0, 1][..run.marker]);
             let frames = sample(run.frames_len());
-            let slots = write(&header, marker, &frames, run.slots_len()).unwrap();
+            let slots = write(copies, &header, marker, &frames, run.slots_len()).unwrap();
             assert_eq!(slots.len(), run.slots_len());
-            assert_eq!(read(&header, marker, &slots, frames.len()), Ok(frames));
+            assert_eq!(
+                read(copies, &header, marker, &slots, frames.len()),
+                Ok(frames)
+            );
+        }
+    }
+
+    /// Each symbol is sent k times in a row, not the run k times.
+    #[test]
+    fn copies_in_a_row() {
+        let run = run(Header { copies: 3, ..SMALL });
+        assert_eq!(
+            slots_of_symbols(&run, &[2, 0]),
+            word::pack(&bits("00100 00100 00100 10000 10000 10000"))
+        );
+    }
+
+    /// The slots of the copies, and the symbol where there is one.
+    #[test]
+    fn pooled_by_hand() {
+        for (slots, symbol) in [
+            ("00100", Some(2)),
+            ("00101", None),
+            ("00100 00010", None),
+            ("00100 00000", Some(2)),
+            ("11111 00100", Some(2)),
+            ("00100 00001", None),
+            ("00000 00000", None),
+            ("00100 00100 00010", Some(2)),
+            ("00100 00001 00001", None),
+            ("01100 00100 01000", None),
+            ("10000 10000 01000 00100", Some(0)),
+            ("10000 10000 01000 01000", None),
+        ] {
+            let copies = slots.split(' ').count() as u64;
+            let run = run(Header { copies, ..SMALL });
+            let mut all = bits(slots);
+            all.resize(run.slots(), true); // each slot of the later symbols: none can be told
+            let told = symbols_of_slots(&run, &word::pack(&all));
+            assert_eq!(told, refuse(10, usize::from(symbol.is_some())));
+            let marker = vec![symbol.unwrap_or(0); run.symbols()];
+            let mut all = word::unpack(&slots_of_symbols(&run, &marker));
+            all[..bits(slots).len()].copy_from_slice(&bits(slots));
+            let told = symbols_of_slots(&run, &word::pack(&all));
+            assert_eq!(told, symbol.map_or(refuse(10, 0), |_| Ok(marker)));
         }
     }
 
@@ -690,7 +823,7 @@ mod tests {
         let run = run(TWO_WORDS);
         let frames = sample(run.frames_len());
         assert_eq!((run.blocks(), run.marked_bits()), (2, 4032));
-        let read = |slots: &[u8]| read(&header, marker, slots, frames.len());
+        let read = |slots: &[u8]| read(1, &header, marker, slots, frames.len());
         let read_symbols = |symbols: &[u8]| read(&slots_of_symbols(&run, symbols));
         let read_words =
             |words: &[Vec<u8>]| read_symbols(&mark(&run, &places(&run, words), marker));

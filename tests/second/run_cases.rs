@@ -7,6 +7,7 @@
 
 mod calls;
 mod captures;
+mod copies;
 mod damages;
 mod edges;
 mod headers;
@@ -21,14 +22,14 @@ pub use kinds::Met;
 pub use sample::Sample;
 
 use crate::compare::{Rng, Tally, Way};
-use crate::run::{Header, Run};
+use crate::run::Header;
 use calls::{compare, compare_read, compare_write, Arguments};
-use damages::{damages_from, Damage, DAMAGES, NONE};
+use damages::{damages_from, Damage, DAMAGE_COUNT, NONE};
 use headers::{any_header, some_header};
-use refusals::refused_call;
+use refusals::{refused_call, REFUSED_ORDER};
 
 /// One turn of every kind of damage at each m, which meets every number.
-pub const LEAST_RUNS: u64 = 7 * 4 * DAMAGES.len() as u64;
+pub const LEAST_RUNS: u64 = 7 * 4 * DAMAGE_COUNT as u64;
 
 /// Writes the sample, reads it with the first of the damages that it can have, and puts a call that
 /// fails question `first` beside.
@@ -57,8 +58,9 @@ pub fn compare_run(tally: &mut Tally, rng: &mut Rng, sizes: &Sizes, index: u64) 
     // a quarter of the runs stay sound
     let sound = (index / 7 % 4 == 0).then_some(&NONE);
     let damages = sound.into_iter().chain(damages_from(index));
-    let (first, what) = (1 + index % 8, format!("run {index}"));
-    compare_sample(tally, rng, &sample, damages, first as u8, &what);
+    let first = REFUSED_ORDER[index as usize % REFUSED_ORDER.len()];
+    let what = format!("run {index}");
+    compare_sample(tally, rng, &sample, damages, first, &what);
     sample
 }
 
@@ -70,12 +72,12 @@ const ANY_MOST: usize = 16 << 20;
 pub fn compare_any(tally: &mut Tally, rng: &mut Rng, sizes: &Sizes, index: u64) {
     let what = format!("any header {index}");
     let header = any_header(rng, sizes);
-    match Run::of(&header.pack()) {
-        Ok(run) if run.slots_len() <= ANY_MOST => {
+    match header.run() {
+        Ok(run) if run.is_factor() && run.slots_len() <= ANY_MOST => {
             let sample = Sample::new(rng, header);
             let sound = (rng.below(4) == 0).then_some(&NONE);
             let damages = sound.into_iter().chain(damages_from(rng.next()));
-            let first = 1 + rng.below(8) as u8;
+            let first = rng.pick(&REFUSED_ORDER);
             compare_sample(tally, rng, &sample, damages, first, &what);
         }
         _ => compare_slices(tally, rng, header, &what),
@@ -94,6 +96,7 @@ fn compare_slices(tally: &mut Tally, rng: &mut Rng, header: Header, what: &str) 
         };
         let (input_len, output_len) = (rng.below(4096), rng.below(4096));
         let arguments = Arguments {
+            copies: header.copies,
             header: &packed,
             marker: &marker,
             input: &rng.bytes(input_len),

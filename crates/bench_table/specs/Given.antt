@@ -19,13 +19,15 @@ below : (mark order : ℕ) → mark < order → (i : ℕ) → getD (mark ∷ rep
 below mark order h zero = h
 below mark order h (suc i) = let z = zeros 31 i in omega arith
 
-fine : (m mark : ℕ) → 2 ≤ m → m ≤ 8 → 15120 / m * m ≡ 15120 → mark < 2 ^ m → Fine (plan m mark)
-fine m mark least most whole h =
+fine : (copies m mark : ℕ) → 1 ≤ copies → copies ≤ 32 → 2 ≤ m → m ≤ 8 → 15120 / m * m ≡ 15120 → mark < 2 ^ m → Fine (plan copies m mark)
+fine copies m mark some few least most whole h =
     let order : 2 ^ m ≤ 2 ^ 8 = pow-mono most in
     let symbols : 15120 / m ≤ 15120 = div-le-self 15120 m in
     let unit : 1 * (15120 / m + 1) ≤ 15121 = omega arith in
     let group : 2 ^ m + 2 ^ m / 4 ≤ 320 = omega arith in
     record {
+      copies-least = some;
+      copies-most = few;
       bits-least = least;
       bits-most = most;
       order-is = refl;
@@ -45,8 +47,11 @@ fine m mark least most whole h =
       slots-bound = omega (arith, mul-le-mul unit group);
     }
 
-pub given-symbol : Given (plan 4 0) (packed 0b1101_0000)
-given-symbol = record { fine = fine 4 0 (omega arith) (omega arith) refl (omega arith); long = omega (arith, length-replicate {A = ℕ} 1889 0) }
+pub given-symbol : Given (plan 1 4 0) (packed 0b1101_0000)
+given-symbol = record { fine = fine 1 4 0 (omega arith) (omega arith) (omega arith) (omega arith) refl (omega arith); long = omega (arith, length-replicate {A = ℕ} 1889 0) }
 
-pub given-slots : Given (plan 2 2) (packed 0)
-given-slots = record { fine = fine 2 2 (omega arith) (omega arith) refl (omega arith); long = omega (arith, length-replicate {A = ℕ} 1889 0) }
+pub given-slots : Given (plan 1 2 2) (packed 0)
+given-slots = record { fine = fine 1 2 2 (omega arith) (omega arith) (omega arith) (omega arith) refl (omega arith); long = omega (arith, length-replicate {A = ℕ} 1889 0) }
+
+pub given-copies : Given (plan 2 2 2) (packed 0)
+given-copies = record { fine = fine 2 2 2 (omega arith) (omega arith) (omega arith) (omega arith) refl (omega arith); long = omega (arith, length-replicate {A = ℕ} 1889 0) }

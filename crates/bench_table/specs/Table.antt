@@ -29,9 +29,10 @@ row a b = record { computed = a; listed = b }
 abbrev these : List ℕ → ℕ → ℕ
 these xs i = getD xs i 0
 
--- a run of one word at m bits to a symbol, not spread (N = 1), with one marker symbol
-abbrev pub plan : ℕ → ℕ → Plan
-plan m mark = record {
+-- a run of one word at m bits to a symbol, not spread (N = 1), with one marker symbol, each symbol sent so many times
+abbrev pub plan : ℕ → ℕ → ℕ → Plan
+plan copies m mark = record {
+  copies = copies;
   bits = m;
   order = 2 ^ m;
   group = 2 ^ m + 2 ^ m / 4;
@@ -68,9 +69,9 @@ table =
     -- step 6: the accumulator of 1101
     ∷ row (val (accumulate (these (1 ∷ 1 ∷ 0 ∷ 1 ∷ []))) 4) 0b1001
     -- step 8, after step 6: the symbol that bits 1101 are at m = 4
-    ∷ row (dataAt (plan 4 0) (piece wordBytes (packed 0b1101_0000)) 0) 13
+    ∷ row (dataAt (plan 1 4 0) (piece wordBytes (packed 0b1101_0000)) 0) 13
     -- step 10: the slots of symbol 2 at M = 4, its guard slot last; it is the marker symbol, so that they are the run's first
-    ∷ row (val (slotBit (plan 2 2) (piece wordBytes (packed 0))) (plan 2 2 .group)) 0b0010_0
+    ∷ row (val (slotBit (plan 1 2 2) (piece wordBytes (packed 0))) (plan 1 2 2 .group)) 0b0010_0
     ∷ []
 
 pub rows : length table ≡ 14
@@ -79,3 +80,8 @@ rows = refl
 pub bench : map (λ r. r .computed) table ≡ map (λ r. r .listed) table
 unfolding val sequence window next place register advance encode stepOf first second delay inputsPer codedPer accumulate bitAt channel.dataAt channel.marked pulses.slotBit
 bench = refl
+
+-- beside the table: the same symbol, sent twice
+pub sent-twice : val (slotBit (plan 2 2 2) (piece wordBytes (packed 0))) 10 ≡ 0b0010_0_0010_0
+unfolding val bitAt channel.dataAt channel.marked pulses.slotBit
+sent-twice = refl

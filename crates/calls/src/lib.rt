@@ -57,22 +57,34 @@ pub extern "C" fn bit_spread(rate: u64, bit: u64, places: &mut [u8]) -> u64
     answers::code(spread::mark(rate, bit, places))
 }
 
-// Frames to slots (steps 1, 7, 2 to 6, and 8 to 10).
+// Frames to slots (steps 1, 7, 2 to 6, and 8 to 10), each symbol sent `copies` times.
 #[no_mangle]
-pub extern "C" fn run_write(header: &[u8], marker: &[u8], frames: &[u8], slots: &mut [u8]) -> u64
-    ensures { λ r. ⌜ r ≡ codeOf (runs.writeSays (now (header .entry)) (now (marker .entry)) (now (frames .entry)) (length (now (slots .entry)))) ⌝ }
-    ensures { λ _. ⌜ now (slots .exit) ≡ slotsAfter (now (header .entry)) (now (marker .entry)) (now (frames .entry)) (now (slots .entry)) ⌝ }
+pub extern "C" fn run_write(
+    copies: u64,
+    header: &[u8],
+    marker: &[u8],
+    frames: &[u8],
+    slots: &mut [u8],
+) -> u64
+    ensures { λ r. ⌜ r ≡ codeOf (runs.writeSays copies (now (header .entry)) (now (marker .entry)) (now (frames .entry)) (length (now (slots .entry)))) ⌝ }
+    ensures { λ _. ⌜ now (slots .exit) ≡ slotsAfter copies (now (header .entry)) (now (marker .entry)) (now (frames .entry)) (now (slots .entry)) ⌝ }
 {
-    answers::code(run_writer::write(header, marker, frames, slots))
+    answers::code(run_writer::write(copies as usize, header, marker, frames, slots))
 }
 
-// Slots back to frames, if some frames make them.
+// Slots back to frames, if the symbols that their copies pool to are those of some frames.
 #[no_mangle]
-pub extern "C" fn run_read(header: &[u8], marker: &[u8], slots: &[u8], frames: &mut [u8]) -> u64
-    ensures { λ r. ⌜ r ≡ codeOf (runs.readSays (now (header .entry)) (now (marker .entry)) (now (slots .entry)) (length (now (frames .entry)))) ⌝ }
-    ensures { λ _. ⌜ now (frames .exit) ≡ framesAfter (now (header .entry)) (now (marker .entry)) (now (slots .entry)) (now (frames .entry)) ⌝ }
+pub extern "C" fn run_read(
+    copies: u64,
+    header: &[u8],
+    marker: &[u8],
+    slots: &[u8],
+    frames: &mut [u8],
+) -> u64
+    ensures { λ r. ⌜ r ≡ codeOf (runs.readSays copies (now (header .entry)) (now (marker .entry)) (now (slots .entry)) (length (now (frames .entry)))) ⌝ }
+    ensures { λ _. ⌜ now (frames .exit) ≡ framesAfter copies (now (header .entry)) (now (marker .entry)) (now (slots .entry)) (now (frames .entry)) ⌝ }
 {
-    answers::code(run_reader::read(header, marker, slots, frames))
+    answers::code(run_reader::read(copies as usize, header, marker, slots, frames))
 }
 
 // The start of a capture: the earliest slot at which the whole marker stands is the place of an accepted answer.

@@ -1,2 +1,3 @@
 pub mod Taken
 pub mod Passing
+pub mod Once

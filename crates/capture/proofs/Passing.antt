@@ -5,22 +5,22 @@ use mathlib.Core.List.{List}
 use mathlib.Core.Logic.{⊎-elim}
 use Prim.Native.Nat.{ℕ, _+_, _-_, _*_, _/_, _%_, _≤_, _<_}
 use native.Mathlib.Omega.{arith}
-use native.Mathlib.Nat.{le-refl, mul-le-mul, mod-lt, div-add-mod', div-lt-iff-lt-mul, le-div-iff-mul-le}
+use native.Mathlib.Nat.{le-refl, mul-le-mul, mul-assoc, mul-comm, mod-lt, div-add-mod', div-lt-iff-lt-mul, le-div-iff-mul-le}
 use lib.Dec.{ltb}
 use lib.ListN.{length}
 use borrow.Author.Tests.{lt-ltb}
 use Rattle.bits.specs.Choice.{lt-or-le}
 use Rattle.bits.specs.First.{upTo, first-skip, first-end, part-fails, part-passes}
 use Rattle.sizes.specs.Sizes.{wordBits}
-use Rattle.pulses.specs.Pulses as pulses
-use Rattle.pulses.specs.Pulses.{grouped}
 use Rattle.pulses.specs.Zeros.{Zeros, Same, whole-groups, some-groups, forty-at, forty-zeros}
 use Rattle.pulses.specs.Needs.{sizes}
+use Rattle.pool.specs.Pooled as pool
+use Rattle.pool.specs.Laws.{pooled-copies}
 use Rattle.slots.specs.Bounds.{bounds, shape}
 use Rattle.plan.specs.declared.Plan.{Plan}
-use Rattle.plan.specs.Plan.{Fine, unit, total, symbolCount, slotBytes}
+use Rattle.plan.specs.Plan.{Fine, unit, total, symbolCount, sent, slotBytes}
 use Rattle.channel.specs.Markers.{rest-zero}
-use Rattle.capture.specs.Capture.{symbolIn, restZero, firstBadGroup, firstBadRest}
+use Rattle.capture.specs.Capture.{pooledIn, restZero, decidedIn, firstBadGroup, firstBadRest}
 use Rattle.capture.specs.Pass.{Known}
 use Rattle.capture.specs.Taking.{Took}
 use Rattle.capture.proofs.Taken.{took-zeros}
@@ -31,7 +31,7 @@ module _ (p : Plan) (fine : Fine p) (b : List ℕ) where
 
   module _ (from to rest : ℕ) (words : List ℕ) (known : Known p b from rest words) (order : from ≤ to) (most : to ≤ symbolCount p) where
     -- these symbols are 0
-    pub known-zeros : ((k : ℕ) → from ≤ k → k < to → symbolIn p b k ≡ 0) → Known p b to rest words
+    pub known-zeros : ((k : ℕ) → from ≤ k → k < to → pooledIn p b k ≡ 0) → Known p b to rest words
     known-zeros h =
         let s : from + (to - from) ≡ to = omega arith in
         record {
@@ -39,7 +39,7 @@ module _ (p : Plan) (fine : Fine p) (b : List ℕ) where
           most = known .most;
           ahead = λ q. ap (λ (x : ℕ). upTo (restZero p b) x (symbolCount p)) (sym s)
               ∙ first-skip (restZero p b) (to - from) (symbolCount p) from (omega arith)
-              (λ k a l. rest-zero (p .rows) (p .step) (total p) (p .symbols) (p .markers) (symbolIn p b) k (h k a (omega arith)))
+              (λ k a l. rest-zero (p .rows) (p .step) (total p) (p .symbols) (p .markers) (pooledIn p b) k (h k a (omega arith)))
               ∙ known .ahead q;
           here = known .here;
           took = λ q. took-zeros p fine b words from to order h (known .took q);
@@ -85,20 +85,23 @@ module _ (p : Plan) (fine : Fine p) (b : List ℕ) where
 
 -- ---- both questions
 
--- all groups before s are good, and this is known of question 12
+swap : (a x y : ℕ) → a * x * y ≡ a * y * x
+swap a x y = mul-assoc a x y ∙ ap (λ (v : ℕ). a * v) (mul-comm x y) ∙ sym (mul-assoc a y x)
+
+-- all symbols before s are decided, and this is known of question 12
 pub record Upto (p : Plan) (b : List ℕ) (s rest : ℕ) (words : List ℕ) : Type 0 where
-  pub groups : upTo (grouped (p .order) (p .group) b) s (symbolCount p) ≡ upTo (grouped (p .order) (p .group) b) 0 (symbolCount p)
+  pub groups : upTo (decidedIn p b) s (symbolCount p) ≡ upTo (decidedIn p b) 0 (symbolCount p)
   pub known : Known p b s rest words
 
 module _ (p : Plan) (fine : Fine p) (b : List ℕ) where
   abbrev good : ℕ → Bool
-  good = grouped (p .order) (p .group) b
+  good = decidedIn p b
 
   pub upto-start : (words : List ℕ) → Took p b 0 words → Upto p b 0 (symbolCount p) words
   upto-start words t = record { groups = refl; known = known-start p fine b words t }
 
   module _ (from to rest : ℕ) (words : List ℕ) (u : Upto p b from rest words) (order : from ≤ to) (most : to ≤ symbolCount p) where
-    pub upto-zeros : ((k : ℕ) → from ≤ k → k < to → symbolIn p b k ≡ 0) → Upto p b to rest words
+    pub upto-zeros : ((k : ℕ) → from ≤ k → k < to → pooledIn p b k ≡ 0) → Upto p b to rest words
     upto-zeros h =
         let s : from + (to - from) ≡ to = omega arith in
         let one : 0 < p .order = let k = bounds p fine .order-least in omega arith in
@@ -111,39 +114,50 @@ module _ (p : Plan) (fine : Fine p) (b : List ℕ) where
 
     module _ (r : ℕ) (e : r ≡ upTo good from to) where
       pub upto-bad : r < to → r ≡ firstBadGroup p b
-      unfolding pulses.firstBadGroup
+      unfolding pool.firstUndecided
       upto-bad l = part-fails good from to (symbolCount p) r order most e l ∙ u .groups
 
       pub upto-good : to ≤ r → (found : ℕ) (after : List ℕ) → Known p b to found after → Upto p b to found after
       upto-good l found after k = record { groups = part-passes good from to (symbolCount p) r order most e l ∙ u .groups; known = k }
 
   pub upto-end : (s rest : ℕ) (words : List ℕ) → s ≡ symbolCount p → Upto p b s rest words → (symbolCount p ≡ firstBadGroup p b) × Known p b (symbolCount p) rest words
-  unfolding pulses.firstBadGroup
+  unfolding pool.firstUndecided
   upto-end s rest words e u =
       (sym (first-end good (symbolCount p) s (omega arith) (omega arith)) ∙ u .groups, rw e at (u .known))
 
-  -- the groups in forties of bytes that are zeros'
-  pub forties-zero : (given : List ℕ) → Zeros (p .group) given → (c e : ℕ) → ((k : ℕ) → c ≤ k → k < e → Same b (40 * k) given 40)
-      → (k : ℕ) → c * (320 / p .group) ≤ k → k < e * (320 / p .group) → symbolIn p b k ≡ 0
-  forties-zero given zeros c e same k a l =
+  -- the symbols in parts whose forties are all zeros'
+  pub parts-zero : (given : List ℕ) → Zeros (p .group) given → (c e : ℕ) → ((k : ℕ) → c * p .copies ≤ k → k < e * p .copies → Same b (40 * k) given 40)
+      → (k : ℕ) → c * (320 / p .group) ≤ k → k < e * (320 / p .group) → pooledIn p b k ≡ 0
+  parts-zero given zeros c e same k a l =
       let n : ℕ = 320 / p .group in
       let pos : 0 < n = some-groups (p .order) (p .group) (shape p fine) in
-      let d = div-add-mod' k n in
-      let m : k % n < n = mod-lt k pos in
-      forty-zeros (p .order) (p .group) (shape p fine) (k / n) b given zeros (same (k / n) (le-div-iff-mul-le pos .1 a) (div-lt-iff-lt-mul pos .1 l)) k (omega arith) (omega arith)
+      let one : 0 < p .order = let z = bounds p fine .order-least in omega arith in
+      let first : c * n * p .copies ≤ k * p .copies = mul-le-mul a (le-refl (p .copies)) in
+      let last : (k + 1) * p .copies ≤ e * n * p .copies = mul-le-mul (let m : k + 1 ≤ e * n = omega arith in m) (le-refl (p .copies)) in
+      let from : c * p .copies * n ≡ c * n * p .copies = swap c (p .copies) n in
+      let to : e * p .copies * n ≡ e * n * p .copies = swap e (p .copies) n in
+      pooled-copies b (p .copies) (p .group) (p .order) k 0 (fine .copies-least) (bounds p fine .group-least) one (λ i h.
+      let u : ℕ = k * p .copies + i in
+      let low : c * p .copies * n ≤ u = omega arith in
+      let high : u < e * p .copies * n = omega arith in
+      let d = div-add-mod' u n in
+      let m : u % n < n = mod-lt u pos in
+      forty-zeros (p .order) (p .group) (shape p fine) (u / n) b given zeros (same (u / n) (le-div-iff-mul-le pos .1 low) (div-lt-iff-lt-mul pos .1 high)) u (omega arith) (omega arith))
 
-  -- they lie within the slots
-  pub forties-in : length b ≡ slotBytes p → 40 * (symbolCount p / (320 / p .group)) ≤ length b
-  forties-in long =
+  -- the parts lie within the slots
+  pub parts-in : length b ≡ slotBytes p → 40 * (symbolCount p / (320 / p .group) * p .copies) ≤ length b
+  parts-in long =
       let n : ℕ = 320 / p .group in
       let c : ℕ = symbolCount p / n in
       let d = div-add-mod' (symbolCount p) n in
-      let at = forty-at (p .order) (p .group) (shape p fine) c 0 in
-      let some : c * n + 0 ≤ symbolCount p = omega arith in
-      let all : (c * n + 0) * p .group ≤ symbolCount p * p .group = mul-le-mul some (le-refl (p .group)) in
+      let at = forty-at (p .order) (p .group) (shape p fine) (c * p .copies) 0 in
+      let some : c * n ≤ symbolCount p = omega arith in
+      let copied : c * n * p .copies ≤ sent p = mul-le-mul some (le-refl (p .copies)) in
+      let same : c * p .copies * n ≡ c * n * p .copies = swap c (p .copies) n in
+      let all : (c * p .copies * n + 0) * p .group ≤ sent p * p .group = mul-le-mul (let m : c * p .copies * n + 0 ≤ sent p = omega arith in m) (le-refl (p .group)) in
       omega arith
 
--- the groups in sixteen forties of bytes are no more than a line
+-- the symbols of sixteen parts are no more than a line
 pub few-groups : (p : Plan) → Fine p → 16 * (320 / p .group) ≤ unit p
 few-groups p fine =
     let o = sizes (p .order) (p .group) (shape p fine) .order-least in

@@ -23,7 +23,7 @@ use Rattle.plan.specs.declared.Plan.{Plan}
 use Rattle.plan.specs.Plan.{Fine, unit, total, symbolCount}
 use Rattle.slots.specs.Bounds.{bounds}
 use Rattle.slots.specs.Slots.{place, symbolOf, hitBy}
-use Rattle.capture.specs.Capture.{symbolIn, dataIn, wordOut}
+use Rattle.capture.specs.Capture.{pooledIn, dataIn, wordOut}
 use Rattle.capture.specs.Needs.{Cleared}
 use Rattle.capture.specs.Taking.{takenBit, Took}
 
@@ -77,7 +77,7 @@ module _ (p : Plan) (fine : Fine p) (b : List ℕ) where
         record { room = k .room; right = λ y l. k .right y l ∙ taken-skip from to y order (h (y / p .bits) (of-bit y l)) }
 
     -- symbols that are 0
-    pub took-zeros : (from to : ℕ) → from ≤ to → ((k : ℕ) → from ≤ k → k < to → symbolIn p b k ≡ 0) → Took p b from words → Took p b to words
+    pub took-zeros : (from to : ℕ) → from ≤ to → ((k : ℕ) → from ≤ k → k < to → pooledIn p b k ≡ 0) → Took p b from words → Took p b to words
     took-zeros from to order h = took-skip from to order (λ t l a m. h (stands t) a m)
 
     -- marker symbols
@@ -116,7 +116,7 @@ module _ (p : Plan) (fine : Fine p) (b : List ℕ) where
           absurd (omega arith))
 
       -- what laying the symbol asks for
-      pub puts : hitBy p x < total p → symbolIn p b s < p .order → Took p b s words → Puts (hitBy p x) (p .bits) (symbolIn p b s) words
+      pub puts : hitBy p x < total p → pooledIn p b s < p .order → Took p b s words → Puts (hitBy p x) (p .bits) (pooledIn p b s) words
       puts hit small k =
           let t : ℕ = hitBy p x in
           let d : p .bits * t + p .bits ≤ p .words * wordBits = data-inside (p .bits) (p .symbols) (fine .symbols-are) (p .words) t hit in
@@ -131,7 +131,7 @@ module _ (p : Plan) (fine : Fine p) (b : List ℕ) where
             room = omega arith;
           }
 
-      pub took-hit : (after : List ℕ) → hitBy p x < total p → Put (hitBy p x) (p .bits) (symbolIn p b s) words after → Took p b s words → Took p b (s + 1) after
+      pub took-hit : (after : List ℕ) → hitBy p x < total p → Put (hitBy p x) (p .bits) (pooledIn p b s) words after → Took p b s words → Took p b (s + 1) after
       unfolding takenBit
       took-hit after hit put k =
           let t : ℕ = hitBy p x in
@@ -143,7 +143,7 @@ module _ (p : Plan) (fine : Fine p) (b : List ℕ) where
                 let st : stands (y / p .bits) ≡ s = ap stands e ∙ here in
                 let up : s < s + 1 = omega arith in
                 let past : s ≤ s = omega arith in
-                let v : ℕ = symbolIn p b s / 2 ^ (p .bits - 1 - y % p .bits) % 2 in
+                let v : ℕ = pooledIn p b s / 2 ^ (p .bits - 1 - y % p .bits) % 2 in
                 let zero : bitAt words y ≡ 0 = k .right y l ∙ rw (st, le-ltb s s past) refl in
                 put .here y e
                 ∙ ap (λ (u : ℕ). bitXor u v) zero

@@ -7,7 +7,7 @@ use lib.Dec.{eqb}
 use lib.ListN.{length}
 use borrow.Author.Tests.{eq-eqb, ne-eqb}
 use Rattle.plan.specs.declared.Plan.{Plan}
-use Rattle.plan.specs.Plan.{symbolCount}
+use Rattle.plan.specs.Plan.{symbolCount, sent}
 use Rattle.answers.specs.declared.Answer.{Answer}
 use Rattle.answers.specs.declared.Answer.the-variants.{No}
 use Rattle.answers.specs.Answer.{ask, then}
@@ -25,11 +25,11 @@ slotsSay p b =
 
 -- each answer from what was found
 module _ (p : Plan) (b : List ℕ) where
-  pub say-spare : (q : ℕ) → q ≡ firstOne b (symbolCount p * p .group) (8 * length b) → (q ≡ 8 * length b → ⊥) → No 9 0 ≡ slotsSay p b
+  pub say-spare : (q : ℕ) → q ≡ firstOne b (sent p * p .group) (8 * length b) → (q ≡ 8 * length b → ⊥) → No 9 0 ≡ slotsSay p b
   unfolding slotsSay pulses.spareEmpty
   say-spare q e h = rw (← e, ne-eqb q (8 * length b) h) refl
 
-  pub spare-empty : (q : ℕ) → q ≡ firstOne b (symbolCount p * p .group) (8 * length b) → q ≡ 8 * length b → spareEmpty p b ≡ true
+  pub spare-empty : (q : ℕ) → q ≡ firstOne b (sent p * p .group) (8 * length b) → q ≡ 8 * length b → spareEmpty p b ≡ true
   unfolding pulses.spareEmpty
   spare-empty q e h = rw (← e) (eq-eqb q (8 * length b) h)
 

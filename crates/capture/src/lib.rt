@@ -2,6 +2,7 @@
 mod marks;
 mod pass;
 mod places;
+mod symbols;
 
 use answers::Answer;
 ghost use mathlib.Core.Path.{_≡_};
@@ -21,7 +22,7 @@ pub fn judge(p: plan::Plan, b: &[u8], words: &mut [u8]) -> Answer
 {
     let n = p.lines * (p.symbols + p.markers);
     let end = 8 * b.len();
-    if bits::scan::first_one(b, n * p.group, end) != end {
+    if bits::scan::first_one(b, n * p.copies * p.group, end) != end {
         return Answer::No(9, 0);
     }
     let found = pass::find(p, b, words);

@@ -7,14 +7,14 @@ ghost use Rattle.plan.specs.Plan.{unit};
 ghost use Rattle.capture.specs.Needs.{Grouped};
 ghost use Rattle.capture.specs.Capture.{markRight, firstBadMark};
 
-// Marker symbol w of a line. Each group has one pulse, so that the slot of the right symbol tells.
+// Marker symbol w of a line.
 fn mark_right(p: plan::Plan, b: &[u8], line: usize, w: usize) -> u8
     requires { ⌜ Grouped p (now b) × (line < p .lines) × (w < p .markers) ⌝ }
     ensures { λ r. ⌜ r ≡ bool (markRight p (now (b .entry)) (line * unit p + w)) ⌝ }
 {
     let s = line * (p.symbols + p.markers) + w;
     let q = p.marks[w] as usize;
-    bits::packing::bit_at(b, s * p.group + q)
+    crate::symbols::is_symbol(p, b, s, q)
 }
 
 // The first wrong marker symbol of a line, or the symbol behind them.

@@ -5,14 +5,13 @@ ghost use Rattle.bits.specs.Choice.{bool};
 ghost use Rattle.bits.specs.First.{upTo};
 ghost use Rattle.plan.specs.Plan.{unit};
 ghost use Rattle.capture.specs.Needs.{Captured, Stretch};
-ghost use Rattle.capture.specs.Capture.{symbolIn, restZero};
+ghost use Rattle.capture.specs.Capture.{pooledIn, restZero};
 ghost use Rattle.capture.specs.Taking.{Took};
 ghost use Rattle.capture.specs.Pass.{Known};
 
-// Place i of a line, which is c modulo N, of all places. Its group has one pulse, so that the first
-// slot tells of a 0.
+// Place i of a line, which is c modulo N, of all places.
 fn take_place(p: plan::Plan, b: &[u8], line: usize, i: usize, c: usize, words: &mut [u8]) -> u8
-    requires { ⌜ Captured p (now b) × (line < p .lines) × (i < p .symbols) × (c ≡ (line * p .symbols + i) % p .rows) × (symbolIn p (now b) (line * unit p + (p .markers + i)) < p .order) × Took p (now b) (line * unit p + (p .markers + i)) (now words) ⌝ }
+    requires { ⌜ Captured p (now b) × (line < p .lines) × (i < p .symbols) × (c ≡ (line * p .symbols + i) % p .rows) × (pooledIn p (now b) (line * unit p + (p .markers + i)) < p .order) × Took p (now b) (line * unit p + (p .markers + i)) (now words) ⌝ }
     ensures { λ r. ⌜ r ≡ bool (restZero p (now (b .entry)) (line * unit p + (p .markers + i))) ⌝ }
     ensures { λ _. ⌜ Took p (now (b .entry)) (line * unit p + (p .markers + i) + 1) (now (words .exit)) ⌝ }
 {
@@ -21,11 +20,11 @@ fn take_place(p: plan::Plan, b: &[u8], line: usize, i: usize, c: usize, words: &
     let s = line * (symbols + p.markers) + (p.markers + i);
     let t = channel::hit_by(p.rows, p.step, total, line * symbols + i, c);
     if t < total {
-        let q = pulses::numbers::seen(p.order, p.group, b, s);
+        let q = crate::symbols::symbol(p, b, s);
         channel::put_symbol(words, t, p.bits, q);
         return 1;
     }
-    bits::packing::bit_at(b, s * p.group)
+    crate::symbols::is_symbol(p, b, s, 0)
 }
 
 // The symbols of a line from `from` on up to `to`: the first that stands at a place that is not hit

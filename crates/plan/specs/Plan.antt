@@ -1,4 +1,4 @@
--- What steps 8 to 10 ask of a run, from the checked parameters, and what it is known to be where all questions are answered yes.
+-- What steps 8 to 10 ask of a run, from the factor and the checked parameters, and what it is known to be where all questions are answered yes.
 use mathlib.Core.Path.{_≡_}
 use mathlib.Core.List.{List}
 use Prim.Native.Nat.{ℕ, _+_, _-_, _*_, _/_, _^_, _≤_, _<_}
@@ -10,8 +10,9 @@ use Rattle.quantities.specs.Quantities as quantities
 use Rattle.parameters.specs.declared.Parameters.{Parameters}
 use Rattle.plan.specs.declared.Plan.{Plan}
 
-unfoldable pub planOf : Parameters → Plan
-planOf q = record {
+unfoldable pub planOf : ℕ → Parameters → Plan
+planOf copies q = record {
+  copies = copies;
   bits = q .fields .bits;
   order = quantities.pulseOrder (q .fields);
   group = quantities.slotsPerSymbol (q .fields);
@@ -24,9 +25,9 @@ planOf q = record {
   marks = q .marks;
 }
 
--- a header with its marker symbols
-abbrev pub planIn : List ℕ → List ℕ → Plan
-planIn header marker = planOf (parametersOf (fieldsOf header) marker)
+-- a factor, and a header with its marker symbols
+abbrev pub planIn : ℕ → List ℕ → List ℕ → Plan
+planIn copies header marker = planOf copies (parametersOf (fieldsOf header) marker)
 
 -- the symbols of a line with its markers
 abbrev pub unit : Plan → ℕ
@@ -39,11 +40,17 @@ total p = p .words * p .symbols
 abbrev pub symbolCount : Plan → ℕ
 symbolCount p = p .lines * unit p
 
+-- the symbols with their copies, as they are sent: number s·k + c is copy c of symbol s, where k is the factor
+abbrev pub sent : Plan → ℕ
+sent p = symbolCount p * p .copies
+
 -- the bytes of all slots, packed
 abbrev pub slotBytes : Plan → ℕ
-slotBytes p = (symbolCount p * p .group + 7) / 8
+slotBytes p = (sent p * p .group + 7) / 8
 
 pub record Fine (p : Plan) : Type 0 where
+  pub copies-least : 1 ≤ p .copies
+  pub copies-most : p .copies ≤ 32
   pub bits-least : 2 ≤ p .bits
   pub bits-most : p .bits ≤ 8
   pub order-is : p .order ≡ 2 ^ p .bits

@@ -3,19 +3,20 @@ use mathlib.Core.Path.{_≡_, refl, sym, ap, _∙_}
 use Prim.Native.Nat.{ℕ, _+_, _-_, _*_, _/_, _%_, _^_, _≤_, _<_}
 use native.Mathlib.Omega.{arith}
 use lib.Dec.{ltb, eqb, eqb→eq}
-use lib.Pow.{pow-add, pow-mono, shl-shr, shl-exact, high}
+use lib.Pow.{pow-add, pow-mono, shl-shr, shl-exact}
 use mathlib.Core.Bool.{true}
 use mathlib.Core.List.{List}
 use lib.ListN.{length}
 use mathlib.Core.Logic.{⊎-elim}
 use borrow.Author.Tests.{le-ltb}
-use Rattle.bits.specs.Choice.{pick, bool, lt-or-le}
+use Rattle.bits.specs.Choice.{pick, lt-or-le}
 use Rattle.bits.specs.Leading.{Leads}
-use Rattle.bits.specs.Pack.{val, bitAt, cut, Bits, bit-val, bit-lt, val-lt, cut-in, cut-bits}
-use Rattle.bits.specs.Parts.{val-split, val-cut, val-shift}
-use Rattle.bits.specs.Table.{allBelow, below-all}
+use Rattle.bits.specs.Pack.{val, bitAt, cut, Bits, bit-lt, cut-in, cut-bits}
+use Rattle.bits.specs.Parts.{val-shift}
+use Rattle.bits.specs.Table.{below-all}
 use Rattle.bits.specs.Window.{bitsFrom}
 use Rattle.pulses.specs.Groups.{group-made}
+use Rattle.pulses.specs.Lone.{lone-bits, kept}
 use Rattle.pulses.specs.Needs.{Order, Slots, Near, Far, sizes, held}
 use Rattle.pulses.specs.Pulses.{symbolIn}
 
@@ -28,27 +29,6 @@ power v r l e =
     let sum : 63 - r + r ≡ 63 = omega arith in
     let up : 2 ^ (63 - r) * 2 ^ r ≡ 2 ^ 63 = sym (pow-add 2 (63 - r) r) ∙ ap (λ (k : ℕ). 2 ^ k) sum in
     sym (shl-shr v r) ∙ ap (λ (k : ℕ). k / 2 ^ r) (whole ∙ sym up) ∙ shl-shr (2 ^ (63 - r)) r
-
--- its bits: a test of all cases, which antt computes
-one-bit : (r i : ℕ) → r < 64 → i < 64 → 2 ^ (63 - r) / 2 ^ (63 - i) % 2 ≡ bool (eqb i r)
-one-bit r i hr hi =
-    eqb→eq (2 ^ (63 - r) / 2 ^ (63 - i) % 2) (bool (eqb i r))
-    (below-all 64 (λ i. eqb (2 ^ (63 - r) / 2 ^ (63 - i) % 2) (bool (eqb i r)))
-    (below-all 64 (λ r. allBelow 64 (λ i. eqb (2 ^ (63 - r) / 2 ^ (63 - i) % 2) (bool (eqb i r)))) tt r hr) i hi)
-
-pub lone-bits : (f : ℕ → ℕ) → Bits f → (r : ℕ) → r < 64 → val f 64 ≡ 2 ^ (63 - r) → (i : ℕ) → i < 64 → f i ≡ bool (eqb i r)
-lone-bits f b r hr e i hi =
-    sym (bit-val f b (63 - i) i 64 (omega arith)) ∙ ap (λ (n : ℕ). n / 2 ^ (63 - i) % 2) e ∙ one-bit r i hr hi
-
--- the first g of 64 bits, by a shift down and up
-pub kept : (f : ℕ → ℕ) → Bits f → (g : ℕ) → g ≤ 64 → val f 64 / 2 ^ (64 - g) * 2 ^ (64 - g) % 2 ^ 64 ≡ val (cut g f) 64
-kept f b g h =
-    let d : ℕ = 64 - g in
-    let e : 64 ≡ g + d = omega arith in
-    let down : val f 64 / 2 ^ d ≡ val f g =
-    ap (λ (n : ℕ). val f n / 2 ^ d) e ∙ ap (λ (n : ℕ). n / 2 ^ d) (val-split f g d) ∙ high (val f g) d (val-lt (λ t. f (g + t)) (λ t. b (g + t)) d) in
-    let j : g + d ≤ 64 = omega arith in
-    ap (λ (n : ℕ). n * 2 ^ d % 2 ^ 64) down ∙ shl-exact g d 64 (val-lt f b g) j ∙ sym (val-cut f g 64 h)
 
 -- a group whose number has a single one, among its first M slots, has that symbol
 pub near-symbol : (order group : ℕ) (b : List ℕ) (s r : ℕ) → order ≤ group → group ≤ 40 → r < order

@@ -11,7 +11,7 @@ ghost use Rattle.pulses.specs.Needs.{Near, Far, Slots};
 ghost use Rattle.pulses.specs.Pulses.{symbolIn};
 
 // The zeros in front of the only one of 64 bits, or 64.
-fn lone(v: u64) -> usize
+pub fn lone(v: u64) -> usize
     ensures { λ r. ⌜ (r < 64 → v ≡ 2 ^ (63 - r)) ⌝ }
 {
     if v == 0 {
@@ -25,7 +25,7 @@ fn lone(v: u64) -> usize
 }
 
 // 1 for 0.
-fn none(v: u64) -> usize
+pub fn none(v: u64) -> usize
     ensures { λ r. ⌜ r ≡ bool (eqb v 0) ⌝ }
 {
     if v == 0 { 1 } else { 0 }

@@ -51,7 +51,7 @@ unfoldable pub findSays : List ℕ → List ℕ → List ℕ → Answer
 findSays header marker b =
     then (runSays header marker)
     (then (ask (lengthsRight (fieldsOf header) (length marker) (length b)) 8 0)
-    (slotSays (planIn header marker) b))
+    (slotSays (planIn 1 header marker) b))
 
 -- to C an acceptance goes with its slot as the place
 abbrev pub codeAt : Answer → ℕ → ℕ
@@ -59,4 +59,4 @@ codeAt Done slot = slot * 256
 codeAt (No number place) slot = codeOf (No number place)
 
 abbrev pub findCode : List ℕ → List ℕ → List ℕ → ℕ
-findCode header marker b = codeAt (findSays header marker b) (firstFit (planIn header marker) b)
+findCode header marker b = codeAt (findSays header marker b) (firstFit (planIn 1 header marker) b)

@@ -9,19 +9,17 @@ use native.Mathlib.Nat.{le-refl, mul-le-mul, mul-assoc, mod-lt, mod-eq-of-lt, di
 use lib.Dec.{ltb}
 use lib.ListN.{length}
 use borrow.Author.Tests.{lt-ltb, le-ltb, eq-eqb, ne-eqb}
-use Rattle.bits.specs.Change.{flipBit, Ends}
+use Rattle.bits.specs.Change.{Ends}
 use Rattle.bits.specs.Choice.{pick, lt-or-le, eq-or-ne}
 use Rattle.bits.specs.Pack.{bitAt, Bytes, bytes-made, cut, cut-in, cut-past}
 use Rattle.channel.specs.Markers.{line-in, line-place}
 use Rattle.channel.specs.Places.{delay, source, hit-is, placed-hit, placed-rest, same-apart}
 use Rattle.pulses.specs.Pulses as pulses
 use Rattle.plan.specs.declared.Plan.{Plan}
-use Rattle.plan.specs.Plan.{Fine, unit, total, symbolCount, slotBytes}
+use Rattle.plan.specs.Plan.{Fine, unit, total, symbolCount, sent, slotBytes}
 use Rattle.slots.specs.Bounds.{Bounds, bounds, delay-most}
-use Rattle.slots.specs.Laws.{placed-below}
 use Rattle.slots.specs.Slots.{dataAt, hitBy, placed, symbolAt, slotBit, slotsOf}
-use Rattle.slots.specs.Writing.{Holds, front, lineEnd, stride, sooner, soFar}
-use Rattle.slots.proofs.Moves.{holds-moved}
+use Rattle.slots.specs.Writing.{Holds, Moved, front, lineEnd, stride, sooner, soFar}
 
 -- ---- lines
 
@@ -35,49 +33,53 @@ pub record Sizes (p : Plan) (j r : ℕ) : Type 0 where
   pub stride-least : 1 ≤ stride (p .rows)
   pub stride-most : stride (p .rows) ≤ 128
 
--- the slots of the symbols before line j lie within
-pub line-end-inside : (p : Plan) (j : ℕ) → j ≤ p .lines → j * unit p * p .group ≤ symbolCount p * p .group
-line-end-inside p j l = mul-le-mul (mul-le-mul l (le-refl (unit p))) (le-refl (p .group))
+-- the copies of the symbols before line j lie within, and their slots
+pub line-copies-inside : (p : Plan) (j : ℕ) → j ≤ p .lines → j * unit p * p .copies ≤ sent p
+line-copies-inside p j l = mul-le-mul (mul-le-mul l (le-refl (unit p))) (le-refl (p .copies))
 
-pub line-end-on : (p : Plan) (j : ℕ) → j * unit p * p .group ≤ (j + 1) * unit p * p .group
-line-end-on p j = let l : j ≤ j + 1 = omega arith in mul-le-mul (mul-le-mul l (le-refl (unit p))) (le-refl (p .group))
+pub line-end-inside : (p : Plan) (j : ℕ) → j ≤ p .lines → j * unit p * p .copies * p .group ≤ sent p * p .group
+line-end-inside p j l = mul-le-mul (line-copies-inside p j l) (le-refl (p .group))
+
+pub line-end-on : (p : Plan) (j : ℕ) → j * unit p * p .copies * p .group ≤ (j + 1) * unit p * p .copies * p .group
+line-end-on p j = let l : j ≤ j + 1 = omega arith in mul-le-mul (mul-le-mul (mul-le-mul l (le-refl (unit p))) (le-refl (p .copies))) (le-refl (p .group))
 
 -- before the first line nothing is asked
 pub holds-none : (p : Plan) (word : ℕ → List ℕ) (slots : List ℕ) → length slots ≡ slotBytes p → Bytes slots → Holds p (front p word (0 * unit p)) (lineEnd p 0) slots
 holds-none p word slots e b =
-    let z : 0 * unit p * p .group ≡ 0 = ap (λ (n : ℕ). n * p .group) (zero-mul (unit p)) ∙ zero-mul (p .group) in
+    let z : 0 * unit p * p .copies * p .group ≡ 0 = ap (λ (n : ℕ). n * p .copies * p .group) (zero-mul (unit p)) ∙ ap (λ (n : ℕ). n * p .group) (zero-mul (p .copies)) ∙ zero-mul (p .group) in
     record { room = e; bytes = b; bits = λ x l. absurd (omega arith) }
 
 pub holds-is : (p : Plan) (word : ℕ → List ℕ) (n m end : ℕ) (slots : List ℕ) → n ≡ m → Holds p (front p word n) end slots → Holds p (front p word m) end slots
 holds-is p word n m end slots e h = rw e at h
 
 -- one symbol more, in their order
-pub holds-next : (p : Plan) (word : ℕ → List ℕ) (s end q : ℕ) (slots after : List ℕ) → s < symbolCount p → q < p .group → q ≡ symbolAt p word s
-    → Holds p (front p word s) end slots → after ≡ flipBit (flipBit slots (s * p .group)) (s * p .group + q) → Bytes after → Holds p (front p word (s + 1)) end after
-holds-next p word s end q slots after l small same h e bytes =
+pub holds-next : (p : Plan) (word : ℕ → List ℕ) (s end q : ℕ) (slots after : List ℕ) → q ≡ symbolAt p word s
+    → Holds p (front p word s) end slots → Moved p s q slots after → Holds p (front p word (s + 1)) end after
+holds-next p word s end q slots after same h m =
     let f : ℕ → ℕ = symbolAt p word in
     let le : s ≤ s = omega arith in
     let lt : s < s + 1 = omega arith in
-    holds-moved p (front p word s) (front p word (s + 1)) end s q slots l small (cut-past s f s le) (cut-in (s + 1) f s lt ∙ sym same)
+    m .becomes (front p word s) (front p word (s + 1)) end (cut-past s f s le) (cut-in (s + 1) f s lt ∙ sym same)
     (λ u n. ⊎-elim
     (λ (a : u < s). let b : u < s + 1 = omega arith in cut-in s f u a ∙ sym (cut-in (s + 1) f u b))
     (λ (a : s ≤ u). let b : s + 1 ≤ u = omega arith in cut-past s f u a ∙ sym (cut-past (s + 1) f u b))
     (lt-or-le u s))
-    h after e bytes
+    h
 
 -- with all of them, and no pulse behind them, it is the definition
 pub holds-all : (p : Plan) → Fine p → (word : ℕ → List ℕ) (slots after : List ℕ) → Holds p (front p word (p .lines * unit p)) (lineEnd p (p .lines)) slots
-    → Ends slots (p .lines * unit p * p .group) after → Bytes after → after ≡ slotsOf p word
+    → Ends slots (p .lines * unit p * p .copies * p .group) after → Bytes after → after ≡ slotsOf p word
 unfolding slotsOf pulses.slotsOf pulses.slotBit
 holds-all p fine word slots after h e bytes =
-    let n : ℕ = symbolCount p in
+    let n : ℕ = sent p in
     let g : 0 < p .group = let k = bounds p fine in omega arith in
     let room : length slots ≡ slotBytes p = h .room in
     bytes-made (slotBytes p) (slotBit p word) after (e .long ∙ room) bytes (λ x l.
     e .bits x (omega arith) ∙ ⊎-elim
     (λ (a : x / p .group < n).
     let low : x < n * p .group = div-lt-iff-lt-mul g .0 a in
-    cut-in (n * p .group) (bitAt slots) x low ∙ h .bits x l ∙ rw (cut-in n (symbolAt p word) (x / p .group) a, lt-ltb (x / p .group) n a) refl)
+    let b : x / p .group / p .copies < symbolCount p = div-lt-iff-lt-mul (fine .copies-least) .1 a in
+    cut-in (n * p .group) (bitAt slots) x low ∙ h .bits x l ∙ rw (cut-in (symbolCount p) (symbolAt p word) (x / p .group / p .copies) b, lt-ltb (x / p .group) n a) refl)
     (λ (a : n ≤ x / p .group).
     let high : n * p .group ≤ x = le-div-iff-mul-le g .0 a in
     cut-past (n * p .group) (bitAt slots) x high ∙ sym (rw (le-ltb (x / p .group) n a) refl))
@@ -374,25 +376,24 @@ module _ (p : Plan) (word : ℕ → List ℕ) (j : ℕ) where
         (eq-or-ne (y % n) r))
 
     -- one place more: the pulse of its symbol is moved
-    pub residue-more : (x at q end : ℕ) (slots after : List ℕ) → j < p .lines → x % stride (p .rows) ≡ r → j * p .symbols ≤ x → x < j * p .symbols + p .symbols
+    pub residue-more : (x at q end : ℕ) (slots after : List ℕ) → x % stride (p .rows) ≡ r → j * p .symbols ≤ x → x < j * p .symbols + p .symbols
         → at ≡ j * p .markers + p .markers + x → q ≡ placed p word x → Holds p (soFar p word j r x) end slots
-        → after ≡ flipBit (flipBit slots (at * p .group)) (at * p .group + q) → Bytes after → Holds p (soFar p word j r (x + stride (p .rows))) end after
-    residue-more x at q end slots after among res a b place same h e bytes =
+        → Moved p at q slots after → Holds p (soFar p word j r (x + stride (p .rows))) end after
+    residue-more x at q end slots after res a b place same h m =
         let n : ℕ = stride (p .rows) in
         let k : ℕ = x - j * p .symbols in
         let s : ℕ = j * unit p + p .markers + k in
         let l : k < p .symbols = omega arith in
         let here : j * p .symbols + k ≡ x = omega arith in
         let is : at ≡ s = omega arith in
-        let inside : s < symbolCount p = omega (arith, line-in (unit p) (p .lines) j among) in
         let least : 1 ≤ n = stride-least (p .rows) (fine .rows-least) in
         let le : x ≤ x = omega arith in
         let lt : x < x + n = omega arith in
-        let low : q < p .group = rw same (let c = placed-below p fine word x in let d = bounds p fine .group-least in omega arith) in
-        holds-moved p (soFar p word j r x) (soFar p word j r (x + n)) end s q slots inside low
+        let to : Moved p s q slots after = rw is at m in
+        to .becomes (soFar p word j r x) (soFar p word j r (x + n)) end
         (so-line r x k l ∙ rw (here, sooner-same n r x x res, le-ltb x x le) refl)
         (so-line r (x + n) k l ∙ rw (here, sooner-same n r (x + n) x res, lt-ltb x (x + n) lt) (sym same))
         (λ u ne. same-line r x r (x + n) u (λ y c d z.
         let other : y ≡ x → ⊥ = λ w. ne (omega arith) in
         ap (λ (t : Bool). pick t (placed p word y) 0) (sooner-on n r x y res other)))
-        h after (e ∙ ap (λ (v : ℕ). flipBit (flipBit slots (v * p .group)) (v * p .group + q)) is) bytes
+        h

@@ -67,7 +67,7 @@ turns p fine x =
     sym (ap (λ (y : ℕ). y % g) e ∙ add-mul-mod-self-right (x % 320) (x / 320 * (320 / g)) g)
 
 -- behind the first n symbols zeros are what belongs there so far
-pub holds-laid : (p : Plan) → Fine p → (word : ℕ → List ℕ) (n from to : ℕ) (z slots after : List ℕ) → n * p .group ≤ 8 * from
+pub holds-laid : (p : Plan) → Fine p → (word : ℕ → List ℕ) (n from to : ℕ) (z slots after : List ℕ) → n * p .copies * p .group ≤ 8 * from
     → Zeros (p .group) z → Holds p (front p word n) from slots → Laid z slots from to after → Bytes after → Holds p (front p word n) to after
 unfolding bitAt
 holds-laid p fine word n from to z slots after h zeros d c bytes =
@@ -78,12 +78,12 @@ holds-laid p fine word n from to z slots after h zeros d c bytes =
           (λ (a : x < 8 * from). ap (λ (v : ℕ). v / 2 ^ (7 - x % 8) % 2) (c .earlier (x / 8) (omega arith)) ∙ d .bits x a)
           (λ (a : 8 * from ≤ x).
           let g : 0 < p .group = let k = bounds p fine in omega arith in
-          let past : n ≤ x / p .group = le-div-iff-mul-le g .1 (omega arith) in
+          let past : n ≤ x / p .group / p .copies = le-div-iff-mul-le (fine .copies-least) .1 (le-div-iff-mul-le g .1 (omega arith)) in
           let i : x / 8 % 40 ≡ x % 320 / 8 = omega arith in
           let r : x % 8 ≡ x % 320 % 8 = omega arith in
           ap (λ (v : ℕ). v / 2 ^ (7 - x % 8) % 2) (c .here (x / 8) (omega arith) (omega arith))
           ∙ ap₂ (λ (u v : ℕ). getD z u 0 / 2 ^ (7 - v) % 2) i r
           ∙ zeros .slot (x % 320) (omega arith)
-          ∙ ap₂ (λ (u v : ℕ). bool (eqb u v)) (turns p fine x) (sym (cut-past n (symbolAt p word) (x / p .group) past)))
+          ∙ ap₂ (λ (u v : ℕ). bool (eqb u v)) (turns p fine x) (sym (cut-past n (symbolAt p word) (x / p .group / p .copies) past)))
           (lt-or-le x (8 * from));
     }

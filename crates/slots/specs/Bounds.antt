@@ -1,9 +1,9 @@
 -- The sizes of a plan's numbers, so that sums and products of them fit 64 bits and slots lie within the buffer; and what crates `channel` and `pulses` ask of them.
-use mathlib.Core.Path.{_≡_}
+use mathlib.Core.Path.{_≡_, sym, ap, _∙_}
 use mathlib.Core.List.{List}
-use Prim.Native.Nat.{ℕ, _+_, _*_, _%_, _^_, _≤_, _<_}
+use Prim.Native.Nat.{ℕ, _+_, _-_, _*_, _/_, _%_, _^_, _≤_, _<_}
 use native.Mathlib.Omega.{arith}
-use native.Mathlib.Nat.{le-refl, mul-le-mul, mod-lt}
+use native.Mathlib.Nat.{le-refl, mul-le-mul, mul-assoc, mul-comm, mul-one, mod-lt}
 use lib.ListN.{length}
 use lib.Pow.{pow-mono, pow-pos}
 use Rattle.sizes.specs.Sizes.{wordBits}
@@ -12,41 +12,61 @@ use Rattle.channel.specs.Places.{delay}
 use Rattle.channel.specs.Symbols as symbols
 use Rattle.pulses.specs.Needs.{Order, Slots}
 use Rattle.plan.specs.declared.Plan.{Plan}
-use Rattle.plan.specs.Plan.{Fine, total, symbolCount, slotBytes}
+use Rattle.plan.specs.Plan.{Fine, total, symbolCount, sent, slotBytes}
 
 pub record Bounds (p : Plan) : Type 0 where
+  pub copies-least : 1 ≤ p .copies
+  pub copies-most : p .copies ≤ 32
   pub symbols-least : 1 ≤ p .symbols
   pub symbols-most : p .symbols ≤ 7560
   pub order-least : 1 ≤ p .order
   pub order-most : p .order ≤ 256
   pub group-least : p .order ≤ p .group
+  pub group-two : 2 ≤ p .group
   pub group-most : p .group ≤ 320
   pub markers-most : p .markers ≤ 32
   pub back-most : p .step * p .rows ≤ 32768
   pub places : p .lines * p .symbols ≤ symbolCount p
   pub words : total p ≤ p .lines * p .symbols
   pub symbols-bound : symbolCount p < 2 ^ 23
-  pub slots-bound : symbolCount p * p .group < 2 ^ 31
+  pub sent-bound : sent p < 2 ^ 28
+  pub slots-bound : sent p * p .group < 2 ^ 36
+
+-- 32 copies of fewer than 2^31 slots
+sent-most : (p : Plan) → Fine p → sent p * p .group < 2 ^ 36
+sent-most p fine =
+    let n : ℕ = symbolCount p in
+    let e : n * p .copies * p .group ≡ n * p .group * p .copies = mul-assoc n (p .copies) (p .group) ∙ ap (λ (v : ℕ). n * v) (mul-comm (p .copies) (p .group)) ∙ sym (mul-assoc n (p .group) (p .copies)) in
+    let one : n * p .group ≤ 2 ^ 31 - 1 = let b = fine .slots-bound in omega arith in
+    let all : n * p .group * p .copies ≤ (2 ^ 31 - 1) * 32 = mul-le-mul one (fine .copies-most) in
+    omega arith
 
 pub bounds : (p : Plan) → Fine p → Bounds p
 bounds p fine =
     let one : 1 ≤ p .order = rw (fine .order-is) (pow-pos (p .bits)) in
     let order : p .order ≤ 256 = let e = fine .order-is in let h : 2 ^ p .bits ≤ 2 ^ 8 = pow-mono (fine .bits-most) in omega arith in
     let group = fine .group-is in
+    let two : 2 ≤ p .group = let l : 2 ^ 2 ≤ 2 ^ p .bits = pow-mono (fine .bits-least) in let e = fine .order-is in omega arith in
     let size : p .symbols * p .bits ≡ wordBits = fine .symbols-are in
+    let few : symbolCount p ≤ 2 ^ 23 - 1 = let b = fine .symbols-bound in omega arith in
+    let copied : sent p ≤ (2 ^ 23 - 1) * 32 = mul-le-mul few (fine .copies-most) in
     record {
+      copies-least = fine .copies-least;
+      copies-most = fine .copies-most;
       symbols-least = symbols.symbols-least (p .bits) (p .symbols) size;
       symbols-most = omega (arith, mul-le-mul (le-refl (p .symbols)) (fine .bits-least));
       order-least = one;
       order-most = order;
       group-least = omega arith;
+      group-two = two;
       group-most = omega arith;
       markers-most = fine .markers-most;
       back-most = mul-le-mul (fine .step-most) (fine .rows-most);
       places = omega arith;
       words = let e = fine .lines-are in omega arith;
       symbols-bound = fine .symbols-bound;
-      slots-bound = fine .slots-bound;
+      sent-bound = omega arith;
+      slots-bound = sent-most p fine;
     }
 
 -- a delay
@@ -56,25 +76,25 @@ delay-most p fine x =
     let r : x % p .rows ≤ 128 = let b = fine .rows-most in omega arith in
     mul-le-mul r (bounds p fine .back-most)
 
--- group s lies within
-pub group-in : (p : Plan) (b : List ℕ) (s : ℕ) → length b ≡ slotBytes p → s < symbolCount p → s * p .group + p .group ≤ 8 * length b
+-- sent group s lies within
+pub group-in : (p : Plan) (b : List ℕ) (s : ℕ) → length b ≡ slotBytes p → s < sent p → s * p .group + p .group ≤ 8 * length b
 group-in p b s e h =
-    let k : s + 1 ≤ symbolCount p = omega arith in
+    let k : s + 1 ≤ sent p = omega arith in
     omega (arith, mul-le-mul k (le-refl (p .group)))
 
-pub group-bound : (p : Plan) → Fine p → (s : ℕ) → s < symbolCount p → s * p .group + p .group < 2 ^ 31
+pub group-bound : (p : Plan) → Fine p → (s : ℕ) → s < sent p → s * p .group + p .group < 2 ^ 36
 group-bound p fine s h =
-    let k : s + 1 ≤ symbolCount p = omega arith in
-    let m = fine .slots-bound in
+    let k : s + 1 ≤ sent p = omega arith in
+    let m = bounds p fine .slots-bound in
     omega (arith, mul-le-mul k (le-refl (p .group)))
 
--- all that is known of the numbers of group s
+-- all that is known of the numbers of sent group s
 pub record Held (p : Plan) (b : List ℕ) (s : ℕ) : Type 0 where
   pub sizes : Bounds p
   pub inside : s * p .group + p .group ≤ 8 * length b
-  pub small : s * p .group + p .group < 2 ^ 31
+  pub small : s * p .group + p .group < 2 ^ 36
 
-pub held : (p : Plan) → Fine p → (b : List ℕ) → length b ≡ slotBytes p → (s : ℕ) → s < symbolCount p → Held p b s
+pub held : (p : Plan) → Fine p → (b : List ℕ) → length b ≡ slotBytes p → (s : ℕ) → s < sent p → Held p b s
 held p fine b long s h = record { sizes = bounds p fine; inside = group-in p b s long h; small = group-bound p fine s h }
 
 -- ---- for the crates below
@@ -87,5 +107,9 @@ placing p fine x r e =
 pub shape : (p : Plan) → Fine p → Order (p .order) (p .group)
 shape p fine = record { bits = p .bits; bits-least = fine .bits-least; bits-most = fine .bits-most; order-is = fine .order-is; group-is = fine .group-is }
 
-pub lies : (p : Plan) → Fine p → (b : List ℕ) → length b ≡ slotBytes p → Slots (p .order) (p .group) (symbolCount p) b
-lies p fine b long = record { shape = shape p fine; room = omega arith; bound = fine .slots-bound }
+-- sent once
+pub lies : (p : Plan) → Fine p → p .copies ≡ 1 → (b : List ℕ) → length b ≡ slotBytes p → Slots (p .order) (p .group) (symbolCount p) b
+lies p fine one b long =
+    let e : sent p ≡ symbolCount p = ap (λ (k : ℕ). symbolCount p * k) one ∙ mul-one (symbolCount p) in
+    let room : length b ≡ (symbolCount p * p .group + 7) / 8 = long ∙ ap (λ (n : ℕ). (n * p .group + 7) / 8) e in
+    record { shape = shape p fine; room = omega arith; bound = fine .slots-bound }

@@ -1,10 +1,10 @@
 -- Steps 8 to 10 of a plan: the definitions of crates `channel` and `pulses` with the plan's numbers. The words are a function: word j is a list of 1,890 bytes.
 use mathlib.Core.List.{List}
-use Prim.Native.Nat.{ℕ}
+use Prim.Native.Nat.{ℕ, _/_}
 use Rattle.channel.specs.Channel as channel
 use Rattle.pulses.specs.Pulses as pulses
 use Rattle.plan.specs.declared.Plan.{Plan}
-use Rattle.plan.specs.Plan.{total, symbolCount}
+use Rattle.plan.specs.Plan.{total, sent}
 
 -- Step 8: symbol t of all words
 abbrev pub dataAt : Plan → (ℕ → List ℕ) → ℕ → ℕ
@@ -30,9 +30,13 @@ symbolOf p x = channel.symbolOf (p .symbols) (p .markers) x
 abbrev pub symbolAt : Plan → (ℕ → List ℕ) → ℕ → ℕ
 symbolAt p word s = channel.marked (p .symbols) (p .markers) (p .marks) (placed p word) s
 
+-- each symbol is sent as often as the factor says, one copy after the other
+abbrev pub sentAt : Plan → (ℕ → List ℕ) → ℕ → ℕ
+sentAt p word u = symbolAt p word (u / p .copies)
+
 -- slot x, and all slots, packed
 abbrev pub slotBit : Plan → (ℕ → List ℕ) → ℕ → ℕ
-slotBit p word x = pulses.slotBit (p .group) (symbolCount p) (symbolAt p word) x
+slotBit p word x = pulses.slotBit (p .group) (sent p) (sentAt p word) x
 
 unfoldable pub slotsOf : Plan → (ℕ → List ℕ) → List ℕ
-slotsOf p word = pulses.slotsOf (p .group) (symbolCount p) (symbolAt p word)
+slotsOf p word = pulses.slotsOf (p .group) (sent p) (sentAt p word)

@@ -11,11 +11,19 @@ use Rattle.plan.specs.declared.Plan.{Plan}
 use Rattle.plan.specs.Plan.{unit, slotBytes}
 use Rattle.slots.specs.Slots.{symbolAt}
 
--- the first `end` bytes hold the symbols f 0, f 1, ..; those behind hold anything
-pub record Holds (p : Plan) (f : ℕ → ℕ) (end : ℕ) (slots : List ℕ) : Type 0 where
+-- the first `end` bytes hold groups with pulses at f 0, f 1, ..; those behind hold anything
+pub record Groups (p : Plan) (f : ℕ → ℕ) (end : ℕ) (slots : List ℕ) : Type 0 where
   pub room : length slots ≡ slotBytes p
   pub bytes : Bytes slots
   pub bits : (x : ℕ) → x < 8 * end → bitAt slots x ≡ bool (eqb (x % p .group) (f (x / p .group)))
+
+-- the same, where the groups are the copies of the symbols f 0, f 1, ..
+abbrev pub Holds : Plan → (ℕ → ℕ) → ℕ → List ℕ → Type 0
+Holds p f end slots = Groups p (λ u. f (u / p .copies)) end slots
+
+-- symbol s, which was 0, is q in all its copies, and the others are as they were
+pub record Moved (p : Plan) (s q : ℕ) (before after : List ℕ) : Type 0 where
+  pub becomes : (f g : ℕ → ℕ) (end : ℕ) → f s ≡ 0 → g s ≡ q → ((u : ℕ) → (u ≡ s → ⊥) → f u ≡ g u) → Holds p f end before → Holds p g end after
 
 -- the first n symbols of a run, and zeros behind them
 abbrev pub front : Plan → (ℕ → List ℕ) → ℕ → ℕ → ℕ
@@ -23,7 +31,7 @@ front p word n s = cut n (symbolAt p word) s
 
 -- the bytes that the slots before line j begin
 abbrev pub lineEnd : Plan → ℕ → ℕ
-lineEnd p j = (j * unit p * p .group + 7) / 8
+lineEnd p j = (j * unit p * p .copies * p .group + 7) / 8
 
 -- ---- zeros
 

@@ -1,17 +1,18 @@
-// Steps 8 to 10: the words' symbols, spread by the channel interleaver, with markers before every line, as slots with one pulse to a symbol.
+// Steps 8 to 10: the words' symbols, spread by the channel interleaver, with markers before every line, as slots with one pulse to a symbol, each symbol sent as often as the factor says.
 use plan::Plan;
 ghost use mathlib.Core.Path.{_≡_};
 ghost use Prim.Native.Nat.{ℕ, _+_, _*_, _%_, _^_, _≤_, _<_};
 ghost use mathlib.Core.List.{List};
 ghost use lib.ListN.{length};
+ghost use Rattle.plan.specs.declared.Plan as plans;
 ghost use Rattle.plan.specs.Plan.{Fine, unit, total, slotBytes};
 ghost use Rattle.bits.specs.Change.{flipBit};
 ghost use Rattle.channel.specs.Places.{delay};
 ghost use Rattle.bits.specs.Pieces.{piece};
 ghost use Rattle.sizes.specs.Sizes.{wordBytes};
 ghost use Rattle.slots.specs.Slots.{dataAt, slotsOf};
-ghost use Rattle.slots.specs.Needs.{Given, Lent, Residue};
-ghost use Rattle.slots.specs.Writing.{Holds, front, lineEnd, Repeats, Laid, Zeros, stride, soFar};
+ghost use Rattle.slots.specs.Needs.{Given, Lent, Residue, Copied, Of};
+ghost use Rattle.slots.specs.Writing.{Holds, Moved, front, lineEnd, Repeats, Laid, Zeros, stride, soFar};
 
 // Zeros' slots in the bytes from `from` up to `to`: they repeat every forty bytes.
 fn lay_zeros(zeros: &[u8], slots: &mut [u8], from: usize, to: usize)
@@ -39,11 +40,35 @@ fn fill_zeros(group: usize, zeros: &mut [u8])
 
 // A zero's pulse, which stands at slot x, q slots further on.
 fn move_pulse(slots: &mut [u8], x: usize, q: usize)
-    requires { ⌜ (x + q < 8 * length (now slots)) × (x + q < 2 ^ 32) ⌝ }
+    requires { ⌜ (x + q < 8 * length (now slots)) × (x + q < 2 ^ 36) ⌝ }
     ensures { λ _. ⌜ now (slots .exit) ≡ flipBit (flipBit (now (slots .entry)) x) (x + q) ⌝ }
 {
     bits::change::flip(slots, x);
     bits::change::flip(slots, x + q);
+}
+
+// The pulses of symbol s, which is 0, in all its copies.
+fn move_copies(copies: usize, group: usize, s: usize, q: usize, slots: &mut [u8])
+    requires { ⌜ Copied copies group s q (now slots) ⌝ }
+    ensures { λ _. ⌜ ((p : plans.Plan) → Of p copies group s q → Moved p s q (now (slots .entry)) (now (slots .exit))) ⌝ }
+{
+    let mut c = 0;
+    while c < copies {
+        move_pulse(slots, (s * copies + c) * group, q);
+        c += 1;
+    }
+}
+
+// The same, without a loop where there is one.
+fn move_symbol(copies: usize, group: usize, s: usize, q: usize, slots: &mut [u8])
+    requires { ⌜ Copied copies group s q (now slots) ⌝ }
+    ensures { λ _. ⌜ ((p : plans.Plan) → Of p copies group s q → Moved p s q (now (slots .entry)) (now (slots .exit))) ⌝ }
+{
+    if copies == 1 {
+        move_pulse(slots, s * group, q);
+    } else {
+        move_copies(copies, group, s, q, slots);
+    }
 }
 
 // The pulses of the marker symbols before a line.
@@ -51,13 +76,14 @@ fn put_marks(p: Plan, line: usize, slots: &mut [u8])
     requires { ⌜ Fine p × (line < p .lines) × (length (now slots) ≡ slotBytes p) ⌝ }
     ensures { λ _. ⌜ ((word : ℕ → List ℕ) (end : ℕ) → Holds p (front p word (line * unit p)) end (now (slots .entry)) → Holds p (front p word (line * unit p + p .markers)) end (now (slots .exit))) ⌝ }
 {
+    let copies = p.copies;
     let group = p.group;
     let markers = p.markers;
     let first = line * (p.symbols + markers);
     let mut k = 0;
     while k < markers {
         let mark = p.marks[k] as usize;
-        move_pulse(slots, (first + k) * group, mark);
+        move_symbol(copies, group, first + k, mark, slots);
         k += 1;
     }
 }
@@ -85,6 +111,7 @@ fn put_residue(p: Plan, words: &[u8], line: usize, c: usize, r: usize, slots: &m
 {
     let rows = p.rows;
     let symbols = p.symbols;
+    let copies = p.copies;
     let group = p.group;
     let markers = p.markers;
     let step = p.step;
@@ -97,7 +124,7 @@ fn put_residue(p: Plan, words: &[u8], line: usize, c: usize, r: usize, slots: &m
     let mut x = bits::scan::most(channel::first_place(start, c, r, n), delay + r);
     while x < end {
         let q = data_at(p, words, x - delay);
-        move_pulse(slots, (skip + x) * group, q);
+        move_symbol(copies, group, skip + x, q, slots);
         x += n;
     }
 }
@@ -154,9 +181,10 @@ fn put_line(p: Plan, words: &[u8], zeros: &[u8], line: usize, slots: &mut [u8])
     ensures { λ _. ⌜ Holds p (front p (piece wordBytes (now (words .entry))) ((line + 1) * unit p)) (lineEnd p (line + 1)) (now (slots .exit)) ⌝ }
 {
     let unit = p.symbols + p.markers;
+    let copies = p.copies;
     let group = p.group;
-    let from = (line * unit * group + 7) / 8;
-    let to = ((line + 1) * unit * group + 7) / 8;
+    let from = (line * unit * copies * group + 7) / 8;
+    let to = ((line + 1) * unit * copies * group + 7) / 8;
     lay_zeros(zeros, slots, from, to);
     put_marks(p, line, slots);
     put_residues(p, words, line, slots);
@@ -180,7 +208,7 @@ pub fn write(p: Plan, words: &[u8], slots: &mut [u8])
     ensures { λ _. ⌜ now (slots .exit) ≡ slotsOf p (piece wordBytes (now (words .entry))) ⌝ }
 {
     let group = p.group;
-    let end = p.lines * (p.symbols + p.markers) * group;
+    let end = p.lines * (p.symbols + p.markers) * p.copies * group;
     let mut zeros = [0u8; 16000];
     fill_zeros(group, &mut zeros);
     put_lines(p, words, &zeros, slots);

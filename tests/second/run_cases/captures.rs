@@ -485,7 +485,10 @@ const MOST_SLOTS: usize = 1 << 22;
 
 /// The capture of this index, the calls beside it, and in turn a run at some slot or a cut.
 pub fn compare_capture(tally: &mut Tally, rng: &mut Rng, sizes: &Sizes, index: u64) {
-    let header = some_header(rng, sizes, index);
+    let header = Header {
+        copies: 1,
+        ..some_header(rng, sizes, index)
+    };
     let mut sample = Sample::new(rng, header);
     if sample.run.slots() > MOST_SLOTS {
         let small = Header {
@@ -518,6 +521,7 @@ const EXAMPLE: Header = Header {
     frame_bytes: 223,
     marker: 16,
     frames: 2,
+    copies: 1,
     spare: 0,
 };
 

@@ -1,8 +1,9 @@
 //! What is done to a written run before it is read, and the numbers that reading it may give.
 
+use super::copies::POOLED;
 use super::sample::{some_frames, Sample};
 use crate::compare::Rng;
-use crate::run::{self, Run, FRAME_MARKER_BITS};
+use crate::run::{self, FRAME_MARKER_BITS};
 use crate::word::{self, WORD_BITS, WORD_BYTES};
 use std::collections::BTreeSet;
 
@@ -21,7 +22,7 @@ pub(super) const NONE: Damage = Damage {
     slots: |_, sample| Some(sample.slots()),
 };
 
-pub(super) const DAMAGES: [Damage; 33] = [
+const DAMAGES: [Damage; 33] = [
     Damage {
         name: "spare bits",
         numbers: &[9],
@@ -40,6 +41,7 @@ pub(super) const DAMAGES: [Damage; 33] = [
         name: "one slot",
         numbers: &[10],
         slots: |rng, sample| {
+            sample.once()?;
             let mut slots = sample.slots();
             flip(&mut slots, rng.below(sample.run.slots()));
             Some(slots)
@@ -49,6 +51,7 @@ pub(super) const DAMAGES: [Damage; 33] = [
         name: "one slot of the first or last group",
         numbers: &[10],
         slots: |rng, sample| {
+            sample.once()?;
             let mut slots = sample.slots();
             let near = rng.below(sample.run.group());
             let last = sample.run.slots() - 1 - near;
@@ -63,7 +66,7 @@ pub(super) const DAMAGES: [Damage; 33] = [
             let symbols = sample.symbols();
             let mut slots = sample.slots_of_symbols(&symbols);
             let at = rng.below(symbols.len());
-            flip(&mut slots, pulse(sample, &symbols, at));
+            flip_copies(sample, &mut slots, at, symbols[at].into());
             Some(slots)
         },
     },
@@ -74,8 +77,8 @@ pub(super) const DAMAGES: [Damage; 33] = [
             let symbols = sample.symbols();
             let mut slots = sample.slots_of_symbols(&symbols);
             let at = rng.below(symbols.len());
-            flip(&mut slots, pulse(sample, &symbols, at));
-            flip(&mut slots, guard(rng, sample, at));
+            flip_copies(sample, &mut slots, at, symbols[at].into());
+            flip_copies(sample, &mut slots, at, guard(rng, sample));
             Some(slots)
         },
     },
@@ -85,7 +88,7 @@ pub(super) const DAMAGES: [Damage; 33] = [
         slots: |rng, sample| {
             let mut slots = sample.slots();
             let at = rng.below(sample.run.symbols());
-            flip(&mut slots, guard(rng, sample, at));
+            flip_copies(sample, &mut slots, at, guard(rng, sample));
             Some(slots)
         },
     },
@@ -93,12 +96,13 @@ pub(super) const DAMAGES: [Damage; 33] = [
         name: "pulse moved into the next group",
         numbers: &[10],
         slots: |rng, sample| {
+            sample.once()?;
             let symbols = sample.symbols();
             let mut slots = sample.slots_of_symbols(&symbols);
             let at = rng.below(symbols.len() - 1);
-            flip(&mut slots, pulse(sample, &symbols, at));
+            flip_copies(sample, &mut slots, at, symbols[at].into());
             let next = usize::from(symbols[at + 1] == 0);
-            flip(&mut slots, (at + 1) * sample.run.group() + next);
+            flip_copies(sample, &mut slots, at + 1, next);
             Some(slots)
         },
     },
@@ -119,7 +123,8 @@ pub(super) const DAMAGES: [Damage; 33] = [
             let mut symbols = sample.symbols();
             sample.change(rng, &mut symbols, 0);
             let mut slots = sample.slots_of_symbols(&symbols);
-            flip(&mut slots, pulse(sample, &symbols, symbols.len() - 1));
+            let last = symbols.len() - 1;
+            flip_copies(sample, &mut slots, last, symbols[last].into());
             Some(slots)
         },
     },
@@ -127,6 +132,7 @@ pub(super) const DAMAGES: [Damage; 33] = [
         name: "slots anywhere, spare bits too",
         numbers: &[9, 10],
         slots: |rng, sample| {
+            sample.once()?;
             let mut slots = sample.slots();
             // an odd number of flips never undoes itself
             for _ in 0..1 + 2 * rng.below(10) {
@@ -388,7 +394,7 @@ pub(super) const DAMAGES: [Damage; 33] = [
         slots: |rng, sample| {
             let other = Sample {
                 header: sample.header,
-                run: Run::of(&sample.header.pack()).ok()?,
+                run: sample.header.run().ok()?,
                 marker: sample.marker.clone(),
                 frames: some_frames(rng, &sample.run),
             };
@@ -411,15 +417,17 @@ fn set_spare(rng: &mut Rng, sample: &Sample, mut slots: Vec<u8>) -> Option<Vec<u
     Some(slots)
 }
 
-/// The slot of a symbol's pulse.
-fn pulse(sample: &Sample, symbols: &[u8], at: usize) -> usize {
-    at * sample.run.group() + usize::from(symbols[at])
+/// Flips this slot in every copy of a symbol.
+pub(super) fn flip_copies(sample: &Sample, slots: &mut [u8], at: usize, slot: usize) {
+    for copy in 0..sample.run.copies() {
+        flip(slots, sample.run.copy_start(at, copy) + slot);
+    }
 }
 
 /// One of a symbol's guard slots.
-fn guard(rng: &mut Rng, sample: &Sample, at: usize) -> usize {
+pub(super) fn guard(rng: &mut Rng, sample: &Sample) -> usize {
     let (order, group) = (sample.run.order(), sample.run.group());
-    at * group + order + rng.below(group - order)
+    order + rng.below(group - order)
 }
 
 /// Any symbol of any marker.
@@ -435,7 +443,11 @@ fn wrong_end(rng: &mut Rng, inputs: &mut [bool], check: usize) {
     inputs[check + word::CHECK_BITS + 1] = wrong & 2 == 2;
 }
 
+/// How many kinds of damage there are.
+pub(super) const DAMAGE_COUNT: usize = DAMAGES.len() + POOLED.len();
+
 /// The kinds of damage in turn, from this one on.
 pub(super) fn damages_from(kind: u64) -> impl Iterator<Item = &'static Damage> {
-    DAMAGES.iter().cycle().skip(kind as usize % DAMAGES.len())
+    let all = DAMAGES.iter().chain(&POOLED);
+    all.cycle().skip(kind as usize % DAMAGE_COUNT)
 }

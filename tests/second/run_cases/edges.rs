@@ -17,6 +17,7 @@ pub fn edges(tally: &mut Tally, rng: &mut Rng) {
         frame_bytes: 223,
         marker: 4,
         frames: 2,
+        copies: 1,
         spare: 0,
     };
     let m6 = Header {
@@ -179,6 +180,40 @@ pub fn edges(tally: &mut Tally, rng: &mut Rng) {
         (Header { bits: 1, ..header }, vec![0; 4], 3),
         (Header { bits: 9, ..header }, vec![0; 4], 3),
         (Header { rate: 3, ..header }, vec![0; 4], 2),
+        (
+            Header {
+                copies: 32,
+                ..header
+            },
+            vec![0; 4],
+            8,
+        ),
+        (
+            Header {
+                copies: 33,
+                ..header
+            },
+            vec![0; 4],
+            20,
+        ),
+        (
+            Header {
+                copies: 0,
+                ..header
+            },
+            vec![],
+            20,
+        ),
+        (Header { copies: 5, ..m6 }, vec![64], 7),
+        (
+            Header {
+                copies: 5,
+                marker: 33,
+                ..header
+            },
+            vec![],
+            7,
+        ),
         (Header { spare: 1, ..header }, vec![0; 4], 1),
         (
             Header {
@@ -192,6 +227,7 @@ pub fn edges(tally: &mut Tally, rng: &mut Rng) {
     for (header, marker, number) in cases {
         for way in [Way::Write, Way::Read] {
             let arguments = Arguments {
+                copies: header.copies,
                 header: &header.pack(),
                 marker: &marker,
                 input: &[],
@@ -216,6 +252,7 @@ pub fn largest(tally: &mut Tally, rng: &mut Rng) {
         frame_bytes: 2048,
         marker: 32,
         frames: 64,
+        copies: 1,
         spare: 0,
     };
     let sample = Sample::new(rng, header);

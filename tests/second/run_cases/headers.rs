@@ -1,7 +1,7 @@
 //! Headers of the runs: those of the numbered cases, and those of any fields.
 
 use crate::compare::Rng;
-use crate::run::Header;
+use crate::run::{Header, FACTORS};
 use crate::word::{Rate, WORD_BITS};
 
 /// All N and B in range whose unhit places are 1 to `most` codeblocks, by m.
@@ -34,6 +34,26 @@ impl Default for Sizes {
             all: rows_and_steps(u64::MAX),
         }
     }
+}
+
+/// The most slot bytes of a run of several copies, so that a case takes no longer than a moment.
+const REPEATED_MOST: usize = 1 << 20;
+
+/// The header with a factor: no copies in half the cases, else as many as are not too large.
+fn repeated(rng: &mut Rng, mut header: Header) -> Header {
+    header.copies = rng.pick(&[1, 1, 1, 1, 1, 2, 3, 4, 32, 32]);
+    header.copies = if header.copies == 32 {
+        rng.pick(&[8, 16, 32])
+    } else {
+        header.copies
+    };
+    while header.copies > 1
+        && header.run().expect("a header that passes").slots_len() > REPEATED_MOST
+    {
+        let at = FACTORS.iter().position(|&factor| factor == header.copies);
+        header.copies = FACTORS[at.expect("a factor") - 1];
+    }
+    header
 }
 
 /// The next header. Each m in turn, each rate in turn, and of every four runs one with N = 1 and
@@ -69,12 +89,14 @@ pub(super) fn some_header(rng: &mut Rng, sizes: &Sizes, index: u64) -> Header {
         frame_bytes,
         marker,
         frames,
+        copies: 1,
         spare: 0,
     };
     if index % 37 == 5 {
-        return no_fill(header, 1 + rng.next() % 2);
+        let fours = 1 + rng.next() % 2;
+        return repeated(rng, no_fill(header, fours));
     }
-    header
+    repeated(rng, header)
 }
 
 /// The header with `fours` times four blocks and no fill bits.
@@ -115,6 +137,10 @@ pub(super) fn any_header(rng: &mut Rng, sizes: &Sizes) -> Header {
         frame_bytes: any_field(rng, 1..=2048, 12),
         marker: any_field(rng, 1..=32, 6),
         frames: any_field(rng, 1..=64, 7),
+        copies: match rng.below(64) {
+            0 => rng.next() >> rng.below(64),
+            _ => rng.pick(&FACTORS),
+        },
         spare: any_field(rng, 0..=0, 16),
     }
 }

@@ -3,7 +3,10 @@
 use super::calls::{compare, Arguments};
 use super::sample::Sample;
 use crate::compare::{Rng, Tally, Way};
-use crate::run::{HEADER_BYTES, MARKER_MOST};
+use crate::run::{FACTORS, HEADER_BYTES, MARKER_MOST};
+
+/// The questions that such a call can fail, in the order in which they are put.
+pub(super) const REFUSED_ORDER: [u8; 9] = [1, 2, 3, 4, 5, 6, 7, 20, 8];
 
 /// A value that is wrong for its field: the one below the range, or one of those above it.
 fn wrong_field(rng: &mut Rng, below: u64, above: std::ops::RangeInclusive<u64>) -> u64 {
@@ -25,13 +28,39 @@ pub(super) fn wrong_len(rng: &mut Rng, right: usize) -> usize {
 
 /// Header and marker, and the lengths of frames and slots, with something wrong in them.
 pub(super) struct Broken {
+    pub(super) copies: u64,
     pub(super) header: Vec<u8>,
     pub(super) marker: Vec<u8>,
     pub(super) frames_len: usize,
     pub(super) slots_len: usize,
 }
 
-/// What fails one question from 1 to 8 and, by chance, some of those after it. Question 7 is about
+/// A factor that there is not.
+fn wrong_factor(rng: &mut Rng) -> u64 {
+    let any = rng.next() >> rng.below(64);
+    let factor = rng.pick(&[
+        0,
+        5,
+        6,
+        7,
+        9,
+        12,
+        31,
+        33,
+        63,
+        64,
+        1 << 32 | 1,
+        u64::MAX,
+        any,
+    ]);
+    if FACTORS.contains(&factor) {
+        5
+    } else {
+        factor
+    }
+}
+
+/// What fails one of these questions first and, by chance, some of those after it. Question 7 is about
 /// the symbols of the marker too where they are lent.
 pub(super) fn broken(rng: &mut Rng, sample: &Sample, first: u8, marker_lent: bool) -> Broken {
     let mut header = sample.header;
@@ -41,7 +70,11 @@ pub(super) fn broken(rng: &mut Rng, sample: &Sample, first: u8, marker_lent: boo
     let mut header_len = HEADER_BYTES;
 
     // From the last question on, so that what an earlier one breaks stays broken.
-    let also: Vec<u8> = (first + 1..=8).filter(|_| rng.below(3) == 0).collect();
+    let later = REFUSED_ORDER
+        .into_iter()
+        .skip_while(|&number| number != first)
+        .skip(1);
+    let also: Vec<u8> = later.filter(|_| rng.below(3) == 0).collect();
     for number in also.into_iter().rev().chain([first]) {
         match number {
             8 => {
@@ -57,6 +90,7 @@ pub(super) fn broken(rng: &mut Rng, sample: &Sample, first: u8, marker_lent: boo
                     slots_len = wrong_len(rng, slots_len);
                 }
             }
+            20 => header.copies = wrong_factor(rng),
             7 => {
                 let looked_at = marker.len().min(header.marker as usize);
                 let symbols = marker_lent && sample.run.order() < 256 && looked_at > 0;
@@ -90,6 +124,7 @@ pub(super) fn broken(rng: &mut Rng, sample: &Sample, first: u8, marker_lent: boo
     let mut packed = header.pack().to_vec();
     packed.resize(header_len, 0);
     Broken {
+        copies: header.copies,
         header: packed,
         marker,
         frames_len,
@@ -115,6 +150,7 @@ pub(super) fn refused_call(
     let mut input = input.to_vec();
     input.resize(len, 0);
     let arguments = Arguments {
+        copies: broken.copies,
         header: &broken.header,
         marker: &broken.marker,
         input: &input,

@@ -14,7 +14,7 @@ pub struct Sample {
 
 impl Sample {
     pub(super) fn new(rng: &mut Rng, header: Header) -> Sample {
-        let run = Run::of(&header.pack()).expect("a header that passes");
+        let run = header.run().expect("a header that passes");
         let marker = some_marker(rng, &run);
         let frames = some_frames(rng, &run);
         Sample {
@@ -79,6 +79,16 @@ impl Sample {
         let (first, last) = (*unhit.first()?, *unhit.last()?);
         let any = rng.pick(&unhit);
         Some(rng.pick(&[first, last, any, any]))
+    }
+
+    /// Whether each symbol is sent once; there is nothing to pool.
+    pub(super) fn once(&self) -> Option<()> {
+        (self.run.copies() == 1).then_some(())
+    }
+
+    /// How often each symbol is sent, where it is more often.
+    pub(super) fn repeated(&self) -> Option<usize> {
+        Some(self.run.copies()).filter(|&copies| copies > 1)
     }
 
     /// Changes a symbol to another one.

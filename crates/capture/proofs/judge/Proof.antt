@@ -3,7 +3,7 @@ use mathlib.Core.Path.{_≡_, sym, _∙_}
 use native.Mathlib.Omega.{arith}
 use borrow.Author.Needs.{needs}
 use Rattle.answers.specs.Answer.{no-done}
-use Rattle.pulses.specs.Groups.{passed}
+use Rattle.pool.specs.Laws.{each-decided}
 use Rattle.slots.specs.Bounds.{bounds}
 use Rattle.plan.specs.Plan.{symbolCount}
 use Rattle.capture.specs.Answer.{say-spare, spare-empty, say-group, say-mark, say-rest}
@@ -21,23 +21,26 @@ mul-n : tie.Need-mul-n
 mul-n c = search needs
 
 mul-end : tie.Need-mul-end
-mul-end c = search needs
+mul-end c = let s = c .before .before .before .before in let k = bounds (s .args .p) (s .pre .0 .fine) in let l = s .pre .0 .long in omega arith
 
 mul-first-one : tie.Need-mul-first-one
-mul-first-one c = search needs
+mul-first-one c = let s = c .before .before .before .before .before in let k = bounds (s .args .p) (s .pre .0 .fine) in let l = s .pre .0 .long in omega arith
+
+mul-first-one-2 : tie.Need-mul-first-one-2
+mul-first-one-2 c = let s = c .before .before .before .before .before .before in let k = bounds (s .args .p) (s .pre .0 .fine) in let l = s .pre .0 .long in omega arith
 
 first-one-requires : tie.Need-first-one-requires
 first-one-requires c κs = search needs
 
 returns : tie.Need-returns
 returns c =
-    let a = (c .before .before .before .before .before .before .before) .args in
+    let a = (c .before .before .before .before .before .before .before .before) .args in
     let o = (c .before) .first-one in
     (say-spare (a .p) (a .b .now) (o .result) (o .ensures) (c .if1 .taken), λ q. absurd (no-done q))
 
 find-requires : tie.Need-find-requires
 find-requires c κs =
-    let s = c .before .before .before .before .before .before .before .before in
+    let s = c .before .before .before .before .before .before .before .before .before in
     (s .pre .0, took-start (s .args .p) (s .pre .0 .fine) (s .args .b .now) (s .args .words .now) (s .pre .1))
 
 same-length : tie.Need-same-length
@@ -45,23 +48,23 @@ same-length c = search needs
 
 returns-2 : tie.Need-returns-2
 returns-2 c =
-    let a = (c .before .before .before .before .before .before .before .before .before .before .before .before) .args in
+    let a = (c .before .before .before .before .before .before .before .before .before .before .before .before .before) .args in
     let o = (c .before .before .before .before .before .before) .first-one in
     let spare = spare-empty (a .p) (a .b .now) (o .result) (o .ensures) ((c .before .before .before .before .before) .if1 .left) in
     (say-group (a .p) (a .b .now) spare _ ((c .before .before .before) .find .ensures .0) (c .if2 .taken), λ q. absurd (no-done q))
 
 first-bad-mark-requires : tie.Need-first-bad-mark-requires
 first-bad-mark-requires c κs =
-    let a = (c .before .before .before .before .before .before .before .before .before .before .before .before) .args in
-    let h = (c .before .before .before .before .before .before .before .before .before .before .before .before) .pre .0 in
-    record { fine = h .fine; long = h .long; passed = passed (a .p .order) (a .p .group) _ (a .b .now) (sym ((c .before .before .before) .find .ensures .0) ∙ c .if2 .left) }
+    let a = (c .before .before .before .before .before .before .before .before .before .before .before .before .before) .args in
+    let h = (c .before .before .before .before .before .before .before .before .before .before .before .before .before) .pre .0 in
+    record { fine = h .fine; long = h .long; passed = each-decided (a .b .now) (a .p .copies) (a .p .group) (a .p .order) (symbolCount (a .p)) (sym ((c .before .before .before) .find .ensures .0) ∙ c .if2 .left) }
 
 same-length-2 : tie.Need-same-length-2
 same-length-2 c = search needs
 
 returns-3 : tie.Need-returns-3
 returns-3 c =
-    let a = (c .before .before .before .before .before .before .before .before .before .before .before .before .before .before) .args in
+    let a = (c .before .before .before .before .before .before .before .before .before .before .before .before .before .before .before) .args in
     let o = (c .before .before .before .before .before .before .before .before) .first-one in
     let spare = spare-empty (a .p) (a .b .now) (o .result) (o .ensures) ((c .before .before .before .before .before .before .before) .if1 .left) in
     let groups : firstBadGroup (a .p) (a .b .now) ≡ symbolCount (a .p) = sym ((c .before .before .before .before .before) .find .ensures .0) ∙ (c .before .before) .if2 .left in
@@ -72,8 +75,8 @@ same-length-3 c = search needs
 
 returns-4 : tie.Need-returns-4
 returns-4 c =
-    let a = (c .before .before .before .before .before .before .before .before .before .before .before .before .before .before .before) .args in
-    let fine = (c .before .before .before .before .before .before .before .before .before .before .before .before .before .before .before) .pre .0 .fine in
+    let a = (c .before .before .before .before .before .before .before .before .before .before .before .before .before .before .before .before) .args in
+    let fine = (c .before .before .before .before .before .before .before .before .before .before .before .before .before .before .before .before) .pre .0 .fine in
     let o = (c .before .before .before .before .before .before .before .before .before) .first-one in
     let f = (c .before .before .before .before .before .before) .find in
     let spare = spare-empty (a .p) (a .b .now) (o .result) (o .ensures) ((c .before .before .before .before .before .before .before .before) .if1 .left) in
@@ -86,8 +89,8 @@ same-length-4 c = search needs
 
 returns-5 : tie.Need-returns-5
 returns-5 c =
-    let a = (c .before .before .before .before .before .before .before .before .before .before .before .before .before .before .before) .args in
-    let fine = (c .before .before .before .before .before .before .before .before .before .before .before .before .before .before .before) .pre .0 .fine in
+    let a = (c .before .before .before .before .before .before .before .before .before .before .before .before .before .before .before .before) .args in
+    let fine = (c .before .before .before .before .before .before .before .before .before .before .before .before .before .before .before .before) .pre .0 .fine in
     let o = (c .before .before .before .before .before .before .before .before .before) .first-one in
     let f = (c .before .before .before .before .before .before) .find in
     let known = f .ensures .1 ((c .before .before .before) .if2 .left) in
@@ -105,6 +108,7 @@ judge-spec =
     mul-n
     mul-end
     mul-first-one
+    mul-first-one-2
     first-one-requires
     returns
     find-requires

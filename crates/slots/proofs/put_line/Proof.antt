@@ -5,7 +5,7 @@ use native.Mathlib.Omega.{arith}
 use borrow.Author.Needs.{needs}
 use Rattle.plan.specs.Plan.{unit}
 use Rattle.slots.specs.Writing.{lineEnd}
-use Rattle.slots.proofs.Lines.{sizes, line-end-inside, line-end-on}
+use Rattle.slots.proofs.Lines.{sizes, line-copies-inside, line-end-inside, line-end-on}
 use Rattle.slots.proofs.Zeros.{holds-laid}
 use Rattle.slots.proofs.put_line.Statement.{statement}
 use Rattle.slots.proofs.put_line.Tie as tie
@@ -28,6 +28,13 @@ mul-from c =
 
 mul-from-2 : tie.Need-mul-from-2
 mul-from-2 c =
+    let s = c .before .before .before .before in
+    let p = s .args .p in
+    let z = sizes p (s .pre .0 .fine) (s .args .line) 0 (s .pre .2) in
+    omega (arith, line-copies-inside p (s .args .line) (omega arith))
+
+mul-from-3 : tie.Need-mul-from-3
+mul-from-3 c =
     let s = c .before .before .before .before in
     let p = s .args .p in
     let z = sizes p (s .pre .0 .fine) (s .args .line) 0 (s .pre .2) in
@@ -59,6 +66,13 @@ mul-to-2 c =
     let s = c .before .before .before .before in
     let p = s .args .p in
     let z = sizes p (s .pre .0 .fine) (s .args .line) 0 (s .pre .2) in
+    omega (arith, line-copies-inside p (s .args .line + 1) (omega arith))
+
+mul-to-3 : tie.Need-mul-to-3
+mul-to-3 c =
+    let s = c .before .before .before .before in
+    let p = s .args .p in
+    let z = sizes p (s .pre .0 .fine) (s .args .line) 0 (s .pre .2) in
     omega (arith, line-end-inside p (s .args .line + 1) (omega arith))
 
 add-to-2 : tie.Need-add-to-2
@@ -74,7 +88,7 @@ lay-zeros-requires c κs =
     let p = s .args .p in
     let line = s .args .line in
     let room = s .pre .3 .room in
-    let on : line * unit p * p .group ≤ (line + 1) * unit p * p .group = line-end-on p line in
+    let on : line * unit p * p .copies * p .group ≤ (line + 1) * unit p * p .copies * p .group = line-end-on p line in
     (s .pre .1 .repeats, omega arith, omega (arith, line-end-inside p (line + 1) (omega arith)))
 
 put-marks-requires : tie.Need-put-marks-requires
@@ -94,7 +108,7 @@ returns c =
     let w = piece wordBytes (s .args .words .now) in
     let laid = c .before .before .before .before .before .before .before .before .before .before .lay-zeros in
     let end : ℕ = lineEnd p (line + 1) in
-    let near : line * unit p * p .group ≤ 8 * lineEnd p line = omega arith in
+    let near : line * unit p * p .copies * p .group ≤ 8 * lineEnd p line = omega arith in
     let first = holds-laid p (s .pre .0 .fine) w (line * unit p) (lineEnd p line) end _ _ _ near (s .pre .1) (s .pre .3) (laid .ensures) (λ i. omega (arith, c .before .before .before .before .before .before .before .before .slice-known2 .given i)) in
     c .before .before .put-residues .ensures end (c .before .before .before .before .before .before .put-marks .ensures w end first)
 
@@ -105,10 +119,12 @@ put-line-spec =
     add-unit
     mul-from
     mul-from-2
+    mul-from-3
     add-from
     add-to
     mul-to
     mul-to-2
+    mul-to-3
     add-to-2
     lay-zeros-requires
     put-marks-requires

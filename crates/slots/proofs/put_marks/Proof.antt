@@ -3,24 +3,23 @@ use mathlib.Core.Path.{_≡_, refl, sym, _∙_}
 use mathlib.Core.List.{List}
 use Prim.Native.Nat.{ℕ, _+_, _-_, _*_, _≤_, _<_}
 use native.Mathlib.Omega.{arith}
-use native.Mathlib.Nat.{le-refl, mul-le-mul}
 use lib.ListN.{length, getD}
 use borrow.Author.Needs.{needs}
 use Rattle.channel.specs.Markers.{line-mark}
-use Rattle.plan.specs.Plan.{unit, symbolCount, slotBytes}
+use Rattle.plan.specs.Plan.{unit}
 use Rattle.slots.specs.Slots.{placed}
 use Rattle.slots.specs.Writing.{Holds, front}
-use Rattle.slots.proofs.Moves.{inside}
+use Rattle.slots.proofs.Moves.{copied, of}
 use Rattle.slots.proofs.Lines.{sizes, holds-is, holds-next}
 use Rattle.slots.proofs.put_marks.Statement.{statement}
 use Rattle.slots.proofs.put_marks.Tie as tie
 
 abbrev Inv-loop : tie.InvT-loop
-Inv-loop line slots₀ p group markers first k₀ slots k =
+Inv-loop line slots₀ p copies group markers first k₀ slots k =
     (k ≤ markers) × (length slots ≡ length slots₀) × ((word : ℕ → List ℕ) (end : ℕ) → Holds p (front p word (line * unit p)) end slots₀ → Holds p (front p word (line * unit p + k)) end slots)
 
 abbrev μ-loop : tie.MeasureT-loop
-μ-loop line slots₀ p group markers first k₀ slots k = markers - k
+μ-loop line slots₀ p copies group markers first k₀ slots k = markers - k
 
 add-first : tie.Need-add-first Inv-loop μ-loop
 add-first c =
@@ -45,33 +44,21 @@ element-copy-out-mark c = search needs
 cast-mark : tie.Need-cast-mark Inv-loop μ-loop
 cast-mark c = search needs
 
-add-move-pulse : tie.Need-add-move-pulse Inv-loop μ-loop
-add-move-pulse c =
-    let s = c .before .before .before .before .before in
+add-move-symbol : tie.Need-add-move-symbol Inv-loop μ-loop
+add-move-symbol c =
+    let s = c .before .before .before .before in
     let p = s .args .t1 in
     let z = sizes p (s .pre .0) (s .args .line) 0 (s .pre .1) in
     omega arith
 
-mul-move-pulse : tie.Need-mul-move-pulse Inv-loop μ-loop
-mul-move-pulse c =
-    let s = c .before .before .before .before .before in
-    let p = s .args .t1 in
-    let z = sizes p (s .pre .0) (s .args .line) 0 (s .pre .1) in
-    let k : s .args .line * unit p + c .before .before .before .loop .k ≤ symbolCount p = omega arith in
-    omega (arith, mul-le-mul k (le-refl (p .group)))
-
-move-pulse-requires : tie.Need-move-pulse-requires Inv-loop μ-loop
-move-pulse-requires c κs =
+move-symbol-requires : tie.Need-move-symbol-requires Inv-loop μ-loop
+move-symbol-requires c κs =
     let s = c .before .before .before .before .before in
     let p = s .args .t1 in
     let z = sizes p (s .pre .0) (s .args .line) 0 (s .pre .1) in
     let l = c .before .before .before .loop in
-    let at : ℕ = s .args .line * unit p + l .k in
-    let k : at < symbolCount p = omega arith in
     let q : getD (p .marks) (l .k) 0 < p .group = let b = s .pre .0 .marks-below (l .k) in omega arith in
-    let room : length (l .slots) ≡ slotBytes p = l .inv .1 ∙ s .pre .2 in
-    let i = inside p at (getD (p .marks) (l .k) 0) k q in
-    (omega arith, omega arith)
+    copied p (s .pre .0) (s .args .line * unit p + l .k) (getD (p .marks) (l .k) 0) (l .slots) (l .inv .1 ∙ s .pre .2) (omega arith) q
 
 add-k : tie.Need-add-k Inv-loop μ-loop
 add-k c = search needs
@@ -85,15 +72,15 @@ loop-again c =
     let p = s .args .t1 in
     let z = sizes p (s .pre .0) (s .args .line) 0 (s .pre .1) in
     let l = c .before .before .before .before .before .before .loop in
-    let o = c .before .before .move-pulse in
+    let o = c .before .before .move-symbol in
     let at : ℕ = s .args .line * unit p + l .k in
-    let k : at < symbolCount p = omega arith in
-    let q : getD (p .marks) (l .k) 0 < p .group = let b = s .pre .0 .marks-below (l .k) in omega arith in (
+    let q : getD (p .marks) (l .k) 0 < p .group = let b = s .pre .0 .marks-below (l .k) in omega arith in
+    let moved = o .ensures p (of p (s .pre .0) at (getD (p .marks) (l .k) 0) (omega arith) q) in (
       search needs,
-      o .kept .0 ∙ l .inv .1,
-      λ word end h. holds-is p word (at + 1) (s .args .line * unit p + (l .k + 1)) end (o .last .0) (omega arith)
-          (holds-next p word at end (getD (p .marks) (l .k) 0) (l .slots) (o .last .0) k q
-          (sym (line-mark (p .symbols) (p .markers) (p .marks) (placed p word) (s .args .line) (l .k) (omega arith))) (l .inv .2 word end h) (o .ensures) (λ i. omega (arith, c .slice-known2 .given i))),
+      o .kept .1 .1 .1 .1 .0 ∙ l .inv .1,
+      λ word end h. holds-is p word (at + 1) (s .args .line * unit p + (l .k + 1)) end (o .last .1 .1 .1 .1 .0) (omega arith)
+          (holds-next p word at end (getD (p .marks) (l .k) 0) (l .slots) (o .last .1 .1 .1 .1 .0)
+          (sym (line-mark (p .symbols) (p .markers) (p .marks) (placed p word) (s .args .line) (l .k) (omega arith))) (l .inv .2 word end h) moved),
     )
 
 same-length : tie.Need-same-length Inv-loop μ-loop
@@ -113,9 +100,8 @@ put-marks-spec =
     loop-holds
     element-copy-out-mark
     cast-mark
-    add-move-pulse
-    mul-move-pulse
-    move-pulse-requires
+    add-move-symbol
+    move-symbol-requires
     add-k
     loop-less
     loop-again

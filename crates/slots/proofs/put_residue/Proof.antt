@@ -3,7 +3,7 @@ use mathlib.Core.Path.{_≡_, refl, sym, ap, _∙_}
 use mathlib.Core.List.{List}
 use Prim.Native.Nat.{ℕ, _+_, _-_, _*_, _%_, _≤_, _<_}
 use native.Mathlib.Omega.{arith}
-use native.Mathlib.Nat.{le-refl, mul-le-mul, add-mod-right}
+use native.Mathlib.Nat.{add-mod-right}
 use lib.ListN.{length}
 use borrow.Author.Needs.{needs}
 use Rattle.bits.specs.Window.{lesser-min}
@@ -11,20 +11,20 @@ use Rattle.bits.specs.Pieces.{piece}
 use Rattle.sizes.specs.Sizes.{wordBytes}
 use Rattle.channel.specs.Places.{delay}
 use Rattle.slots.specs.Laws.{placed-below}
-use Rattle.plan.specs.Plan.{total, symbolCount, slotBytes}
+use Rattle.plan.specs.Plan.{total}
 use Rattle.slots.specs.Writing.{Holds, stride, soFar}
-use Rattle.slots.proofs.Moves.{inside, holds-same}
+use Rattle.slots.proofs.Moves.{copied, of, holds-same}
 use Rattle.slots.proofs.Lines.{sizes, placed-at, residue-first, residue-begun, residue-more, residue-ended}
 use Rattle.slots.proofs.put_residue.Statement.{statement}
 use Rattle.slots.proofs.put_residue.Tie as tie
 
 abbrev Inv-loop : tie.InvT-loop
-Inv-loop p words line c r slots₀ rows symbols group markers step all start skip delay end n x₀ slots x =
+Inv-loop p words line c r slots₀ rows symbols copies group markers step all start skip delay end n x₀ slots x =
     (x % stride (p .rows) ≡ r) × (line * p .symbols ≤ x) × (delay + r ≤ x) × (length slots ≡ length slots₀)
     × ((e : ℕ) → Holds p (soFar p (piece wordBytes words) line r 0) e slots₀ → Holds p (soFar p (piece wordBytes words) line r x) e slots)
 
 abbrev μ-loop : tie.MeasureT-loop
-μ-loop p words line c r slots₀ rows symbols group markers step all start skip delay end n x₀ slots x = end - x
+μ-loop p words line c r slots₀ rows symbols copies group markers step all start skip delay end n x₀ slots x = end - x
 
 mul-all : tie.Need-mul-all Inv-loop μ-loop
 mul-all c =
@@ -133,43 +133,28 @@ data-at-requires c κs =
     let e : c .before .before .before .before .before .least .result ≡ _ = c .before .before .before .before .before .least .ensures ∙ lesser-min (s .args .line * p .symbols + p .symbols) (d + total p) in
     (s .pre .0 .given, omega arith)
 
-add-move-pulse : tie.Need-add-move-pulse Inv-loop μ-loop
-add-move-pulse c =
-    let s = c .before .before .before .before .before .before .before .before .before .before .before in
+add-move-symbol : tie.Need-add-move-symbol Inv-loop μ-loop
+add-move-symbol c =
+    let s = c .before .before .before .before .before .before .before .before .before .before in
     let z = sizes (s .args .p) (s .pre .0 .given .fine) (s .args .line) (s .args .r) (s .pre .1 .inside) in
-    let l = c .before .before .before .loop in
+    let l = c .before .before .loop in
     let p = s .args .p in
     let d : ℕ = delay (p .rows) (p .step) (s .args .r % p .rows) in
-    let e : c .before .before .before .before .before .before .before .least .result ≡ _ = c .before .before .before .before .before .before .before .least .ensures ∙ lesser-min (s .args .line * p .symbols + p .symbols) (d + total p) in
+    let e : c .before .before .before .before .before .before .least .result ≡ _ = c .before .before .before .before .before .before .least .ensures ∙ lesser-min (s .args .line * p .symbols + p .symbols) (d + total p) in
     omega arith
 
-mul-move-pulse : tie.Need-mul-move-pulse Inv-loop μ-loop
-mul-move-pulse c =
+move-symbol-requires : tie.Need-move-symbol-requires Inv-loop μ-loop
+move-symbol-requires c κs =
     let s = c .before .before .before .before .before .before .before .before .before .before .before in
     let z = sizes (s .args .p) (s .pre .0 .given .fine) (s .args .line) (s .args .r) (s .pre .1 .inside) in
     let l = c .before .before .before .loop in
     let p = s .args .p in
     let d : ℕ = delay (p .rows) (p .step) (s .args .r % p .rows) in
     let e : c .before .before .before .before .before .before .before .least .result ≡ _ = c .before .before .before .before .before .before .before .least .ensures ∙ lesser-min (s .args .line * p .symbols + p .symbols) (d + total p) in
-    let k : s .args .line * p .markers + p .markers + l .x ≤ symbolCount p = omega arith in
-    omega (arith, mul-le-mul k (le-refl (p .group)))
-
-move-pulse-requires : tie.Need-move-pulse-requires Inv-loop μ-loop
-move-pulse-requires c κs =
-    let s = c .before .before .before .before .before .before .before .before .before .before .before in
-    let z = sizes (s .args .p) (s .pre .0 .given .fine) (s .args .line) (s .args .r) (s .pre .1 .inside) in
-    let l = c .before .before .before .loop in
-    let p = s .args .p in
-    let d : ℕ = delay (p .rows) (p .step) (s .args .r % p .rows) in
-    let e : c .before .before .before .before .before .before .before .least .result ≡ _ = c .before .before .before .before .before .before .before .least .ensures ∙ lesser-min (s .args .line * p .symbols + p .symbols) (d + total p) in
-    let at : ℕ = s .args .line * p .markers + p .markers + l .x in
-    let k : at < symbolCount p = omega arith in
     let f = s .pre .0 .given .fine in
     let w : ℕ → List ℕ = piece wordBytes (s .args .words .now) in
     let q : c .before .data-at .result < p .group = rw (c .before .data-at .ensures ∙ sym (placed-at p f w (s .args .r) (l .x) (l .inv .0) (omega arith) (omega arith))) (let b = placed-below p f w (l .x) in omega arith) in
-    let room : length (l .slots) ≡ slotBytes p = l .inv .3 ∙ s .pre .0 .room in
-    let i = inside p at (c .before .data-at .result) k q in
-    (omega arith, omega arith)
+    copied p f (s .args .line * p .markers + p .markers + l .x) (c .before .data-at .result) (l .slots) (l .inv .3 ∙ s .pre .0 .room) (omega arith) q
 
 add-x : tie.Need-add-x Inv-loop μ-loop
 add-x c =
@@ -200,14 +185,16 @@ loop-again c =
     let n : c .before .before .before .before .before .before .before .before .before .stride-of .result ≡ stride (p .rows) = c .before .before .before .before .before .before .before .before .before .stride-of .ensures in
     let f = s .pre .0 .given .fine in
     let w : ℕ → List ℕ = piece wordBytes (s .args .words .now) in
-    let o = c .before .before .move-pulse in
+    let o = c .before .before .move-symbol in
     let q : c .before .before .before .before .data-at .result ≡ _ = c .before .before .before .before .data-at .ensures ∙ sym (placed-at p f w (s .args .r) (l .x) (l .inv .0) (omega arith) (omega arith)) in
+    let low : c .before .before .before .before .data-at .result < p .group = rw q (let b = placed-below p f w (l .x) in omega arith) in
+    let moved = o .ensures p (of p f (s .args .line * p .markers + p .markers + l .x) (c .before .before .before .before .data-at .result) (omega arith) low) in
     let on : l .x + stride (p .rows) ≡ l .x + c .before .before .before .before .before .before .before .before .before .stride-of .result = ap (λ (m : ℕ). l .x + m) (sym n) in (
       ap (λ (y : ℕ). y % stride (p .rows)) (sym on) ∙ add-mod-right (l .x) (stride (p .rows)) ∙ l .inv .0,
       omega arith,
       omega arith,
-      o .kept .0 ∙ l .inv .3,
-      λ v h. rw on at (residue-more p w (s .args .line) f (s .args .r) (s .pre .1 .small) (l .x) _ (c .before .before .before .before .data-at .result) v (l .slots) (o .last .0) (s .pre .1 .inside) (l .inv .0) (l .inv .1) (omega arith) refl q (l .inv .4 v h) (o .ensures) (λ i. omega (arith, c .slice-known2 .given i))),
+      o .kept .1 .1 .1 .1 .0 ∙ l .inv .3,
+      λ v h. rw on at (residue-more p w (s .args .line) f (s .args .r) (s .pre .1 .small) (l .x) _ (c .before .before .before .before .data-at .result) v (l .slots) (o .last .1 .1 .1 .1 .0) (l .inv .0) (l .inv .1) (omega arith) refl q (l .inv .4 v h) moved),
     )
 
 same-length : tie.Need-same-length Inv-loop μ-loop
@@ -248,9 +235,8 @@ put-residue-spec =
     loop-holds
     sub-data-at
     data-at-requires
-    add-move-pulse
-    mul-move-pulse
-    move-pulse-requires
+    add-move-symbol
+    move-symbol-requires
     add-x
     loop-less
     loop-again

@@ -15,13 +15,16 @@ mul-end : tie.Need-mul-end
 mul-end c = search needs
 
 mul-end-2 : tie.Need-mul-end-2
-mul-end-2 c = search needs
+mul-end-2 c = let s = c .before .before .before .before .before in let k = bounds (s .args .p) (s .pre .given .fine) in omega arith
+
+mul-end-3 : tie.Need-mul-end-3
+mul-end-3 c = let s = c .before .before .before .before .before in let k = bounds (s .args .p) (s .pre .given .fine) in omega arith
 
 slice-aggregate-fill-zeros : tie.Need-slice-aggregate-fill-zeros
 slice-aggregate-fill-zeros c = search needs
 
 fill-zeros-requires : tie.Need-fill-zeros-requires
-fill-zeros-requires c κs = let s = c .before .before .before .before .before in let k = bounds (s .args .p) (s .pre .given .fine) in (omega arith, omega arith, omega arith)
+fill-zeros-requires c κs = let s = c .before .before .before .before .before .before in let k = bounds (s .args .p) (s .pre .given .fine) in (omega arith, omega arith, omega arith)
 
 slice-aggregate-put-lines : tie.Need-slice-aggregate-put-lines
 slice-aggregate-put-lines c = search needs
@@ -36,7 +39,7 @@ same-length : tie.Need-same-length
 same-length c = search needs
 
 returns : tie.Need-returns
-returns c = let s = c .before .before .before .before .before .before .before .before .before .before .before .before .before .before .before .before in holds-all (s .args .p) (s .pre .given .fine) (piece wordBytes (s .args .words .now)) _ _ (c .before .before .before .before .before .before .put-lines .ensures) (c .before .before .clear-spare .ensures) (λ i. omega (arith, c .slice-known3 .given i))
+returns c = let s = c .before .before .before .before .before .before .before .before .before .before .before .before .before .before .before .before .before in holds-all (s .args .p) (s .pre .given .fine) (piece wordBytes (s .args .words .now)) _ _ (c .before .before .before .before .before .before .put-lines .ensures) (c .before .before .clear-spare .ensures) (λ i. omega (arith, c .slice-known3 .given i))
 
 pub write-spec : {M : Type 1} → statement M
 write-spec =
@@ -45,6 +48,7 @@ write-spec =
     add-end
     mul-end
     mul-end-2
+    mul-end-3
     slice-aggregate-fill-zeros
     fill-zeros-requires
     slice-aggregate-put-lines

@@ -6,7 +6,7 @@ use native.Mathlib.Nat.{le-refl, mul-le-mul}
 use borrow.Author.Needs.{needs}
 use Rattle.plan.specs.Plan.{unit, symbolCount}
 use Rattle.slots.specs.Bounds.{Bounds, bounds}
-use Rattle.capture.specs.Capture.{symbolIn, markRight, firstBadMark}
+use Rattle.capture.specs.Capture.{pooledIn, markRight, firstBadMark}
 use Rattle.bits.specs.First.{Sought, sought-start, sought-fails, sought-more, sought-end}
 use Rattle.channel.specs.Markers.{line-in, mark-else}
 use Rattle.capture.proofs.marks.first_bad_mark.Statement.{statement}
@@ -59,7 +59,7 @@ loop-again c =
     let p = s .args .p in
     let r = known s (l .line) (omega arith) in
     sought-more _ _ _ _ (l .line) (l .inv) (l .line * unit p + p .markers) _ (omega arith) (omega arith) (omega arith) (c .before .bad-mark-in .ensures) (omega arith) (omega arith)
-    (mark-else (p .symbols) (p .markers) (l .line) (p .marks) (symbolIn p (s .args .b .now)))
+    (mark-else (p .symbols) (p .markers) (l .line) (p .marks) (pooledIn p (s .args .b .now)))
 
 mul-result : tie.Need-mul-result Inv-loop μ-loop
 mul-result c =

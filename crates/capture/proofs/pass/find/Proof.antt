@@ -6,19 +6,20 @@ use native.Mathlib.Nat.{le-refl, mul-le-mul, mod-lt, div-add-mod'}
 use lib.ListN.{length}
 use borrow.Author.Needs.{needs}
 use Rattle.bits.specs.First.{upTo}
-use Rattle.pulses.specs.Pulses.{grouped, firstBadGroup}
+use Rattle.pool.specs.Pooled.{firstUndecided}
 use Rattle.pulses.specs.Zeros.{some-groups}
 use Rattle.slots.specs.Bounds.{Bounds, bounds, shape}
 use Rattle.plan.specs.Plan.{unit, symbolCount}
-use Rattle.capture.proofs.Passing.{Upto, upto-start, upto-zeros, upto-bad, upto-good, upto-end, forties-zero, forties-in, few-groups}
+use Rattle.capture.specs.Capture.{decidedIn}
+use Rattle.capture.proofs.Passing.{Upto, upto-start, upto-zeros, upto-bad, upto-good, upto-end, parts-zero, parts-in, few-groups}
 use Rattle.capture.proofs.pass.find.Statement.{statement}
 use Rattle.capture.proofs.pass.find.Tie as tie
 
 abbrev Inv-loop : tie.InvT-loop
-Inv-loop p b words₀ n count whole given rest₀ c₀ words rest c = (c ≤ whole) × (length words ≡ length words₀) × Upto p b (c * count) rest words
+Inv-loop p b words₀ n count whole given rest₀ copies c₀ words rest c = (c ≤ whole) × (length words ≡ length words₀) × Upto p b (c * count) rest words
 
 abbrev μ-loop : tie.MeasureT-loop
-μ-loop p b words₀ n count whole given rest₀ c₀ words rest c = whole - c
+μ-loop p b words₀ n count whole given rest₀ copies c₀ words rest c = whole - c
 
 -- the sizes that the needs rest on
 known : (s : tie.Start Inv-loop μ-loop) → Bounds (s .args .p) × (1 ≤ 320 / s .args .p .group) × (16 * (320 / s .args .p .group) ≤ unit (s .args .p))
@@ -38,8 +39,8 @@ inside s e l =
 apart : (c e count : ℕ) → c ≤ e → c * count ≤ e * count
 apart c e count l = mul-le-mul l (le-refl count)
 
-forties : (s : tie.Start Inv-loop μ-loop) → 40 * (symbolCount (s .args .p) / (320 / s .args .p .group)) ≤ length (s .args .b .now)
-forties s = forties-in (s .args .p) (s .pre .0 .fine) (s .args .b .now) (s .pre .0 .long)
+forties : (s : tie.Start Inv-loop μ-loop) → 40 * (symbolCount (s .args .p) / (320 / s .args .p .group) * s .args .p .copies) ≤ length (s .args .b .now)
+forties s = parts-in (s .args .p) (s .pre .0 .fine) (s .args .b .now) (s .pre .0 .long)
 
 add-n : tie.Need-add-n Inv-loop μ-loop
 add-n c = let r = known (c .before .before .before) in omega arith
@@ -56,11 +57,11 @@ div-whole c = known (c .before .before .before .before .before) .1
 zeros-requires : tie.Need-zeros-requires Inv-loop μ-loop
 zeros-requires c κs = let r = known (c .before .before .before .before .before) in omega arith
 
-slice-aggregate-past-zeros : tie.Need-slice-aggregate-past-zeros Inv-loop μ-loop
-slice-aggregate-past-zeros c = sym ((c .before) .zeros .ensures .long)
+slice-aggregate-zeros-end : tie.Need-slice-aggregate-zeros-end Inv-loop μ-loop
+slice-aggregate-zeros-end c = sym ((c .before) .zeros .ensures .long)
 
-past-zeros-requires : tie.Need-past-zeros-requires Inv-loop μ-loop
-past-zeros-requires c κs = record { order = omega arith; room = forties (c .before .before .before .before .before .before .before); long = (c .before) .zeros .ensures .long }
+zeros-end-requires : tie.Need-zeros-end-requires Inv-loop μ-loop
+zeros-end-requires c κs = record { copies-least = (c .before .before .before .before .before .before .before) .pre .0 .fine .copies-least; order = omega arith; room = forties (c .before .before .before .before .before .before .before); long = (c .before) .zeros .ensures .long }
 
 loop-holds : tie.Need-loop-holds Inv-loop μ-loop
 loop-holds c =
@@ -68,13 +69,13 @@ loop-holds c =
     let p = s .args .p in
     let f = s .pre .0 .fine in
     let z = (c .before .before) .zeros in
-    let o = c .past-zeros in
+    let o = c .zeros-end in
     let k : ℕ = o .result in
     let most : k ≤ symbolCount p / (320 / p .group) = o .ensures .1 in (
       most,
       refl,
       upto-zeros p f (s .args .b .now) 0 (k * (320 / p .group)) (symbolCount p) (s .args .words .now) (upto-start p f (s .args .b .now) (s .args .words .now) (s .pre .1)) (omega arith) (inside s k most)
-          (λ i a l. forties-zero p f (s .args .b .now) _ (z .ensures) 0 k (o .ensures .2) i (omega arith) l),
+          (λ i a l. parts-zero p f (s .args .b .now) _ (z .ensures) 0 k (o .ensures .2) i (omega arith) l),
     )
 
 slice-aggregate-others-end : tie.Need-slice-aggregate-others-end Inv-loop μ-loop
@@ -82,7 +83,7 @@ slice-aggregate-others-end c = sym ((c .before .before .before .before .before) 
 
 others-end-requires : tie.Need-others-end-requires Inv-loop μ-loop
 others-end-requires c κs =
-    (record { order = (c .before .before) .loop .inv .0; room = forties (c .before .before .before .before .before .before .before .before .before .before .before); long = (c .before .before .before .before .before) .zeros .ensures .long }, (c .before) .loop-test .taken)
+    (record { copies-least = (c .before .before .before .before .before .before .before .before .before .before .before) .pre .0 .fine .copies-least; order = (c .before .before) .loop .inv .0; room = forties (c .before .before .before .before .before .before .before .before .before .before .before); long = (c .before .before .before .before .before) .zeros .ensures .long }, (c .before) .loop-test .taken)
 
 mul-look : tie.Need-mul-look Inv-loop μ-loop
 mul-look c =
@@ -135,16 +136,16 @@ returns c =
     let bad = c .if1 .taken in
     (upto-bad p (s .pre .0 .fine) (s .args .b .now) (l .c * count) (o .result * count) (l .rest) (l .words) (l .inv .2) up i _ (f .ensures .0) bad, λ q. absurd (omega arith))
 
-slice-aggregate-past-zeros-2 : tie.Need-slice-aggregate-past-zeros-2 Inv-loop μ-loop
-slice-aggregate-past-zeros-2 c = sym ((c .before .before .before .before .before .before .before .before .before .before .before .before .before) .zeros .ensures .long)
+slice-aggregate-zeros-end-2 : tie.Need-slice-aggregate-zeros-end-2 Inv-loop μ-loop
+slice-aggregate-zeros-end-2 c = sym ((c .before .before .before .before .before .before .before .before .before .before .before .before .before) .zeros .ensures .long)
 
-past-zeros-requires-2 : tie.Need-past-zeros-requires-2 Inv-loop μ-loop
-past-zeros-requires-2 c κs = record { order = (c .before .before .before .before .before .before .before) .others-end .ensures .1; room = forties (c .before .before .before .before .before .before .before .before .before .before .before .before .before .before .before .before .before .before .before); long = (c .before .before .before .before .before .before .before .before .before .before .before .before .before) .zeros .ensures .long }
+zeros-end-requires-2 : tie.Need-zeros-end-requires-2 Inv-loop μ-loop
+zeros-end-requires-2 c κs = record { copies-least = (c .before .before .before .before .before .before .before .before .before .before .before .before .before .before .before .before .before .before .before) .pre .0 .fine .copies-least; order = (c .before .before .before .before .before .before .before) .others-end .ensures .1; room = forties (c .before .before .before .before .before .before .before .before .before .before .before .before .before .before .before .before .before .before .before); long = (c .before .before .before .before .before .before .before .before .before .before .before .before .before) .zeros .ensures .long }
 
 loop-less : tie.Need-loop-less Inv-loop μ-loop
 loop-less c =
     let o = (c .before .before .before .before .before .before .before .before) .others-end .ensures in
-    let z = c .past-zeros2 .ensures in
+    let z = c .zeros-end2 .ensures in
     let t = (c .before .before .before .before .before .before .before .before .before .before) .loop-test .taken in
     omega arith
 
@@ -157,7 +158,7 @@ loop-again c =
     let l = (c .before .before .before .before .before .before .before .before .before .before .before) .loop in
     let o = (c .before .before .before .before .before .before .before .before) .others-end in
     let f = (c .before .before .before .before .before .before) .look in
-    let z = c .past-zeros2 in
+    let z = c .zeros-end2 in
     let count : ℕ = 320 / p .group in
     let up : l .c * count ≤ o .result * count = apart (l .c) (o .result) count (let q = o .ensures .0 in omega arith) in
     let i = inside s (o .result) (o .ensures .1) in
@@ -168,7 +169,7 @@ loop-again c =
       upto-zeros p fine b (o .result * count) (z .result * count) _ _
           (upto-good p fine b (l .c * count) (o .result * count) (l .rest) (l .words) (l .inv .2) up i _ (f .ensures .0) good _ _ (f .ensures .1 good))
           on (inside s (z .result) (z .ensures .1))
-          (λ k a m. forties-zero p fine b _ ((c .before .before .before .before .before .before .before .before .before .before .before .before .before .before) .zeros .ensures) (o .result) (z .result) (z .ensures .2) k a m),
+          (λ k a m. parts-zero p fine b _ ((c .before .before .before .before .before .before .before .before .before .before .before .before .before .before) .zeros .ensures) (o .result) (z .result) (z .ensures .2) k a m),
     )
 
 mul-from : tie.Need-mul-from Inv-loop μ-loop
@@ -195,7 +196,7 @@ same-length-2 : tie.Need-same-length-2 Inv-loop μ-loop
 same-length-2 c = (c .before .before) .look2 .kept .1 .1 .1 .1 .1 .0 ∙ (c .before .before .before .before .before .before) .loop .inv .1
 
 returns-2 : tie.Need-returns-2 Inv-loop μ-loop
-unfolding firstBadGroup
+unfolding firstUndecided
 returns-2 c =
     let s = c .before .before .before .before .before .before .before .before .before .before .before .before .before .before .before in
     let p = s .args .p in
@@ -203,7 +204,7 @@ returns-2 c =
     let count : ℕ = 320 / p .group in
     let f = (c .before .before) .look2 in
     let e : symbolCount p / count ≡ l .c = let t = l .inv .0 in let u = (c .before .before .before .before .before) .loop-test .left in omega arith in (
-      f .ensures .0 ∙ ap (λ (k : ℕ). upTo (grouped (p .order) (p .group) (s .args .b .now)) (k * count) (symbolCount p)) e ∙ l .inv .2 .groups,
+      f .ensures .0 ∙ ap (λ (k : ℕ). upTo (decidedIn p (s .args .b .now)) (k * count) (symbolCount p)) e ∙ l .inv .2 .groups,
       λ q. f .ensures .1 (omega arith),
     )
 
@@ -234,8 +235,8 @@ find-spec =
     div-count
     div-whole
     zeros-requires
-    slice-aggregate-past-zeros
-    past-zeros-requires
+    slice-aggregate-zeros-end
+    zeros-end-requires
     loop-holds
     slice-aggregate-others-end
     others-end-requires
@@ -245,8 +246,8 @@ find-spec =
     mul-if1
     same-length
     returns
-    slice-aggregate-past-zeros-2
-    past-zeros-requires-2
+    slice-aggregate-zeros-end-2
+    zeros-end-requires-2
     loop-less
     loop-again
     mul-from

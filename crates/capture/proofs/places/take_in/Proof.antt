@@ -13,7 +13,7 @@ use Rattle.channel.specs.Markers.{line-in, rest-else}
 use Rattle.channel.specs.Places.{remainder-on}
 use Rattle.slots.specs.Bounds.{bounds, Bounds}
 use Rattle.plan.specs.Plan.{unit, total, symbolCount}
-use Rattle.capture.specs.Capture.{symbolIn, restZero}
+use Rattle.capture.specs.Capture.{pooledIn, restZero}
 use Rattle.capture.specs.Taking.{Took}
 use Rattle.capture.proofs.Taken.{took-marks}
 use Rattle.capture.proofs.places.take_in.Statement.{statement}
@@ -69,7 +69,7 @@ loop-holds c =
       omega arith,
       omega arith,
       refl,
-      λ k g l m. rest-else (p .symbols) (p .markers) (a .line) (p .rows) (p .step) (total p) (symbolIn p (a .b .now)) k (omega arith) (omega arith),
+      λ k g l m. rest-else (p .symbols) (p .markers) (a .line) (p .rows) (p .step) (total p) (pooledIn p (a .b .now)) k (omega arith) (omega arith),
       refl,
       took-marks p (h .0 .captured .fine) (a .b .now) (a .words .now) (a .line) (a .from) _ (omega arith) low (λ q. omega arith) (h .4),
     )

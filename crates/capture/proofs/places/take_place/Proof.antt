@@ -1,28 +1,26 @@
--- A hit lays its symbol among the words; of the others one slot tells.
+-- A hit lays its symbol among the words; the others must be 0.
 use mathlib.Core.Path.{_≡_, sym, ap, _∙_}
-use Prim.Native.Nat.{ℕ, _+_, _*_, _≤_, _<_}
+use Prim.Native.Nat.{_+_, _*_, _≤_, _<_}
 use native.Mathlib.Omega.{arith}
 use Rattle.bits.specs.Choice.{bool}
-use Rattle.bits.specs.Pack.{bitAt}
 use Rattle.plan.specs.Plan.{unit, total, symbolCount}
 use borrow.Author.Needs.{needs}
-use Rattle.slots.specs.Bounds.{Held, held, placing, lies}
+use Rattle.slots.specs.Bounds.{Bounds, bounds, placing}
 use Rattle.slots.specs.Slots.{hitBy}
-use Rattle.pulses.specs.Groups.{group-got}
-use Rattle.pulses.specs.Needs.{fewer}
-use Rattle.capture.specs.Capture.{symbolIn}
+use Rattle.capture.specs.Capture.{pooledIn}
+use Rattle.capture.specs.Needs.{Decided}
 use Rattle.channel.specs.Markers.{line-in, rest-hit, rest-unhit}
 use Rattle.capture.proofs.Taken.{puts, took-hit, took-unhit}
 use Rattle.capture.proofs.places.take_place.Statement.{statement}
 use Rattle.capture.proofs.places.take_place.Tie as tie
 
 -- the sizes that the needs rest on
-known : (s : tie.Start) → (s .args .line * unit (s .args .p) + unit (s .args .p) ≤ symbolCount (s .args .p)) × Held (s .args .p) (s .args .b .now) (s .args .line * unit (s .args .p) + (s .args .p .markers + s .args .i))
-known s =
-    let a = s .args in
-    let h = s .pre in
-    let u = line-in (unit (a .p)) (a .p .lines) (a .line) (h .1) in
-    (u, held (a .p) (h .0 .fine) (a .b .now) (h .0 .long) (a .line * unit (a .p) + (a .p .markers + a .i)) (omega arith))
+known : (s : tie.Start) → (s .args .line * unit (s .args .p) + unit (s .args .p) ≤ symbolCount (s .args .p)) × Bounds (s .args .p)
+known s = (line-in (unit (s .args .p)) (s .args .p .lines) (s .args .line) (s .pre .1), bounds (s .args .p) (s .pre .0 .fine))
+
+-- its symbol is decided
+decided : (s : tie.Start) → Decided (s .args .p) (s .args .b .now) (s .args .line * unit (s .args .p) + (s .args .p .markers + s .args .i))
+decided s = let r = known s in let h = s .pre in record { captured = h .0; among = omega arith; small = h .4 }
 
 mul-total : tie.Need-mul-total
 mul-total c = search needs
@@ -51,14 +49,8 @@ hit-by-requires c κs =
     let a = s .args in
     placing (a .p) (s .pre .0 .fine) (a .line * a .p .symbols + a .i) (a .c) (s .pre .3)
 
-seen-requires : tie.Need-seen-requires
-seen-requires c κs =
-    let s = c .before .before .before .before .before .before .before in
-    let a = s .args in
-    let h = s .pre in
-    let r = known s in
-    let at : ℕ = a .line * unit (a .p) + (a .p .markers + a .i) in
-    (fewer (a .p .order) (a .p .group) (symbolCount (a .p)) (a .b .now) (lies (a .p) (h .0 .fine) (a .b .now) (h .0 .long)) (at + 1) (omega arith), h .4)
+symbol-requires : tie.Need-symbol-requires
+symbol-requires c κs = decided (c .before .before .before .before .before .before .before)
 
 put-symbol-requires : tie.Need-put-symbol-requires
 put-symbol-requires c κs =
@@ -67,7 +59,7 @@ put-symbol-requires c κs =
     let h = s .pre in
     let e = c .before .before .before .hit-by .ensures in
     let hit : hitBy (a .p) (a .line * a .p .symbols + a .i) < total (a .p) = let t = c .before .before .if1 .taken in omega arith in
-    rw (e, c .before .seen .ensures) (puts (a .p) (h .0 .fine) (a .b .now) (a .words .now) (a .line) (a .i) (h .2) hit (h .4) (h .5))
+    rw (e, c .before .symbol .ensures) (puts (a .p) (h .0 .fine) (a .b .now) (a .words .now) (a .line) (a .i) (h .2) hit (h .4) (h .5))
 
 same-length : tie.Need-same-length
 same-length c = search needs
@@ -79,28 +71,21 @@ returns c =
     let h = s .pre in
     let e = c .before .before .before .before .before .before .hit-by .ensures in
     let hit : hitBy (a .p) (a .line * a .p .symbols + a .i) < total (a .p) = let t = c .before .before .before .before .before .if1 .taken in omega arith in (
-      ap bool (sym (rest-hit (a .p .symbols) (a .p .markers) (a .line) (a .p .rows) (a .p .step) (total (a .p)) (symbolIn (a .p) (a .b .now)) (a .i) (h .2) hit)),
-      took-hit (a .p) (h .0 .fine) (a .b .now) (a .words .now) (a .line) (a .i) (h .2) _ hit (rw (e, c .before .before .before .before .seen .ensures) at (c .before .before .put-symbol .ensures)) (h .5),
+      ap bool (sym (rest-hit (a .p .symbols) (a .p .markers) (a .line) (a .p .rows) (a .p .step) (total (a .p)) (pooledIn (a .p) (a .b .now)) (a .i) (h .2) hit)),
+      took-hit (a .p) (h .0 .fine) (a .b .now) (a .words .now) (a .line) (a .i) (h .2) _ hit (rw (e, c .before .before .before .before .symbol .ensures) at (c .before .before .put-symbol .ensures)) (h .5),
     )
 
-mul-bit-at : tie.Need-mul-bit-at
-mul-bit-at c = let r = known (c .before .before .before .before .before .before .before .before) in omega arith
-
-bit-at-requires : tie.Need-bit-at-requires
-bit-at-requires c κs = let r = known (c .before .before .before .before .before .before .before .before) in omega arith
+is-symbol-requires : tie.Need-is-symbol-requires
+is-symbol-requires c κs = let s = c .before .before .before .before .before .before .before in let r = known s in (decided s, omega arith)
 
 returns-2 : tie.Need-returns-2
 returns-2 c =
-    let s = c .before .before .before .before .before .before .before .before .before in
+    let s = c .before .before .before .before .before .before .before .before in
     let a = s .args in
     let h = s .pre in
-    let r = known s in
-    let k : ℕ = a .line * unit (a .p) + (a .p .markers + a .i) in
-    let e : k * a .p .group ≡ k * a .p .group + 0 = omega arith in
-    let none : total (a .p) ≤ hitBy (a .p) (a .line * a .p .symbols + a .i) = let d = c .before .before .before .hit-by .ensures in let l = c .before .before .if1 .left in omega arith in (
-      c .bit-at .ensures ∙ ap (bitAt (a .b .now)) e
-          ∙ group-got (a .p .order) (a .p .group) (omega arith) (a .b .now) k (h .4) .slot 0 (omega arith)
-          ∙ ap bool (sym (rest-unhit (a .p .symbols) (a .p .markers) (a .line) (a .p .rows) (a .p .step) (total (a .p)) (symbolIn (a .p) (a .b .now)) (a .i) (h .2) none)),
+    let none : total (a .p) ≤ hitBy (a .p) (a .line * a .p .symbols + a .i) = let d = c .before .before .hit-by .ensures in let l = c .before .if1 .left in omega arith in (
+      c .is-symbol .ensures
+          ∙ ap bool (sym (rest-unhit (a .p .symbols) (a .p .markers) (a .line) (a .p .rows) (a .p .step) (total (a .p)) (pooledIn (a .p) (a .b .now)) (a .i) (h .2) none)),
       took-unhit (a .p) (h .0 .fine) (a .b .now) (a .words .now) (a .line) (a .i) (h .2) none (h .5),
     )
 
@@ -116,10 +101,9 @@ take-place-spec =
     mul-hit-by
     add-hit-by
     hit-by-requires
-    seen-requires
+    symbol-requires
     put-symbol-requires
     same-length
     returns
-    mul-bit-at
-    bit-at-requires
+    is-symbol-requires
     returns-2)

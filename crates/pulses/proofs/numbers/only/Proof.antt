@@ -6,7 +6,8 @@ use lib.Bits.{bitOr}
 use lib.Dec.{eqb}
 use borrow.Author.Needs.{needs}
 use Rattle.bits.specs.Choice.{bool-lt}
-use Rattle.pulses.proofs.Swept.{Swept, swept-none, swept-more, numberAt, swept-bits}
+use Rattle.pulses.specs.Swept.{Swept, swept-none, swept-more}
+use Rattle.pulses.proofs.Swept.{numberAt, swept-bits}
 use Rattle.pulses.proofs.numbers.only.Statement.{statement}
 use Rattle.pulses.proofs.numbers.only.Tie as tie
 

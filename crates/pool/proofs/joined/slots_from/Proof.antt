@@ -1,0 +1,81 @@
+-- Copy after copy, and the slots that were asked for.
+use mathlib.Core.Path.{_≡_, ap, _∙_}
+use Prim.Native.Nat.{ℕ, _-_, _%_, _≤_}
+use native.Mathlib.Omega.{arith}
+use borrow.Author.Needs.{needs}
+use Rattle.bits.specs.Pack.{val, cut}
+use Rattle.bits.specs.Window.{bitsFrom}
+use Rattle.pool.specs.Joined.{some}
+use Rattle.pool.proofs.Joining.{slot-lt, join-none, join-more, shownOf, shown-bits, joined-lit}
+use Rattle.pool.proofs.joined.slots_from.Statement.{statement}
+use Rattle.pool.proofs.joined.slots_from.Tie as tie
+
+abbrev Inv-loop : tie.InvT-loop
+Inv-loop b copies group s at width rest any₀ c₀ any c = (c ≤ copies) × (any ≡ val (λ t. some (λ c. shownOf b copies group s at c t) c) 64)
+
+abbrev μ-loop : tie.MeasureT-loop
+μ-loop b copies group s at width rest any₀ c₀ any c = copies - c
+
+sub-rest : tie.Need-sub-rest Inv-loop μ-loop
+sub-rest c = search needs
+
+loop-holds : tie.Need-loop-holds Inv-loop μ-loop
+loop-holds c = (omega arith, join-none _)
+
+slot-requires : tie.Need-slot-requires Inv-loop μ-loop
+slot-requires c κs = search needs
+
+window-requires : tie.Need-window-requires Inv-loop μ-loop
+window-requires c κs =
+    let a = c .before .before .before .before .args in
+    let l = c .before .before .loop in
+    let i = slot-lt (a .s) (a .copies) (a .group) (l .c) (a .at) (omega arith) (omega arith) in
+    let e = c .slot .ensures in
+    search needs
+
+add-c : tie.Need-add-c Inv-loop μ-loop
+add-c c = search needs
+
+loop-less : tie.Need-loop-less Inv-loop μ-loop
+loop-less c = search needs
+
+loop-again : tie.Need-loop-again Inv-loop μ-loop
+loop-again c =
+    let a = c .before .before .before .before .before .args in
+    let l = c .before .before .before .loop in
+    let w : ℕ → ℕ → ℕ = shownOf (a .b .now) (a .copies) (a .group) (a .s) (a .at) in (
+      omega arith,
+      join-more w (shown-bits (a .b .now) (a .copies) (a .group) (a .s) (a .at)) (l .c) (l .any) (c .window .result) (l .inv .1)
+          (c .window .ensures ∙ ap (λ (y : ℕ). val (cut (64 - y % 8) (bitsFrom (a .b .now) y)) 64) (c .before .slot .ensures)),
+    )
+
+shr-result : tie.Need-shr-result Inv-loop μ-loop
+shr-result c = search needs
+
+shl-result : tie.Need-shl-result Inv-loop μ-loop
+shl-result c = search needs
+
+returns : tie.Need-returns Inv-loop μ-loop
+returns c =
+    let a = c .before .before .before .args in
+    let l = c .before .loop in
+    let w : ℕ → ℕ → ℕ = shownOf (a .b .now) (a .copies) (a .group) (a .s) (a .at) in
+    let e : l .c ≡ a .copies = omega arith in
+    joined-lit (a .b .now) (a .copies) (a .group) (a .s) (a .at) (a .width) (l .any) (omega arith) (l .inv .1 ∙ ap (λ (n : ℕ). val (λ t. some (λ c. w c t) n) 64) e)
+
+pub slots-from-spec : {M : Type 1} → statement M
+slots-from-spec =
+    tie.close
+    (tie.spec
+    Inv-loop
+    μ-loop
+    sub-rest
+    loop-holds
+    slot-requires
+    window-requires
+    add-c
+    loop-less
+    loop-again
+    shr-result
+    shl-result
+    returns)
