@@ -22,7 +22,7 @@ PLAIN = -O3 -march=native
 SANITIZED = -O1 -g -fsanitize=address,undefined -fno-sanitize-recover=all
 RUSTFLAGS = --edition 2021 -O -D warnings
 
-VERSION = 0.3.0
+VERSION = 0.4.0
 
 # The static library: all calls. Another archive can stand in for it, such as the plain C version,
 # which shows that the tests outside the proofs hold without the library:
@@ -32,7 +32,7 @@ LIBRARY = target/lib/libmahyrei.a
 LIBS = $(LIBRARY)
 # The shared library, from the same objects. Programs look for it by its ABI, which changes when one
 # that was linked with an older one could no longer run with it, or would get other words from it.
-ABI = 2
+ABI = 3
 SHARED = $(dir $(firstword $(LIBS)))libmahyrei.so.$(VERSION)
 HOST = target/host
 HEADER = include/mahyrei.h include/mahyrei_plain.h
@@ -61,12 +61,13 @@ WORDS ?=
 PASSES ?=
 RUNS ?=
 CAPTURES ?=
+HEADERS ?=
 UPLINKS ?=
 
 help:
 	@echo 'make test       prove every crate (rt ci), then host-test; last line: N passed, 0 failed'
 	@echo 'make host-test  the tests outside the proofs alone; SEED=n, WORDS=n, PASSES=n, RUNS=n,'
-	@echo '                UPLINKS=n and CAPTURES=n choose what is compared'
+	@echo '                CAPTURES=n, HEADERS=n and UPLINKS=n choose what is compared'
 	@echo 'make demo       write a run, see its first symbols, read it back, damage it, look into it'
 	@echo 'make bench      times of the library beside plain C and beside memory'
 	@echo 'make lib        the static library and the shared one: $(LIBS)'
@@ -88,9 +89,9 @@ PYTHON_TEST = if ! command -v python3 >/dev/null; then \
     echo 'python: no python3 here; the module is not tried'; \
     else MAHYREI_LIBRARY=$(abspath $(SHARED)) tests/python/module $(PROGRAM) $(HOST)/slots; fi
 HOST_TESTS = $(SHARED) $(addprefix $(HOST)/,mahyrei_lying word_calls pass_calls spread_calls \
-    run_calls long_calls find_calls uplink_calls plain_calls sha256_vectors second_test \
-    compare_words compare_passes compare_spreads compare_runs compare_captures compare_uplinks) \
-    $(COMMAND_TESTS)
+    run_calls long_calls find_calls header_calls uplink_calls plain_calls sha256_vectors \
+    second_test compare_words compare_passes compare_spreads compare_runs compare_captures \
+    compare_headers compare_uplinks) $(COMMAND_TESTS)
 host-test: $(HOST_TESTS)
 	@echo '#include "mahyrei_plain.h"' | $(CXX) -x c++ $(WARNINGS) -Iinclude -fsyntax-only -
 	@$(STACK) && ASAN_OPTIONS=detect_leaks=0 $(HOST)/word_calls
@@ -99,6 +100,7 @@ host-test: $(HOST_TESTS)
 	@$(STACK) && ASAN_OPTIONS=detect_leaks=0 $(HOST)/run_calls
 	@$(STACK) && ASAN_OPTIONS=detect_leaks=0 $(HOST)/long_calls
 	@$(STACK) && ASAN_OPTIONS=detect_leaks=0 $(HOST)/find_calls
+	@$(STACK) && ASAN_OPTIONS=detect_leaks=0 $(HOST)/header_calls
 	@$(STACK) && ASAN_OPTIONS=detect_leaks=0 $(HOST)/uplink_calls
 	@$(STACK) && ASAN_OPTIONS=detect_leaks=0 $(HOST)/plain_calls
 	@ASAN_OPTIONS=detect_leaks=0 $(HOST)/sha256_vectors
@@ -108,6 +110,7 @@ host-test: $(HOST_TESTS)
 	@$(STACK) && SEED=$(SEED) $(HOST)/compare_spreads
 	@$(STACK) && SEED=$(SEED) RUNS=$(RUNS) $(HOST)/compare_runs
 	@$(STACK) && SEED=$(SEED) CAPTURES=$(CAPTURES) $(HOST)/compare_captures
+	@$(STACK) && SEED=$(SEED) HEADERS=$(HEADERS) $(HOST)/compare_headers
 	@$(STACK) && SEED=$(SEED) UPLINKS=$(UPLINKS) $(HOST)/compare_uplinks
 	@$(STACK) && tests/command/run $(COMMAND_TESTS)
 	@$(PYTHON_TEST)
@@ -230,10 +233,10 @@ $(HOST)/sha256_vectors: tests/c/sha256_vectors.c host/sha256.c host/sha256.h
 	@mkdir -p $(@D)
 	@$(COMPILE) $(SANITIZED) -Ihost $< host/sha256.c -o $@
 
-SECOND = $(addprefix tests/second/,lib.rs compare.rs find.rs library.rs pass.rs run.rs spread.rs \
-    uplink.rs word.rs run_cases.rs $(addprefix run_cases/,calls.rs captures.rs copies.rs damages.rs \
-    edges.rs headers.rs kinds.rs refusals.rs sample.rs) pass_cases.rs spread_cases.rs \
-    uplink_cases.rs word_cases.rs)
+SECOND = $(addprefix tests/second/,lib.rs compare.rs convert.rs find.rs library.rs pass.rs run.rs \
+    spread.rs uplink.rs word.rs run_cases.rs $(addprefix run_cases/,calls.rs captures.rs convert.rs \
+    copies.rs damages.rs edges.rs headers.rs kinds.rs refusals.rs sample.rs) pass_cases.rs \
+    spread_cases.rs uplink_cases.rs word_cases.rs)
 $(HOST)/second_test: $(SECOND)
 	@mkdir -p $(@D)
 	@$(RUSTC) $(RUSTFLAGS) --test $< -o $@
@@ -293,9 +296,9 @@ fuzz: $(HOST)/fuzz_drive
 
 # The crates of the product that have code.
 CRATES ?= bits answers sizes crc convolution interleaver accumulator randomizer word pass spread \
-    header quantities questions parameters plan stream frames pulses channel slots capture \
-    starts search cut run_writer run_reader ldpc uplink uplink_writer uplink_reader calls sheet \
-    runsheet
+    header quantities questions convert parameters plan stream frames pulses pool channel slots \
+    capture starts search cut run_writer run_reader ldpc uplink uplink_writer uplink_reader calls \
+    sheet runsheet
 COUNT ?= 60
 .PHONY: mutants
 mutants:
@@ -310,13 +313,15 @@ evidence-test: $(HOST)/soak $(HOST)/fuzz_drive
 $(HOST)/soak: tests/second/soak.rs $(HOST)/libsecond.rlib $(LINKED)
 	@$(RUSTC) $(RUSTFLAGS) $< $(LINK_RUST) -o $@
 
-$(addprefix $(HOST)/,run_calls long_calls find_calls pass_calls spread_calls): tests/c/runs.h
+$(addprefix $(HOST)/,run_calls long_calls find_calls header_calls pass_calls spread_calls): \
+    tests/c/runs.h
 
 # The fuzz target with a driver in place of libFuzzer, beside the run calls in plain C.
 $(HOST)/plain_run.o: tests/c/plain_run.c bench/plain_word.h $(HEADER)
 	@mkdir -p $(@D)
 	@$(COMPILE) $(PLAIN) -Ibench -Drun_write=plain_run_write -Drun_read=plain_run_read \
-	    -Drun_find=plain_run_find -Drun_cut=plain_run_cut -c $< -o $@
+	    -Drun_find=plain_run_find -Drun_cut=plain_run_cut -Dheader_widen=plain_header_widen \
+	    -Dheader_narrow=plain_header_narrow -c $< -o $@
 
 FUZZ_TARGET = tests/fuzz/drive.c tests/fuzz/calls.c \
     $(addprefix $(HOST)/,plain_word.o plain_pass.o plain_run.o plain_uplink.o)

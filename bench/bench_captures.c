@@ -123,8 +123,8 @@ int main(void) {
         frames[i] = (uint8_t)(i * i >> 5);
     }
     pack_header(&LARGEST, header);
-    require(run_write(1, header, sizeof header, marker, MARKER_LEN, frames, sizeof frames, run,
-                      len) == MAHYREI_ACCEPTED,
+    require(run_write(header, sizeof header, marker, MARKER_LEN, frames, sizeof frames, run, len) ==
+                MAHYREI_ACCEPTED,
             "the run is refused");
     printf("run_find, the marker never comes: nanoseconds a byte, of half the bytes and of all\n");
     printf("%-34s %10s %9s %9s %8s\n", "capture", "bytes", "half", "all", "all/half");

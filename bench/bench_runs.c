@@ -40,12 +40,10 @@ struct slices {
     uint8_t header[MAHYREI_HEADER_BYTES], marker[MARKER_MOST];
     uint8_t *frames, *slots, *other;
     size_t marker_len, frames_len, slots_len;
-    uint64_t copies;
 };
 
 static void make(const struct run *run, struct slices *s) {
     pack_header(run, s->header);
-    s->copies = run->copies;
     s->marker_len = run->W;
     s->frames_len = run->A * run->F;
     s->slots_len = slot_bytes(run);
@@ -62,23 +60,23 @@ static void make(const struct run *run, struct slices *s) {
 /* ---- what is timed */
 
 static uint64_t write_library(struct slices *s) {
-    return run_write(s->copies, s->header, sizeof s->header, s->marker, s->marker_len, s->frames,
+    return run_write(s->header, sizeof s->header, s->marker, s->marker_len, s->frames,
                      s->frames_len, s->slots, s->slots_len);
 }
 
 static uint64_t write_plain(struct slices *s) {
-    return plain_run_write(s->copies, s->header, sizeof s->header, s->marker, s->marker_len,
-                           s->frames, s->frames_len, s->slots, s->slots_len);
+    return plain_run_write(s->header, sizeof s->header, s->marker, s->marker_len, s->frames,
+                           s->frames_len, s->slots, s->slots_len);
 }
 
 static uint64_t read_library(struct slices *s) {
-    return run_read(s->copies, s->header, sizeof s->header, s->marker, s->marker_len, s->slots,
-                    s->slots_len, s->frames, s->frames_len);
+    return run_read(s->header, sizeof s->header, s->marker, s->marker_len, s->slots, s->slots_len,
+                    s->frames, s->frames_len);
 }
 
 static uint64_t read_plain(struct slices *s) {
-    return plain_run_read(s->copies, s->header, sizeof s->header, s->marker, s->marker_len,
-                          s->slots, s->slots_len, s->frames, s->frames_len);
+    return plain_run_read(s->header, sizeof s->header, s->marker, s->marker_len, s->slots,
+                          s->slots_len, s->frames, s->frames_len);
 }
 
 static uint64_t clear(struct slices *s) {

@@ -12,7 +12,8 @@
  *                                    the capture behind it; around the run there are pulses alone
  *                                    if AROUND is 1, and none if it is 0
  *
- * Symbols count markers. The terms and letters are those of docs/SPECIFICATION.md.
+ * Symbols count markers, and all copies of one are damaged alike. The terms and letters are those
+ * of docs/SPECIFICATION.md.
  */
 #include <stdio.h>
 #include <stdlib.h>
@@ -36,21 +37,28 @@ static void flip(uint64_t slot) {
 
 /* The slot of a symbol's pulse. */
 static uint64_t pulse_of(uint64_t symbol) {
-    if (symbol >= capture.run.sizes.symbols || group_of(&capture, symbol).pulses == 0) {
+    if (symbol >= capture.run.sizes.pooled || group_of(&capture, symbol).pulses == 0) {
         give_up("no such symbol, or no pulse in it");
     }
     return group_of(&capture, symbol).first;
 }
 
+/* A slot of every copy of a symbol. */
+static void flip_copies(uint64_t symbol, uint64_t at) {
+    for (uint64_t copy = 0; copy < capture.run.fields.copies; copy++) {
+        flip(first_slot(&capture, symbol) + copy * capture.run.sizes.group + at);
+    }
+}
+
 static void lose(uint64_t symbol) {
-    flip(symbol * capture.run.sizes.group + pulse_of(symbol));
+    flip_copies(symbol, pulse_of(symbol));
 }
 
 /* Another symbol, by the bits in which it differs. */
 static void change(uint64_t symbol, uint64_t difference) {
     const uint64_t q = pulse_of(symbol);
-    flip(symbol * capture.run.sizes.group + q);
-    flip(symbol * capture.run.sizes.group + (q ^ difference));
+    flip_copies(symbol, q);
+    flip_copies(symbol, q ^ difference);
 }
 
 /* Step 8: the symbol that holds this bit of a word. */

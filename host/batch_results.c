@@ -218,7 +218,7 @@ bool still_done(const struct item *item, const struct record *record) {
            has_hex(item->operands[0], HEADER_LIMIT, record->header_hex) &&
            has_hex(item->operands[1], MARKER_LIMIT, record->marker_hex) &&
            has_digest(frames, FRAMES_LIMIT, record->frames_sha256) &&
-           has_digest(slots, SLOTS_LIMIT, record->slots_sha256);
+           has_digest(slots, record->slots_bytes + 1, record->slots_sha256);
 }
 
 /* ---- writing */

@@ -1,5 +1,7 @@
 #include "capture.h"
 
+#include <string.h>
+
 unsigned capture_of(const struct bytes *header, const struct bytes *slots,
                     struct capture *capture) {
     *capture = (struct capture){.slots = *slots};
@@ -7,8 +9,8 @@ unsigned capture_of(const struct bytes *header, const struct bytes *slots,
     if (number != MAHYREI_ACCEPTED) {
         return number;
     }
-    const uint64_t there = (uint64_t)slots->len * 8 / capture->run.sizes.group;
-    capture->present = there < capture->run.sizes.symbols ? there : capture->run.sizes.symbols;
+    const uint64_t there = (uint64_t)slots->len * 8 / symbol_slots(&capture->run);
+    capture->present = there < capture->run.sizes.pooled ? there : capture->run.sizes.pooled;
     return number;
 }
 
@@ -18,7 +20,11 @@ bool pulse_at(const struct capture *capture, uint64_t slot) {
     return (capture->slots.at[slot / 8] >> (7 - slot % 8) & 1) != 0;
 }
 
-static void count_pulse(struct group *group, uint64_t at, uint64_t M) {
+uint64_t first_slot(const struct capture *capture, uint64_t symbol) {
+    return symbol * symbol_slots(&capture->run);
+}
+
+static void add_leader(struct group *group, uint64_t at, uint64_t M) {
     if (at >= M) {
         group->guard = group->guard_pulses == 0 ? at : group->guard;
         group->guard_pulses++;
@@ -29,15 +35,32 @@ static void count_pulse(struct group *group, uint64_t at, uint64_t M) {
     group->pulses++;
 }
 
+/* One more pulse at a slot, which now has so many. */
+static void add_pulse(struct group *group, unsigned count, uint64_t at, uint64_t M) {
+    if (count > group->most) {
+        *group = (struct group){.most = count};
+    }
+    if (count == group->most) {
+        add_leader(group, at, M);
+    }
+}
+
+/* The most slots of a symbol: 256, and 64 guard slots. */
+enum { GROUP_MOST = 320 };
+
 /* Most bytes are empty, so they are gone over first. */
 struct group group_of(const struct capture *capture, uint64_t symbol) {
-    const uint64_t from = symbol * capture->run.sizes.group, end = from + capture->run.sizes.group;
+    const uint64_t from = first_slot(capture, symbol), end = first_slot(capture, symbol + 1);
+    const struct mahyrei_sizes *const sizes = &capture->run.sizes;
+    uint8_t counts[GROUP_MOST]; /* over the copies, of which there are at most 32 */
     struct group group = {0};
+    memset(counts, 0, sizes->group);
     for (uint64_t byte = from / 8; byte * 8 < end; byte++) {
         for (uint64_t slot = byte * 8; capture->slots.at[byte] != 0 && slot < byte * 8 + 8;
              slot++) {
             if (slot >= from && slot < end && pulse_at(capture, slot)) {
-                count_pulse(&group, slot - from, capture->run.sizes.M);
+                const uint64_t at = (slot - from) % sizes->group;
+                add_pulse(&group, ++counts[at], at, sizes->M);
             }
         }
     }
@@ -64,18 +87,26 @@ enum fault fault_of(const struct capture *capture, const uint8_t *marker, uint64
     return stand.part == IDLE_PART && group.first != 0 ? NOT_ZERO : SOUND;
 }
 
+/* The first copy of a symbol that has a pulse here. */
+static uint64_t pulse_of(const struct capture *capture, uint64_t symbol, uint64_t at) {
+    uint64_t slot = first_slot(capture, symbol) + at;
+    while (!pulse_at(capture, slot)) {
+        slot += capture->run.sizes.group;
+    }
+    return slot;
+}
+
 uint64_t fault_slot(const struct capture *capture, uint64_t symbol, enum fault fault) {
-    const uint64_t start = symbol * capture->run.sizes.group;
     const struct group group = fault == MISSING ? (struct group){0} : group_of(capture, symbol);
     switch (fault) {
     case GUARD_PULSE:
-        return start + group.guard;
+        return pulse_of(capture, symbol, group.guard);
     case SEVERAL_PULSES:
-        return start + group.second;
+        return pulse_of(capture, symbol, group.second);
     case WRONG_MARKER:
     case NOT_ZERO:
-        return start + group.first;
+        return pulse_of(capture, symbol, group.first);
     default:
-        return start;
+        return first_slot(capture, symbol);
     }
 }

@@ -22,13 +22,19 @@ struct capture {
  */
 unsigned capture_of(const struct bytes *header, const struct bytes *slots, struct capture *capture);
 
-/* The pulses of a symbol; places count from its first slot. */
+/* The slots of a symbol that have the most pulses, over all its copies: where it is sent once,
+ * those that have a pulse. Places count from the first slot of a copy. The symbol is told if there
+ * is one such slot, and it is among the M. */
 struct group {
-    unsigned pulses, guard_pulses; /* among the M slots, and behind them */
-    uint64_t first, second, guard; /* the first two of the former, the first of the latter */
+    unsigned most;                 /* pulses that each of them has */
+    unsigned pulses, guard_pulses; /* how many there are among the M slots, and behind them */
+    uint64_t first, second, guard; /* two of the former, and one of the latter */
 };
 
 struct group group_of(const struct capture *capture, uint64_t symbol);
+
+/* The first slot of a symbol's first copy. */
+uint64_t first_slot(const struct capture *capture, uint64_t symbol);
 bool pulse_at(const struct capture *capture, uint64_t slot);
 
 /* What can be wrong with a symbol; each has the first of these that holds. */

@@ -1,14 +1,14 @@
 #include "commands.h"
 
-enum { WRITES = WITH(NO_CLOBBER) | WITH(FORCE), REPEATS = WITH(COPIES) };
+enum { WRITES = WITH(NO_CLOBBER) | WITH(FORCE) };
 
 const struct command COMMANDS[] = {
-    {"write", NULL, "HEADER MARKER FRAMES", NULL, "SLOTS", WRITES | REPEATS, true, write_command,
+    {"write", NULL, "HEADER MARKER FRAMES", NULL, "SLOTS", WRITES, true, write_command,
      "makes the slots of the frames"},
-    {"read", NULL, "HEADER MARKER SLOTS", NULL, "FRAMES", WRITES | REPEATS | WITH(CAPTURE), true,
+    {"read", NULL, "HEADER MARKER SLOTS", NULL, "FRAMES", WRITES | WITH(CAPTURE), true,
      read_command, "accepts slots only if some frames make them, and gives those frames back"},
-    {"verify", NULL, "HEADER MARKER SLOTS", NULL, NULL, REPEATS | WITH(CAPTURE), true,
-     verify_command, "does what read does, and writes nothing"},
+    {"verify", NULL, "HEADER MARKER SLOTS", NULL, NULL, WITH(CAPTURE), true, verify_command,
+     "does what read does, and writes nothing"},
     {"find", NULL, "HEADER MARKER CAPTURE", NULL, NULL, 0, true, find_command,
      "prints the first slot of a capture at which the whole marker stands"},
     {"cut", NULL, "HEADER CAPTURE", "SLOT", "SLOTS", WRITES, true, cut_command,
@@ -24,9 +24,13 @@ const struct command COMMANDS[] = {
     {"spread", "RATE BIT", NULL, NULL, NULL, 0, true, spread_command,
      "how many coded bits change with one bit of a block, and which"},
     {"sheet", NULL, "HEADER", NULL, NULL, WITH(LONG) | WITH(JSON), true, sheet_command,
-     "code rate, M, N, B, F, W, A, blocks, symbols, slots; or `no` and a number"},
+     "code rate, M, N, B, F, W, A, blocks, symbols, slots, factor; or `no` and a number"},
     {"header", NULL, NULL, "FIELD=VALUE...", NULL, WRITES | WITH(OUTPUT), false, header_command,
-     "makes a header: rate=1/2 m=6 N=84 B=120 F=223 W=16 A=2"},
+     "makes a header: rate=1/2 m=6 N=84 B=120 F=223 W=16 A=2 copies=1"},
+    {"widen", NULL, "OLD", NULL, "NEW", WRITES, true, widen_command,
+     "makes a header of ten bytes, with factor 1, from one of eight"},
+    {"narrow", NULL, "NEW", NULL, "OLD", WRITES, true, narrow_command,
+     "makes a header of eight bytes from one of ten, whose factor is 1"},
     {"explain", NULL, NULL, "NUMBER", NULL, 0, false, explain_command,
      "says what the number of a refusal means"},
     {"inspect", NULL, "HEADER MARKER SLOTS", NULL, NULL, WITH(SVG), false, inspect_command,
@@ -43,7 +47,6 @@ const struct option_line OPTIONS[OPTION_COUNT] = {
     [NO_CLOBBER] = {"no-clobber", 'n', NULL, "leaves a file alone that has the output's name"},
     [FORCE] = {"force", 'f', NULL, "writes bytes to a terminal too"},
     [OUTPUT] = {"output", 'o', "FILE", "writes the header's bytes to this file"},
-    [COPIES] = {"copies", '\0', "K", "each symbol stands K times in a row; once otherwise"},
     [LONG] = {"long", 'l', NULL, "prints fields and sizes by name, one to a line"},
     [JSON] = {"json", 'j', NULL, "prints them as JSON"},
     [CAPTURE] = {"capture", '\0', NULL, "finds the run in a capture that begins on any slot"},

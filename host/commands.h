@@ -18,7 +18,6 @@ enum option {
     NO_CLOBBER,
     FORCE,
     OUTPUT,
-    COPIES,
     LONG,
     JSON,
     CAPTURE,
@@ -94,6 +93,8 @@ enum status uplink_read_command(const struct line *line, struct entry *entry);
 enum status spread_command(const struct line *line, struct entry *entry);
 enum status sheet_command(const struct line *line, struct entry *entry);
 enum status header_command(const struct line *line, struct entry *entry);
+enum status widen_command(const struct line *line, struct entry *entry);
+enum status narrow_command(const struct line *line, struct entry *entry);
 enum status explain_command(const struct line *line, struct entry *entry);
 enum status inspect_command(const struct line *line, struct entry *entry);
 enum status show_command(const struct line *line, struct entry *entry);

@@ -17,7 +17,8 @@ _mahyrei() {
         mapfile -t COMPREPLY < <(compgen -W "$(sed -En 's/^  ([a-z][a-z-]*) +.*/\1/p' <<<"$help")" \
             -- "$word")
     elif [[ $command == header && $before != -o && $before != --output ]]; then
-        mapfile -t COMPREPLY < <(compgen -W 'rate=1/3 rate=1/2 rate=2/3 m= N= B= F= W= A=' -- "$word")
+        mapfile -t COMPREPLY < <(compgen -W "rate=1/3 rate=1/2 rate=2/3 m= N= B= F= W= A= $(
+            printf 'copies=%s ' 1 2 3 4 8 16 32)" -- "$word")
         compopt -o nospace 2>/dev/null
     elif [[ $command == @(pass-*|spread) && $operands -eq 0 && $before != --log ]]; then
         mapfile -t COMPREPLY < <(compgen -W '1/3 1/2 2/3' -- "$word")

@@ -13,7 +13,7 @@
 #include "mahyrei.h"
 
 /* How much of each operand is read: one byte more than any header or rate implies, of slots with
- * one copy. What is longer gets the same answer, and need not be held. */
+ * one copy (slots_limit in sheet.h). What is longer gets the same answer, and need not be held. */
 enum {
     HEADER_LIMIT = MAHYREI_HEADER_BYTES + 1,
     MARKER_LIMIT = MAHYREI_MARKER_MAX + 1,

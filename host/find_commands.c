@@ -32,7 +32,7 @@ static enum status find(const struct line *line, struct lent *run, struct entry 
 }
 
 enum status find_command(const struct line *line, struct entry *entry) {
-    struct lent run = {.copies = 1};
+    struct lent run = {0};
     const enum status status = find(line, &run, entry);
     free_lent(&run);
     return status;
@@ -67,7 +67,7 @@ static enum status cut(const struct line *line, struct lent *run, struct entry *
 }
 
 enum status cut_command(const struct line *line, struct entry *entry) {
-    struct lent run = {.copies = 1};
+    struct lent run = {0};
     const enum status status = cut(line, &run, entry);
     free_lent(&run);
     return status;

@@ -8,13 +8,20 @@
 #include "report.h"
 
 const struct fault_line FAULT_LINES[FAULTS] = {
-    [MISSING] = {"symbols missing at the end", 'x', "#8c96a0", MAHYREI_BAD_LENGTH},
-    [GUARD_PULSE] = {"symbols with a guard pulse", 'g', "#c2410c", MAHYREI_BAD_PULSE},
-    [NO_PULSE] = {"symbols with no pulse", 'n', "#1d4ed8", MAHYREI_BAD_PULSE},
-    [SEVERAL_PULSES] = {"symbols with several pulses", 's', "#e6a100", MAHYREI_BAD_PULSE},
-    [WRONG_MARKER] = {"wrong marker symbols", 'm', "#c026a3", MAHYREI_WRONG_MARKER},
-    [NOT_ZERO] = {"places that should be 0 and are not", 'z', "#0f8a6a", MAHYREI_BAD_IDLE},
+    [MISSING] = {"symbols missing at the end", NULL, 'x', "#8c96a0", MAHYREI_BAD_LENGTH},
+    [GUARD_PULSE] = {"symbols with a guard pulse", "symbols with most pulses in a guard slot", 'g',
+                     "#c2410c", MAHYREI_BAD_PULSE},
+    [NO_PULSE] = {"symbols with no pulse", NULL, 'n', "#1d4ed8", MAHYREI_BAD_PULSE},
+    [SEVERAL_PULSES] = {"symbols with several pulses", "symbols with most pulses in several slots",
+                        's', "#e6a100", MAHYREI_BAD_PULSE},
+    [WRONG_MARKER] = {"wrong marker symbols", NULL, 'm', "#c026a3", MAHYREI_WRONG_MARKER},
+    [NOT_ZERO] = {"places that should be 0 and are not", NULL, 'z', "#0f8a6a", MAHYREI_BAD_IDLE},
 };
+
+const char *fault_name(const struct capture *capture, size_t fault) {
+    const struct fault_line *const line = &FAULT_LINES[fault];
+    return line->pooled != NULL && capture->run.fields.copies > 1 ? line->pooled : line->name;
+}
 
 static void add(struct found *found, uint64_t at) {
     if (found->count < FIRST_FEW) {
@@ -27,7 +34,7 @@ static void add(struct found *found, uint64_t at) {
 
 static void find_symbols(const struct capture *capture, const uint8_t *marker,
                          struct findings *findings) {
-    for (uint64_t symbol = 0; symbol < capture->run.sizes.symbols; symbol++) {
+    for (uint64_t symbol = 0; symbol < capture->run.sizes.pooled; symbol++) {
         const enum fault fault = fault_of(capture, marker, symbol);
         if (fault != SOUND) {
             add(&findings->symbols[fault], symbol);

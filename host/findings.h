@@ -17,12 +17,13 @@ struct found {
 
 /* How faults are named, and the question that each fails. */
 struct fault_line {
-    const char *name;
-    char letter;        /* in the text's picture */
-    const char *colour; /* in the drawn one */
+    const char *name, *pooled; /* where symbols are sent once, and where copies are pooled */
+    char letter;               /* in the text's picture */
+    const char *colour;        /* in the drawn one */
     enum mahyrei_number number;
 };
 extern const struct fault_line FAULT_LINES[FAULTS];
+const char *fault_name(const struct capture *capture, size_t fault);
 
 /* For a word that has a symbol with no value: there is nothing to ask word_read. */
 #define NOT_ASKED UINT64_MAX

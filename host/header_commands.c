@@ -87,12 +87,12 @@ static const char *take_field(const char *word, struct mahyrei_fields *fields,
     char name[8] = "";
     const char *const equals = strchr(word, '=');
     if (equals == NULL || (size_t)(equals - word) >= sizeof name) {
-        return "no such field; they are rate, m, N, B, F, W and A, each as NAME=VALUE";
+        return "no such field; they are rate, m, N, B, F, W, A and copies, each as NAME=VALUE";
     }
     memcpy(name, word, (size_t)(equals - word));
     uint64_t *const field = mahyrei_field(fields, name), *const before = mahyrei_field(given, name);
     if (field == NULL) {
-        return "no such field; they are rate, m, N, B, F, W and A";
+        return "no such field; they are rate, m, N, B, F, W, A and copies";
     }
     if ((*before)++ > 0) {
         return "this field is given twice";
@@ -103,6 +103,7 @@ static const char *take_field(const char *word, struct mahyrei_fields *fields,
     return read_number(equals + 1, field) ? NULL : "the value is no number";
 }
 
+/* All of them, but that symbols are sent once where nothing else is said. */
 static bool take_fields(const struct line *line, struct mahyrei_fields *fields) {
     struct mahyrei_fields given = {0};
     for (int i = 0; i < line->count; i++) {
@@ -111,6 +112,9 @@ static bool take_fields(const struct line *line, struct mahyrei_fields *fields) 
             complain_text(line->operands[i], wrong);
             return false;
         }
+    }
+    if (given.copies == 0) {
+        fields->copies = given.copies = 1;
     }
     for (size_t i = 0; mahyrei_field_name(i) != NULL; i++) {
         if (*mahyrei_field(&given, mahyrei_field_name(i)) == 0) {

@@ -28,7 +28,7 @@ static uint64_t candidates(const struct capture *capture, size_t fault) {
     const struct mahyrei_sizes *const sizes = &capture->run.sizes;
     return fault == WRONG_MARKER ? sizes->R * capture->run.fields.W
            : fault == NOT_ZERO   ? (sizes->R - sizes->C) * sizes->S
-                                 : sizes->symbols;
+                                 : sizes->pooled;
 }
 
 struct word_line {
@@ -54,7 +54,7 @@ static void print_counts(FILE *to, const struct capture *capture, const struct f
     const struct mahyrei_sizes *const sizes = &capture->run.sizes;
     const uint64_t frame_bits = capture->run.fields.A * marked_bits(&capture->run);
     for (size_t i = 0; i < FAULTS; i++) {
-        count_line(to, FAULT_LINES[i].letter, FAULT_LINES[i].name, findings->symbols[i].count,
+        count_line(to, FAULT_LINES[i].letter, fault_name(capture, i), findings->symbols[i].count,
                    candidates(capture, i));
     }
     count_line(to, ' ', "spare bits set behind the slots", findings->spare.count,
@@ -104,7 +104,7 @@ static void print_symbols(FILE *to, const struct capture *capture,
     for (size_t i = 0; i < FAULTS; i++) {
         const struct found *const found = &findings->symbols[i];
         if (found->count > 0) {
-            fprintf(to, "  %s\n", FAULT_LINES[i].name);
+            fprintf(to, "  %s\n", fault_name(capture, i));
         }
         for (size_t j = 0; j < found->count && j < FIRST_FEW; j++) {
             print_symbol(to, capture, found->first[j], (enum fault)i);
@@ -181,9 +181,9 @@ struct parts {
 };
 
 static void count_parts(const struct capture *capture, const uint8_t *marker, struct parts *parts) {
-    for (uint64_t symbol = 0; symbol < capture->run.sizes.symbols; symbol++) {
+    for (uint64_t symbol = 0; symbol < capture->run.sizes.pooled; symbol++) {
         const enum fault fault = fault_of(capture, marker, symbol);
-        const uint64_t part = symbol * PARTS / capture->run.sizes.symbols;
+        const uint64_t part = symbol * PARTS / capture->run.sizes.pooled;
         if (fault != SOUND) {
             parts->counts[part][fault]++;
             parts->totals[part]++;
@@ -212,7 +212,7 @@ static void print_histogram(FILE *to, const struct capture *capture, const uint8
     fputs("\nOver the run, from which symbol on, how many, and of which letter:\n", to);
     for (uint64_t i = 0; i < PARTS; i++) {
         /* The first symbol of a part: the division in count_parts, turned round. */
-        const uint64_t first = (i * capture->run.sizes.symbols + PARTS - 1) / PARTS;
+        const uint64_t first = (i * capture->run.sizes.pooled + PARTS - 1) / PARTS;
         fprintf(to, "  %9" PRIu64 " %9" PRIu64 "  ", first, parts.totals[i]);
         print_bar(to, parts.counts[i], parts.most);
         fputs("\n", to);
@@ -239,6 +239,10 @@ static void print_report(FILE *to, const struct scene *scene) {
     if (capture->slots.len != capture->run.sizes.slot_bytes) {
         fprintf(to, "\nThe capture has %zu bytes, and the header implies %zu.\n",
                 capture->slots.len, capture->run.sizes.slot_bytes);
+    }
+    if (capture->run.fields.copies > 1) {
+        fprintf(to, "\nEach symbol is sent %" PRIu64 " times, and its copies are pooled.\n",
+                capture->run.fields.copies);
     }
     fputs("\nHow many:\n", to);
     print_counts(to, capture, findings);
@@ -278,20 +282,21 @@ static bool report(FILE *to, const struct scene *scene) {
 }
 
 static bool take_in_capture(char *const operands[], struct lent *run) {
-    struct mahyrei_sizes sizes;
+    struct sheet sheet;
     if (!take_in_text(operands[0], HEADER_LIMIT, &run->header) ||
-        !take_in_text(operands[1], MARKER_LIMIT, &run->marker) ||
-        !take_in(operands[2], SLOTS_LIMIT, &run->slots)) {
+        !take_in_text(operands[1], MARKER_LIMIT, &run->marker)) {
         return false;
     }
-    mahyrei_sizes(run->header.at, run->header.len, &sizes);
-    return make_room(sizes.frame_bytes, &run->frames);
+    sheet_of(&run->header, &sheet);
+    return take_in(operands[2], slots_limit(&sheet), &run->slots) &&
+           make_room(sheet.sizes.frame_bytes, &run->frames);
 }
 
 /* There is nothing to inspect where the header or the marker is wrong. */
 static bool has_run(const struct lent *run, const struct capture *capture, uint64_t answer) {
     const unsigned number = answer_number(answer);
-    return number == MAHYREI_ACCEPTED || number > MAHYREI_BAD_LENGTH ||
+    return number == MAHYREI_ACCEPTED ||
+           (number > MAHYREI_BAD_LENGTH && number != MAHYREI_BAD_COPIES) ||
            (number == MAHYREI_BAD_LENGTH && run->marker.len == capture->run.sizes.marker_bytes);
 }
 
@@ -355,7 +360,7 @@ static enum status inspect(const struct line *line, struct lent *run, struct fin
 }
 
 enum status inspect_command(const struct line *line, struct entry *entry) {
-    struct lent run = {.copies = 1};
+    struct lent run = {0};
     struct findings findings = {0};
     const enum status status = inspect(line, &run, &findings);
     (void)entry;

@@ -21,11 +21,10 @@ static void *make_call(void *given) {
     const struct lent *const lent = call->lent;
     const struct bytes *const header = &lent->header, *const marker = &lent->marker,
                               *const frames = &lent->frames, *const slots = &lent->slots;
-    call->answer = call->writing
-                       ? run_write(lent->copies, header->at, header->len, marker->at, marker->len,
-                                   frames->at, frames->len, slots->at, slots->len)
-                       : run_read(lent->copies, header->at, header->len, marker->at, marker->len,
-                                  slots->at, slots->len, frames->at, frames->len);
+    call->answer = call->writing ? run_write(header->at, header->len, marker->at, marker->len,
+                                             frames->at, frames->len, slots->at, slots->len)
+                                 : run_read(header->at, header->len, marker->at, marker->len,
+                                            slots->at, slots->len, frames->at, frames->len);
     return NULL;
 }
 
@@ -104,6 +103,21 @@ struct spread_call {
 static void *make_spread_call(void *given) {
     struct spread_call *const call = given;
     call->answer = bit_spread(call->rate, call->bit, call->places, MAHYREI_WORD_BYTES);
+    return NULL;
+}
+
+/* A header from one form to the other. */
+struct form_call {
+    const struct forms *forms;
+    bool widening;
+    uint64_t answer;
+};
+
+static void *make_form_call(void *given) {
+    struct form_call *const call = given;
+    const struct bytes *const eight = &call->forms->eight, *const ten = &call->forms->ten;
+    call->answer = call->widening ? header_widen(eight->at, eight->len, ten->at, ten->len)
+                                  : header_narrow(ten->at, ten->len, eight->at, eight->len);
     return NULL;
 }
 
@@ -228,12 +242,30 @@ bool library_spread(uint64_t rate, uint64_t bit, uint8_t *places, uint64_t *answ
 /* With nothing else lent, a good header comes as far as 8: its marker has at least one symbol, and
  * none is there. */
 bool library_header(const struct bytes *header, uint64_t *answer) {
-    const struct lent lent = {.copies = 1, .header = *header};
+    const struct lent lent = {.header = *header};
     if (!library_write(&lent, answer)) {
         return false;
     }
     *answer = answer_number(*answer) == MAHYREI_BAD_LENGTH ? MAHYREI_ACCEPTED : *answer;
     return true;
+}
+
+static bool ask_form(struct form_call *call, uint64_t *answer) {
+    if (!on_its_stack(make_form_call, call)) {
+        return false;
+    }
+    *answer = call->answer;
+    return true;
+}
+
+bool library_widen(const struct forms *forms, uint64_t *answer) {
+    struct form_call call = {forms, true, 0};
+    return ask_form(&call, answer);
+}
+
+bool library_narrow(const struct forms *forms, uint64_t *answer) {
+    struct form_call call = {forms, false, 0};
+    return ask_form(&call, answer);
 }
 
 void free_lent(struct lent *lent) {

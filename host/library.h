@@ -13,7 +13,6 @@
 
 /* What a run call is lent. */
 struct lent {
-    uint64_t copies;
     struct bytes header, marker, frames, slots, capture;
 };
 
@@ -47,8 +46,16 @@ bool library_uplink_read(const struct uplink *uplink, uint64_t *answer);
 /* Room for MAHYREI_WORD_BYTES bytes of places. */
 bool library_spread(uint64_t rate, uint64_t bit, uint8_t *places, uint64_t *answer);
 
-/* The answer to a header alone: 0, or a number from 1 to 7, and of 7 only W's range. */
+/* The answer to a header alone: 0, or a number from 1 to 7, and of 7 only W's range, or 20. */
 bool library_header(const struct bytes *header, uint64_t *answer);
+
+/* A header in one form, and room for the other. */
+struct forms {
+    struct bytes eight, ten;
+};
+
+bool library_widen(const struct forms *forms, uint64_t *answer);
+bool library_narrow(const struct forms *forms, uint64_t *answer);
 
 void free_lent(struct lent *lent);
 

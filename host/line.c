@@ -78,11 +78,13 @@ static void print_help(FILE *to) {
     for (const struct command *each = COMMANDS; each->name != NULL; each++) {
         fprintf(to, "  %-12s %s\n", each->name, each->help);
     }
-    fputs("\nEach operand is a file, or - for standard input or output. HEADER and MARKER can be\n"
-          "hexadecimal text instead, such as 5950F01BE8020000 or hex:050C; a file whose name has\n"
-          "nothing but such digits is given as ./NAME. RATE is 1/3, 1/2 or 2/3, or its number.\n"
-          "SLOT is the number of a slot, from 0 on.\n\n",
-          to);
+    fputs(
+        "\nEach operand is a file, or - for standard input or output. HEADER, MARKER and the "
+        "header\n"
+        "that widen or narrow reads can be hexadecimal text instead, such as 5950F01BE80204000000\n"
+        "or hex:050C; a file whose name has nothing but such digits is given as ./NAME. RATE is\n"
+        "1/3, 1/2 or 2/3, or its number. SLOT is the number of a slot, from 0 on.\n\n",
+        to);
     print_options(to);
     fputs("\nThe log is the file of --log, or the one that MAHYREI_LOG names, or standard error.\n"
           "Status: 0 done; 1 refused, with number, place and sentence on standard error; 2 wrong\n"

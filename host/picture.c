@@ -29,9 +29,10 @@ enum {
     SQUARE = 13,
     WIDTH = SIDE + SIDE_COLUMNS * SQUARE + 20,
     LEGEND_LINE = 18,
-    KEY_GAP = 18,  /* between squares and what their colours say */
-    SHADES = 5,    /* from all symbols of words to none */
-    STRENGTHS = 3, /* few, some and most symbols of a cell */
+    LINE_MOST = 150, /* letters of a line of text */
+    KEY_GAP = 18,    /* between squares and what their colours say */
+    SHADES = 5,      /* from all symbols of words to none */
+    STRENGTHS = 3,   /* few, some and most symbols of a cell */
     LOOKS = SHADES + FAULTS * STRENGTHS
 };
 
@@ -98,7 +99,7 @@ static struct cell *cell_at(const struct scene *scene, const struct map *map, st
 
 static void fill_map(const struct scene *scene, const struct map *map) {
     const struct capture *const capture = scene->capture;
-    for (uint64_t symbol = 0; symbol < capture->run.sizes.symbols; symbol++) {
+    for (uint64_t symbol = 0; symbol < capture->run.sizes.pooled; symbol++) {
         struct cell *const cell = cell_at(scene, map, spot_of(capture, map, symbol));
         const enum fault fault = fault_of(capture, scene->marker, symbol);
         cell->total++;
@@ -204,10 +205,28 @@ static const char BOLD[] = " font-weight=\"bold\"";
 static const char PALE[] = " fill=\"" GREY "\"";
 static const char PALE_RIGHT[] = " fill=\"" GREY "\" text-anchor=\"end\"";
 
+/* In as many lines as it takes; where the next one stands. */
+static uint64_t print_sentence(FILE *to, const char *text, uint64_t y) {
+    for (; *text != '\0'; y += 15) {
+        char line[LINE_MOST + 1];
+        size_t len = strlen(text);
+        len = len < LINE_MOST ? len : LINE_MOST;
+        while (len > 1 && text[len] != '\0' && text[len] != ' ') {
+            len--;
+        }
+        memcpy(line, text, len);
+        line[len] = '\0';
+        print_text(to, 24, y, 12, "", line);
+        text += len + strspn(text + len, " ");
+    }
+    return y;
+}
+
 static void print_title(FILE *to, const struct scene *scene) {
     const struct mahyrei_fields *const f = &scene->capture->run.fields;
     const struct mahyrei_sizes *const s = &scene->capture->run.sizes;
     const unsigned number = answer_number(scene->answer);
+    uint64_t y = 49;
     open_text(to, 24, 32, 16, BOLD);
     print_xml(to, scene->name);
     if (number == MAHYREI_ACCEPTED) {
@@ -215,15 +234,19 @@ static void print_title(FILE *to, const struct scene *scene) {
     } else {
         fprintf(to, ": refused, number %u, place %" PRIu64 "</text>\n", number,
                 answer_place(scene->answer));
-        print_text(to, 24, 51, 12, "", mahyrei_sentence(number));
+        y = print_sentence(to, mahyrei_sentence(number), y);
     }
-    open_text(to, 24, 69, 12, PALE);
+    open_text(to, 24, y, 12, PALE);
     fprintf(to,
             "rate %s, M %" PRIu64 ", N %" PRIu64 ", B %" PRIu64 ", F %" PRIu64 ", W %" PRIu64
             ", A %" PRIu64 ": %" PRIu64 " symbols of %" PRIu64 " slots, in %" PRIu64
-            " rows of %" PRIu64 " + %" PRIu64 "</text>\n",
-            rate_name(f->rate), s->M, f->N, f->B, f->F, f->W, f->A, s->symbols, s->group, s->R,
-            f->W, s->S);
+            " rows of %" PRIu64 " + %" PRIu64,
+            rate_name(f->rate), s->M, f->N, f->B, f->F, f->W, f->A, s->pooled, s->group, s->R, f->W,
+            s->S);
+    if (f->copies > 1) {
+        fprintf(to, ", each sent %" PRIu64 " times", f->copies);
+    }
+    fputs("</text>\n", to);
 }
 
 /* The first symbol of a line, where the number before is not too near. */
@@ -392,7 +415,8 @@ static void print_legend(FILE *to, const struct scene *scene, uint64_t top) {
               "places of no word", (sizes->R - sizes->C) * sizes->S);
     for (size_t i = 0; i < FAULTS; i++) {
         print_key(to, SYMBOLS_LEFT + i % 2 * (SYMBOLS_WIDTH / 2), top + (1 + i / 2) * LEGEND_LINE,
-                  FAULT_LINES[i].colour, FAULT_LINES[i].name, scene->findings->symbols[i].count);
+                  FAULT_LINES[i].colour, fault_name(scene->capture, i),
+                  scene->findings->symbols[i].count);
     }
 }
 

@@ -15,14 +15,28 @@ static const char *plural(size_t count) {
     return count == 1 ? "" : "s";
 }
 
-/* ---- headers: numbers 1 to 7 */
+/* ---- headers: numbers 1 to 7, and 20 */
+
+static void say_header_length(const struct bytes *header, size_t wanted, const char *about) {
+    remark(about, "the header has %zu byte%s%s, and needs %zu", header->len, plural(header->len),
+           header->len == HEADER_LIMIT ? " or more" : "", wanted);
+}
 
 static void say_header_bytes(const struct bytes *header, const char *about) {
     if (header->len != MAHYREI_HEADER_BYTES) {
-        remark(about, "the header has %zu byte%s%s, and needs %d", header->len, plural(header->len),
-               header->len == HEADER_LIMIT ? " or more" : "", MAHYREI_HEADER_BYTES);
+        say_header_length(header, MAHYREI_HEADER_BYTES, about);
     } else {
-        remark(about, "the last 16 bits of the header are %02X%02X", header->at[6], header->at[7]);
+        const uint8_t *const last = header->at + 6;
+        remark(about, "the last 26 bits of the header are %X%02X%02X%02X", last[0] & 3U, last[1],
+               last[2], last[3]);
+    }
+}
+
+/* For whoever has headers of earlier versions. */
+static void say_widen(const struct bytes *header, const char *about) {
+    if (header->len == MAHYREI_OLD_HEADER_BYTES) {
+        remark(about, "a header of eight bytes, as up to version 0.3, becomes one of ten by "
+                      "`mahyrei widen OLD NEW`");
     }
 }
 
@@ -41,18 +55,20 @@ void say_header(unsigned number, const struct bytes *header, const char *operand
     struct mahyrei_fields fields;
     if (number == MAHYREI_BAD_HEADER) {
         say_header_bytes(header, shown(operand));
+        say_widen(header, shown(operand));
     } else {
         mahyrei_header_fields(header->at, header->len, &fields);
         say_field(&fields, shown(operand));
     }
 }
 
-/* Number 7 of a run, where W is in range. */
-static void say_marker(const struct sheet *sheet, const struct bytes *marker, const char *about) {
-    for (size_t i = 0; i < marker->len && i < sheet->sizes.marker_bytes; i++) {
-        if (marker->at[i] >= sheet->sizes.M) {
-            remark(about, "symbol %zu of the marker is %u, and M is %" PRIu64, i, marker->at[i],
-                   sheet->sizes.M);
+/* Number 7 of a run, where W is in range; there are no sizes where the factor is wrong too. */
+static void say_marker(const struct mahyrei_fields *fields, const struct bytes *marker,
+                       const char *about) {
+    const uint64_t M = UINT64_C(1) << fields->m;
+    for (size_t i = 0; i < marker->len && i < fields->W; i++) {
+        if (marker->at[i] >= M) {
+            remark(about, "symbol %zu of the marker is %u, and M is %" PRIu64, i, marker->at[i], M);
             return;
         }
     }
@@ -90,9 +106,15 @@ static void say_room(const struct sheet *sheet, const struct lent *run,
 }
 
 /* Number 19. */
-static void say_no_marker(const struct sheet *sheet, const struct lent *run, const char *about) {
-    remark(about, "the capture has %" PRIu64 " slots, and the marker %" PRIu64,
+static void say_no_marker(const struct sheet *sheet, const struct lent *run,
+                          const struct operands *operands) {
+    remark(shown(operands->capture), "the capture has %" PRIu64 " slots, and the marker %" PRIu64,
            8 * (uint64_t)run->capture.len, sheet->fields.W * sheet->sizes.group);
+    if (sheet->fields.copies > 1) {
+        remark(shown(operands->header),
+               "symbols are sent %" PRIu64 " times, and the search takes them to be sent once",
+               sheet->fields.copies);
+    }
 }
 
 /* ---- places: numbers 9 to 18 */
@@ -113,7 +135,7 @@ static void say_spare(const struct sheet *sheet, const struct lent *run, const c
 
 static void say_symbol(const struct sheet *sheet, uint64_t symbol,
                        const struct operands *operands) {
-    const uint64_t all = sheet->copies * sheet->sizes.group;
+    const uint64_t all = symbol_slots(sheet);
     const uint64_t first = operands->slot + symbol * all, last = first + all - 1;
     remark(shown_slots(operands),
            "symbol %" PRIu64 " is slots %" PRIu64 " to %" PRIu64 ", in bytes %" PRIu64
@@ -123,7 +145,7 @@ static void say_symbol(const struct sheet *sheet, uint64_t symbol,
 
 /* A word's symbols lie apart, so the first and the last of them are said. */
 static void say_word(const struct sheet *sheet, uint64_t word, const struct operands *operands) {
-    const uint64_t S = sheet->sizes.S, all = sheet->copies * sheet->sizes.group;
+    const uint64_t S = sheet->sizes.S, all = symbol_slots(sheet);
     uint64_t first = UINT64_MAX, last = 0;
     for (uint64_t at = 0; at < S; at++) {
         const uint64_t symbol = symbol_of(sheet, word, at);
@@ -176,19 +198,16 @@ void say_where(uint64_t answer, const struct lent *run, const struct operands *o
     const unsigned number = answer_number(answer);
     struct sheet sheet;
     const unsigned refused = sheet_of(&run->header, &sheet);
-    sheet_repeat(&sheet, run->copies);
-    if (refused != MAHYREI_ACCEPTED) {
+    if (number == MAHYREI_BAD_MARKER && refused != MAHYREI_BAD_MARKER) {
+        say_marker(&sheet.fields, &run->marker, shown(operands->marker));
+    } else if (refused != MAHYREI_ACCEPTED) {
         say_header(refused, &run->header, operands->header);
-    } else if (number == MAHYREI_BAD_MARKER) {
-        say_marker(&sheet, &run->marker, shown(operands->marker));
-    } else if (number == MAHYREI_BAD_COPIES) {
-        remark("--copies", "it is %" PRIu64, run->copies);
     } else if (number == MAHYREI_BAD_LENGTH) {
         say_sizes(&sheet, run, operands);
     } else if (number == MAHYREI_BAD_SPARE) {
         say_spare(&sheet, run, shown_slots(operands));
     } else if (number == MAHYREI_NO_MARKER) {
-        say_no_marker(&sheet, run, shown(operands->capture));
+        say_no_marker(&sheet, run, operands);
     } else {
         say_place(number, answer_place(answer), &sheet, operands);
     }
@@ -201,6 +220,43 @@ void say_where_cut(uint64_t answer, const struct lent *run, const struct operand
         say_header(refused, &run->header, operands->header);
     } else if (answer_number(answer) == MAHYREI_BAD_LENGTH) {
         say_room(&sheet, run, operands);
+    }
+}
+
+/* ---- forms of headers */
+
+static void say_old_header_bytes(const struct bytes *eight, const char *about) {
+    if (eight->len != MAHYREI_OLD_HEADER_BYTES) {
+        say_header_length(eight, MAHYREI_OLD_HEADER_BYTES, about);
+    } else {
+        remark(about, "the last 16 bits of the header are %02X%02X", eight->at[6], eight->at[7]);
+    }
+}
+
+/* The fields of an old header are those of the same six bytes with factor 1. */
+static void say_old_fields(const struct bytes *eight, const char *about) {
+    uint8_t ten[MAHYREI_HEADER_BYTES] = {0};
+    struct mahyrei_fields fields;
+    memcpy(ten, eight->at, 6);
+    mahyrei_header_fields(ten, sizeof ten, &fields);
+    fields.copies = 1;
+    say_field(&fields, about);
+}
+
+void say_where_in_form(unsigned number, const struct forms *forms, bool widening,
+                       const char *operand) {
+    if (widening && number == MAHYREI_BAD_HEADER) {
+        say_old_header_bytes(&forms->eight, shown(operand));
+    } else if (widening) {
+        say_old_fields(&forms->eight, shown(operand));
+    } else if (number == MAHYREI_BAD_HEADER) {
+        say_header_bytes(&forms->ten, shown(operand));
+    } else if (number == MAHYREI_NO_OLD_HEADER) {
+        struct mahyrei_fields fields;
+        mahyrei_header_fields(forms->ten.at, forms->ten.len, &fields);
+        remark(shown(operand), "copies is %" PRIu64, fields.copies);
+    } else {
+        say_header(number, &forms->ten, operand);
     }
 }
 

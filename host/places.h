@@ -28,6 +28,10 @@ void say_where_in_pass(uint64_t answer, const struct pass *pass, bool writing, c
 void say_where_in_uplink(uint64_t answer, const struct uplink *uplink, bool writing,
                          const char *operand);
 
+/* The same for a header of either form, which was read from this operand. */
+void say_where_in_form(unsigned number, const struct forms *forms, bool widening,
+                       const char *operand);
+
 /* The same for a header alone, whose number this is. */
 void say_header(unsigned number, const struct bytes *header, const char *operand);
 

@@ -125,6 +125,8 @@ void entry_begin(struct entry *entry, const char *what) {
                             .slots = {.size = NO_SIZE, .digest = "-"},
                             .capture = {.size = NO_SIZE, .digest = "-"},
                             .slot = "-",
+                            .eight = {.digits = "-"},
+                            .ten = {.digits = "-"},
                             .rate = "-",
                             .blocks = {.size = NO_SIZE, .digest = "-"},
                             .words = {.size = NO_SIZE, .digest = "-"},
@@ -138,6 +140,10 @@ void entry_capture(struct entry *entry, const char *capture) {
 
 void entry_slot(struct entry *entry, uint64_t slot) {
     snprintf(entry->slot, sizeof entry->slot, "%" PRIu64, slot);
+}
+
+void entry_forms(struct entry *entry) {
+    entry->kind = FORM_ENTRY;
 }
 
 void entry_pass(struct entry *entry, const char *blocks, const char *words) {
@@ -158,10 +164,6 @@ void entry_spread(struct entry *entry) {
 
 void entry_bit(struct entry *entry, uint64_t bit) {
     snprintf(entry->bit, sizeof entry->bit, "%" PRIu64, bit);
-}
-
-void entry_copies(struct entry *entry, uint64_t copies) {
-    snprintf(entry->copies, sizeof entry->copies, "%" PRIu64, copies);
 }
 
 void entry_rate(struct entry *entry, uint64_t rate) {
@@ -188,6 +190,10 @@ static const char CAPITALS[] = "0123456789ABCDEF", SMALL[] = "0123456789abcdef";
 
 void entry_header(struct entry *entry, const uint8_t *header, size_t len) {
     digits_of(CAPITALS, header, len, entry->header, sizeof entry->header);
+}
+
+void entry_form(struct entry_form *form, const uint8_t *header, size_t len) {
+    digits_of(CAPITALS, header, len, form->digits, sizeof form->digits);
 }
 
 void entry_marker(struct entry *entry, const uint8_t *marker, size_t len) {
@@ -282,9 +288,6 @@ static void print_part(FILE *to, const char *what, const struct entry_part *part
 
 static void print_run(FILE *to, const struct entry *entry) {
     fprintf(to, " header=%s", entry->header);
-    if (entry->copies[0] != '\0') {
-        fprintf(to, " copies=%s", entry->copies);
-    }
     print_size(to, "marker", entry->marker);
     fprintf(to, " marker-symbols=%s", entry->marker_digits);
     print_part(to, "frames", &entry->frames);
@@ -295,6 +298,16 @@ static void print_capture(FILE *to, const struct entry *entry) {
     print_run(to, entry);
     print_part(to, "capture", &entry->capture);
     fprintf(to, " slot=%s", entry->slot);
+}
+
+static void print_form(FILE *to, const char *what, const struct entry_form *form) {
+    fprintf(to, " %s=%s %s-file=", what, form->digits, what);
+    print_escaped(to, form->name == NULL ? "-" : form->name, true);
+}
+
+static void print_forms(FILE *to, const struct entry *entry) {
+    print_form(to, "eight", &entry->eight);
+    print_form(to, "ten", &entry->ten);
 }
 
 static void print_pass(FILE *to, const struct entry *entry) {
@@ -313,11 +326,9 @@ static void print_uplink(FILE *to, const struct entry *entry) {
 }
 
 static void print_entry(FILE *to, const struct entry *entry, int status) {
-    static void (*const PRINT[])(FILE *, const struct entry *) = {[RUN_ENTRY] = print_run,
-                                                                  [CAPTURE_ENTRY] = print_capture,
-                                                                  [PASS_ENTRY] = print_pass,
-                                                                  [SPREAD_ENTRY] = print_spread,
-                                                                  [UPLINK_ENTRY] = print_uplink};
+    static void (*const PRINT[])(FILE *, const struct entry *) = {
+        [RUN_ENTRY] = print_run,   [CAPTURE_ENTRY] = print_capture, [FORM_ENTRY] = print_forms,
+        [PASS_ENTRY] = print_pass, [SPREAD_ENTRY] = print_spread,   [UPLINK_ENTRY] = print_uplink};
     char now[TIME_TEXT];
     time_text(now);
     fprintf(to, "%s %s", now, entry->what);

@@ -31,7 +31,7 @@ void say_refusal(uint64_t answer);
 enum { ENTRY_HEX = 72, ENTRY_DIGEST = 65, ENTRY_NUMBER = 24 };
 
 /* What a line of the log is about, and so what stands in it. */
-enum entry_kind { RUN_ENTRY, CAPTURE_ENTRY, PASS_ENTRY, SPREAD_ENTRY, UPLINK_ENTRY };
+enum entry_kind { RUN_ENTRY, CAPTURE_ENTRY, FORM_ENTRY, PASS_ENTRY, SPREAD_ENTRY, UPLINK_ENTRY };
 
 /* Frames or slots of a run or an uplink, a capture, blocks or words of a pass, as the log has
  * them. */
@@ -39,6 +39,12 @@ struct entry_part {
     const char *name; /* NULL where there is none */
     size_t size;
     char digest[ENTRY_DIGEST]; /* SHA-256 in hexadecimal digits */
+};
+
+/* A header in one of its forms, as the log has it. */
+struct entry_form {
+    const char *name;
+    char digits[ENTRY_HEX];
 };
 
 /* One call, as the log has it. */
@@ -50,7 +56,7 @@ struct entry {
     struct entry_part frames, slots; /* an uplink's too */
     struct entry_part capture;       /* in which the run is, and where it begins */
     char slot[ENTRY_NUMBER];
-    char copies[ENTRY_NUMBER]; /* "" where they were not given */
+    struct entry_form eight, ten;
     char rate[ENTRY_NUMBER];
     struct entry_part blocks, words; /* a pass's */
     char bit[ENTRY_NUMBER];          /* a spread's */
@@ -62,12 +68,15 @@ void entry_begin(struct entry *entry, const char *what);
 void entry_header(struct entry *entry, const uint8_t *header, size_t len);
 void entry_marker(struct entry *entry, const uint8_t *marker, size_t len);
 void entry_rate(struct entry *entry, uint64_t rate);
-void entry_copies(struct entry *entry, uint64_t copies);
 void entry_answer(struct entry *entry, uint64_t answer);
 
 /* It is about a run in a capture, which begins at a slot. */
 void entry_capture(struct entry *entry, const char *capture);
 void entry_slot(struct entry *entry, uint64_t slot);
+
+/* It is about a header that goes from one form to the other. */
+void entry_forms(struct entry *entry);
+void entry_form(struct entry_form *form, const uint8_t *header, size_t len);
 
 /* It is about a pass, an uplink, or a bit's spread. */
 void entry_pass(struct entry *entry, const char *blocks, const char *words);

@@ -39,7 +39,6 @@ static bool take_in_run(bool writing, const struct operands *operands, struct le
     }
     struct sheet sheet;
     sheet_of(&run->header, &sheet);
-    sheet_repeat(&sheet, run->copies);
     const size_t limit = writing ? FRAMES_LIMIT : slots_limit(&sheet);
     if (!take_in(writing ? operands->frames : operands->slots, limit, from)) {
         return false;
@@ -56,7 +55,6 @@ static enum status call(bool writing, const struct operands *operands, struct le
     uint64_t answer;
     /* Where the header is refused there is no room, and the call says why. */
     sheet_of(&run->header, &sheet);
-    sheet_repeat(&sheet, run->copies);
     if (!make_room(writing ? sheet.sizes.slot_bytes : sheet.sizes.frame_bytes, to)) {
         return FAILED;
     }
@@ -79,10 +77,23 @@ static bool ready(const struct line *line, const struct operands *operands, cons
            (operands->capture == NULL || spares_capture(operands->capture, name));
 }
 
+/* The search takes symbols to be sent once, so what it found of others would be no beginning. A
+ * header that is refused is the library's to judge. */
+static bool sent_once(const struct operands *operands, const struct lent *run) {
+    struct sheet sheet;
+    if (sheet_of(&run->header, &sheet) == MAHYREI_ACCEPTED && sheet.fields.copies > 1) {
+        complain_text(is_dash(operands->header) ? "standard input" : operands->header,
+                      "a run that is found in a capture has symbols that are sent once; cut takes "
+                      "a run whose first slot is known");
+        return false;
+    }
+    return true;
+}
+
 /* A run in a capture is found, cut out and read. What is refused once the marker is found is said
  * with where that is. */
 static enum status call_captured(struct operands *operands, struct lent *run, struct entry *entry) {
-    enum status status = find_start(operands, run, entry);
+    enum status status = sent_once(operands, run) ? find_start(operands, run, entry) : FAILED;
     if (status != DONE) {
         return status;
     }
@@ -97,30 +108,12 @@ static enum status call_captured(struct operands *operands, struct lent *run, st
     return status;
 }
 
-/* Once, unless the line says how often; whether there is such a factor is the library's to say. */
-static bool take_copies(const struct line *line, struct lent *run, struct entry *entry) {
-    run->copies = 1;
-    if (line->options[COPIES] == NULL) {
-        return true;
-    }
-    if (in_capture(line)) {
-        complain_text("--copies",
-                      "a run that is found in a capture has symbols that are sent once");
-        return false;
-    }
-    if (!take_number(line->options[COPIES], &run->copies)) {
-        return false;
-    }
-    entry_copies(entry, run->copies);
-    return true;
-}
-
 static enum status make_run(enum way way, const struct line *line, struct lent *run,
                             struct entry *entry) {
     const bool writing = way == WRITING, captured = in_capture(line);
     struct operands operands = name_operands(way, line, entry);
     const char *const name = way == VERIFYING ? NULL : line->operands[3];
-    if (!take_copies(line, run, entry) || (name != NULL && !ready(line, &operands, name)) ||
+    if ((name != NULL && !ready(line, &operands, name)) ||
         !(captured ? take_in_captured(&operands, run, entry)
                    : take_in_run(writing, &operands, run, entry))) {
         return FAILED;

@@ -7,15 +7,11 @@
 
 unsigned sheet_of(const struct bytes *header, struct sheet *sheet) {
     mahyrei_header_fields(header->at, header->len, &sheet->fields);
-    sheet->copies = 1;
     return mahyrei_sizes(header->at, header->len, &sheet->sizes);
 }
 
-/* A factor that there is not makes no sizes: the library says so. */
-void sheet_repeat(struct sheet *sheet, uint64_t copies) {
-    sheet->copies = copies <= MAHYREI_COPIES_MAX ? copies : 1;
-    sheet->sizes.slots = sheet->sizes.symbols * sheet->copies * sheet->sizes.group;
-    sheet->sizes.slot_bytes = (size_t)((sheet->sizes.slots + 7) / 8);
+uint64_t symbol_slots(const struct sheet *sheet) {
+    return sheet->fields.copies * sheet->sizes.group;
 }
 
 size_t slots_limit(const struct sheet *sheet) {
@@ -31,9 +27,9 @@ void print_sheet(FILE *to, const struct sheet *sheet, unsigned number) {
     }
     fprintf(to,
             "%s %" PRIu64 " %" PRIu64 " %" PRIu64 " %" PRIu64 " %" PRIu64 " %" PRIu64 " %" PRIu64
-            " %" PRIu64 " %" PRIu64 "\n",
+            " %" PRIu64 " %" PRIu64 " %" PRIu64 "\n",
             rate_name(fields->rate), sizes->M, fields->N, fields->B, fields->F, fields->W,
-            fields->A, sizes->C, sizes->symbols, sizes->slots);
+            fields->A, sizes->C, sizes->symbols, sizes->slots, fields->copies);
 }
 
 /* ---- by name */
@@ -45,7 +41,7 @@ struct row {
     const char *meaning;
 };
 
-enum { FIELD_ROWS = 6, ROWS = 17 };
+enum { FIELD_ROWS = 7, ROWS = 19 };
 
 /* The fields but the rate, which is no number to read; then what follows from them. */
 static void fill_rows(const struct sheet *sheet, struct row rows[ROWS]) {
@@ -58,12 +54,14 @@ static void fill_rows(const struct sheet *sheet, struct row rows[ROWS]) {
         {"F", fields->F, "bytes of a frame"},
         {"W", fields->W, "symbols of the marker"},
         {"A", fields->A, "frames"},
+        {"copies", fields->copies, "how often each symbol is sent"},
         {"M", sizes->M, "pulse order"},
         {"k", sizes->k, "information bits of a block"},
         {"S", sizes->S, "symbols of a word"},
         {"C", sizes->C, "blocks, and words"},
         {"R", sizes->R, "rows of S symbols, each behind a marker"},
-        {"symbols", sizes->symbols, "of the run, markers counted"},
+        {"pooled", sizes->pooled, "symbols of the run, markers counted"},
+        {"symbols", sizes->symbols, "the same with all copies"},
         {"group", sizes->group, "slots of a symbol, guard slots counted"},
         {"slots", sizes->slots, "of the run"},
         {"marker_bytes", sizes->marker_bytes, "of MARKER"},

@@ -13,14 +13,13 @@
 struct sheet {
     struct mahyrei_fields fields;
     struct mahyrei_sizes sizes;
-    uint64_t copies; /* how often each symbol is sent */
 };
 
-/* Fills in the sheet by the plain functions: 0, or a number from 1 to 7. Symbols are sent once. */
+/* Fills in the sheet by the plain functions: 0, or a number from 1 to 7, or 20. */
 unsigned sheet_of(const struct bytes *header, struct sheet *sheet);
 
-/* The sheet of the same run with so many copies. */
-void sheet_repeat(struct sheet *sheet, uint64_t copies);
+/* The slots of a symbol with all its copies. */
+uint64_t symbol_slots(const struct sheet *sheet);
 
 /* How much is read of slots: one byte more than such a run has, and never less than one copy of any
  * run could have. */

@@ -11,6 +11,8 @@
 #include "places.h"
 #include "progress.h"
 
+enum { BEFORE_SLOTS = 36 }; /* columns of a line */
+
 /* What stands at a symbol: a marker symbol, a symbol of a word, or nothing. */
 static void print_stand(FILE *to, const struct stand *stand) {
     if (stand->part == MARKER_PART) {
@@ -22,22 +24,34 @@ static void print_stand(FILE *to, const struct stand *stand) {
     }
 }
 
-static void print_slots(FILE *to, const struct capture *capture, uint64_t symbol) {
-    const uint64_t start = symbol * capture->run.sizes.group;
+static void print_slots(FILE *to, const struct capture *capture, uint64_t start) {
     for (uint64_t slot = 0; slot < capture->run.sizes.group; slot++) {
         const bool guard = slot >= capture->run.sizes.M, pulse = pulse_at(capture, start + slot);
         fputc(pulse ? (guard ? '!' : '|') : (guard ? '_' : '.'), to);
     }
 }
 
-/* What is wrong with a group, in a few words. */
-static void print_fault(FILE *to, const struct group *group) {
+/* What is wrong with a symbol, in a few words. */
+static void print_fault(FILE *to, const struct group *group, bool once) {
     if (group->guard_pulses > 0) {
-        fputs("  a pulse in a guard slot", to);
+        fputs(once ? "  a pulse in a guard slot" : "  no data slot has the most pulses alone", to);
     } else if (group->pulses == 0) {
         fputs("  no pulse", to);
-    } else if (group->pulses > 1) {
+    } else if (group->pulses > 1 && once) {
         fprintf(to, "  %u pulses", group->pulses);
+    } else if (group->pulses > 1) {
+        fprintf(to, "  %u slots with %u pulse%s", group->pulses, group->most,
+                group->most == 1 ? "" : "s");
+    }
+}
+
+/* The copies behind the first, each below the one before. */
+static void print_copies(FILE *to, const struct capture *capture, uint64_t symbol) {
+    const uint64_t group = capture->run.sizes.group, start = first_slot(capture, symbol);
+    for (uint64_t copy = 1; copy < capture->run.fields.copies; copy++) {
+        fprintf(to, "%*s", BEFORE_SLOTS, "");
+        print_slots(to, capture, start + copy * group);
+        fputc('\n', to);
     }
 }
 
@@ -51,9 +65,10 @@ static void print_symbol(FILE *to, const struct capture *capture, uint64_t symbo
     } else {
         fputs("  -  ", to);
     }
-    print_slots(to, capture, symbol);
-    print_fault(to, &group);
+    print_slots(to, capture, first_slot(capture, symbol));
+    print_fault(to, &group, capture->run.fields.copies == 1);
     fputc('\n', to);
+    print_copies(to, capture, symbol);
 }
 
 /* Some symbols at a time: all of a long run would be gigabytes of text. */
@@ -96,10 +111,15 @@ static enum status draw(const struct capture *capture, uint64_t from, uint64_t c
 
 static enum status show(char *const operands[], struct lent *run) {
     struct capture capture;
+    struct sheet sheet;
     uint64_t from, count, answer;
     if (!take_number(operands[2], &from) || !take_number(operands[3], &count) ||
-        !take_in_text(operands[0], HEADER_LIMIT, &run->header) ||
-        !take_in(operands[1], SLOTS_LIMIT, &run->slots) || !library_header(&run->header, &answer)) {
+        !take_in_text(operands[0], HEADER_LIMIT, &run->header)) {
+        return FAILED;
+    }
+    sheet_of(&run->header, &sheet);
+    if (!take_in(operands[1], slots_limit(&sheet), &run->slots) ||
+        !library_header(&run->header, &answer)) {
         return FAILED;
     }
     if (answer != MAHYREI_ACCEPTED) {

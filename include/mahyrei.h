@@ -13,8 +13,9 @@
  * run_read pools the copies of each symbol, accepts slots only if the pooled symbols are those of
  * some frames, and gives those frames back. Where each symbol is sent once, that is only if some
  * frames make the slots, bit for bit. In a capture that begins on any slot, run_find finds the
- * first marker, and run_cut packs the run that begins there anew, so that run_read can read it;
- * both are for symbols that are sent once.
+ * first marker whose symbols are sent once, and run_cut packs the run that begins at a slot anew,
+ * so that run_read can read it. The header says all of this; header_widen makes one of it from the
+ * shorter header of earlier versions, and header_narrow goes back.
  *
  * The uplink is apart from these: command frames of 64 bits, each a codeblock of 512 slots.
  * uplink_write makes the slots of the frames; uplink_read accepts slots only if some frames make
@@ -69,7 +70,7 @@ extern "C" {
 #define MAHYREI_UPLINK_MAX 64
 
 /*
- * The run header, eight bytes:
+ * The run header, ten bytes:
  *
  *   bits  field
  *      2  code rate: 0 for 1/3, 1 for 1/2, 2 for 2/3
@@ -80,23 +81,27 @@ extern "C" {
  *     12  F, the bytes of a frame, 1 to 2048
  *      6  W, the symbols of the codeblock marker, 1 to 32
  *      7  A, the frames of the run, 1 to 64
- *     16  zero
+ *      6  the factor: how many copies of each symbol, markers and guard slots included, are sent in
+ *         a row, 1, 2, 3, 4, 8, 16 or 32
+ *     26  zero
  *
- * The marker is lent beside the header: W symbols, one byte each, each below M. So is the factor:
- * how many copies of each symbol, markers and guard slots included, are sent in a row, 1, 2, 3, 4,
- * 8, 16 or 32.
+ * Up to version 0.3 it had eight bytes, the same up to A and then 16 zero bits. No call but
+ * header_widen takes such a header.
+ *
+ * The marker is lent beside the header: W symbols, one byte each, each below M.
  *
  * What follows from a header, with k the information bits of a block and M/4 guard slots after
  * each symbol:
  *   blocks and words   C = A * (8 * F + 32) / k, rounded up
  *   symbols, markers counted
  *                      (C + N * (N - 1) * B / S) * (S + W)
- *   slots              symbols * copies * (M + M / 4), at most 1,457,029,760 for one copy and
+ *   slots              symbols * factor * (M + M / 4), at most 1,457,029,760 for one copy and
  *                      46,624,952,320 for 32
  *   slot bytes         slots / 8, rounded up; spare bits at the end are zero
  *   frame bytes        A * F, at most 131,072
  */
-#define MAHYREI_HEADER_BYTES 8
+#define MAHYREI_HEADER_BYTES 10
+#define MAHYREI_OLD_HEADER_BYTES 8
 #define MAHYREI_MARKER_MAX 32
 #define MAHYREI_COPIES_MAX 32
 #define MAHYREI_FRAMES_BYTES_MAX 131072
@@ -108,36 +113,37 @@ extern "C" {
 
 /*
  * The number in an answer: 0, or the number of the first question whose answer is no. The
- * questions are put in the order of their numbers, but that 20 comes after 7, 19 and 27 after 8,
- * and 28 and 29 after 9; a call skips those it has no input for. 9 to 19, 28 and 29 are about the
- * contents of what is read.
+ * questions are put in the order of their numbers, but that 20 comes after 7, 19, 21 and 27 after
+ * 8, and 28 and 29 after 9; a call skips those it has no input for. 9 to 19, 28 and 29 are about
+ * the contents of what is read.
  */
 enum mahyrei_number {
     /* Accepted: every byte of the written slice has been set. run_find writes nothing: its place is
      * the slot that was found. */
     MAHYREI_ACCEPTED = 0,
 
-    /* Run calls: the header is not eight bytes, or its last 16 bits are not zero. */
+    /* The header is not ten bytes, or its last 26 bits are not zero. header_widen: it is not eight
+     * bytes, or its last 16 bits are not zero. */
     MAHYREI_BAD_HEADER = 1,
     /* The code rate is not 0, 1 or 2. */
     MAHYREI_BAD_RATE = 2,
-    /* Run calls: m is not 2 to 8. */
+    /* In a header: m is not 2 to 8. */
     MAHYREI_BAD_ORDER = 3,
-    /* Run calls: N is not 1 to 128, or B is not 1 to 256. */
+    /* In a header: N is not 1 to 128, or B is not 1 to 256. */
     MAHYREI_BAD_ROWS = 4,
-    /* Run calls: N * (N - 1) * B is not a multiple of S, so the places of the channel interleaver
+    /* In a header: N * (N - 1) * B is not a multiple of S, so the places of the channel interleaver
      * do not fill whole codeblocks. */
     MAHYREI_BAD_FIT = 5,
-    /* Run calls: F is not 1 to 2048, or A is not 1 to 64. */
+    /* In a header: F is not 1 to 2048, or A is not 1 to 64. */
     MAHYREI_BAD_FRAMES = 6,
-    /* Run calls: W is not 1 to 32, or one of the lent marker symbols, up to the W-th, is M or
+    /* In a header: W is not 1 to 32. Or one of the lent marker symbols, up to the W-th, is M or
      * more. */
     MAHYREI_BAD_MARKER = 7,
-    /* A slice has another length than the rate or the header implies, the factor included. Passes:
-     * the slices do not hold n whole blocks and n words, with n from 1 to MAHYREI_PASS_MAX.
-     * Captures: there are more than MAHYREI_CAPTURE_BYTES_MAX bytes, or in run_cut the run does not
-     * end within them. Uplink: the slices do not hold n whole frames and n codeblocks, with n from
-     * 1 to MAHYREI_UPLINK_MAX. */
+    /* A slice has another length than the rate or the header implies, the factor included, or than
+     * a header to be written has. Passes: the slices do not hold n whole blocks and n words, with n
+     * from 1 to MAHYREI_PASS_MAX. Captures: there are more than MAHYREI_CAPTURE_BYTES_MAX bytes, or
+     * in run_cut the run does not end within them. Uplink: the slices do not hold n whole frames
+     * and n codeblocks, with n from 1 to MAHYREI_UPLINK_MAX. */
     MAHYREI_BAD_LENGTH = 8,
 
     /* run_read: a spare bit of the last slot byte is set; there are such bits only where m is 2, 3
@@ -176,8 +182,10 @@ enum mahyrei_number {
     /* run_find: at no slot of the capture a whole marker begins. */
     MAHYREI_NO_MARKER = 19,
 
-    /* run_write and run_read: the factor is not 1, 2, 3, 4, 8, 16 or 32. */
+    /* In a header of ten bytes: the factor is not 1, 2, 3, 4, 8, 16 or 32. */
     MAHYREI_BAD_COPIES = 20,
+    /* header_narrow: the factor is not 1, so that no header of eight bytes says the same. */
+    MAHYREI_NO_OLD_HEADER = 21,
 
     /* bit_spread: a block has no bit of this number: it has 5006, 7526 or 10046, counted from 0,
      * and the two spare bits do not count. */
@@ -276,13 +284,13 @@ uint64_t bit_spread(uint64_t rate, uint64_t bit, uint8_t *places, size_t places_
  * run_write: makes the slots of a run.
  *
  * Reads   header, MAHYREI_HEADER_BYTES bytes; marker, W bytes; frames, A * F bytes, the frames
- *         back to back without their markers. copies is the factor.
+ *         back to back without their markers.
  * Writes  slots, the slot bytes that the header implies, all of them, whatever they held; none on
  *         refusal.
  * Returns 0 on acceptance; otherwise a number from 1 to 8, or 20, place 0 (so the answer is the
  *         number).
  */
-uint64_t run_write(uint64_t copies, const uint8_t *header, size_t header_len, const uint8_t *marker,
+uint64_t run_write(const uint8_t *header, size_t header_len, const uint8_t *marker,
                    size_t marker_len, const uint8_t *frames, size_t frames_len, uint8_t *slots,
                    size_t slots_len);
 
@@ -290,15 +298,15 @@ uint64_t run_write(uint64_t copies, const uint8_t *header, size_t header_len, co
  * run_read: gives back the frames that make a run.
  *
  * Reads   header, MAHYREI_HEADER_BYTES bytes; marker, W bytes; slots, the slot bytes that the
- *         header implies. copies is the factor.
+ *         header implies.
  * Writes  frames, A * F bytes, all of them, whatever they held, and only when the whole run has
  *         been judged; none on refusal.
  * Returns 0 on acceptance: the pooled symbols are those that run_write sends for these frames, with
- *         the same header and marker, and for no others; where copies is 1, run_write makes these
- *         slots of these frames. Otherwise place * 256 + number, with a number from 1 to 16, or 18
- *         or 20; 10 to 16 have a place. Take it apart by answer_number and answer_place.
+ *         the same header and marker, and for no others; where the factor is 1, run_write makes
+ *         these slots of these frames. Otherwise place * 256 + number, with a number from 1 to 16,
+ * or 18 or 20; 10 to 16 have a place. Take it apart by answer_number and answer_place.
  */
-uint64_t run_read(uint64_t copies, const uint8_t *header, size_t header_len, const uint8_t *marker,
+uint64_t run_read(const uint8_t *header, size_t header_len, const uint8_t *marker,
                   size_t marker_len, const uint8_t *slots, size_t slots_len, uint8_t *frames,
                   size_t frames_len);
 
@@ -308,14 +316,16 @@ uint64_t run_read(uint64_t copies, const uint8_t *header, size_t header_len, con
  * Reads   header, MAHYREI_HEADER_BYTES bytes; marker, W bytes; capture, any number of bytes up to
  *         MAHYREI_CAPTURE_BYTES_MAX. Each bit of the capture is a slot, counted from 0. The marker
  *         stands at a slot if the W * (M + M / 4) slots from there on are those of its symbols,
- *         each with one pulse and with its guard slots empty.
+ *         each once, with one pulse and with its guard slots empty. The factor is judged with the
+ *         header, and not looked at in the search.
  * Writes  nothing.
  * Returns slot * 256 where there is such a slot: number 0, and the slot as the place. Otherwise a
- *         number from 1 to 8, or 19, place 0 (so the answer is the number). An answer is accepted
- *         if answer_number is 0; the answer itself is 0 only for slot 0.
+ *         number from 1 to 8, or 19 or 20, place 0 (so the answer is the number). An answer is
+ *         accepted if answer_number is 0; the answer itself is 0 only for slot 0.
  *
  * The lines of a run all begin with the marker, so a capture that begins within a run has the
- * marker of a later line first. Where a run begins and no earlier slot fits, the slot is the run's.
+ * marker of a later line first. Where a run of factor 1 begins and no earlier slot fits, the slot
+ * is the run's.
  */
 uint64_t run_find(const uint8_t *header, size_t header_len, const uint8_t *marker,
                   size_t marker_len, const uint8_t *capture, size_t capture_len);
@@ -328,12 +338,36 @@ uint64_t run_find(const uint8_t *header, size_t header_len, const uint8_t *marke
  *         implies, from this slot on.
  * Writes  slots, the slot bytes that the header implies, all of them, whatever they held, with
  *         spare bits of zero; none on refusal.
- * Returns 0 on acceptance; otherwise a number from 1 to 8, place 0 (so the answer is the number).
- *         What the slots hold is not judged; run_read does that. Of 7 it asks W's range alone, and
- *         any number may be given as the slot.
+ * Returns 0 on acceptance; otherwise a number from 1 to 8, or 20, place 0 (so the answer is the
+ *         number). What the slots hold is not judged; run_read does that. Of 7 it asks W's range
+ * alone, and any number may be given as the slot.
  */
 uint64_t run_cut(const uint8_t *header, size_t header_len, const uint8_t *capture,
                  size_t capture_len, uint64_t slot, uint8_t *slots, size_t slots_len);
+
+/*
+ * header_widen: makes a header of ten bytes from one of eight, with factor 1.
+ *
+ * Reads   eight, MAHYREI_OLD_HEADER_BYTES bytes.
+ * Writes  ten, MAHYREI_HEADER_BYTES bytes, all of them, whatever they held; none on refusal.
+ * Returns 0 on acceptance; otherwise a number from 1 to 8, place 0 (so the answer is the number).
+ *         Of 7 it asks W's range alone.
+ *
+ * header_narrow gives the eight bytes back from what it writes.
+ */
+uint64_t header_widen(const uint8_t *eight, size_t eight_len, uint8_t *ten, size_t ten_len);
+
+/*
+ * header_narrow: makes a header of eight bytes from one of ten, whose factor is 1.
+ *
+ * Reads   ten, MAHYREI_HEADER_BYTES bytes.
+ * Writes  eight, MAHYREI_OLD_HEADER_BYTES bytes, all of them, whatever they held; none on refusal.
+ * Returns 0 on acceptance; otherwise a number from 1 to 8, or 20 or 21, place 0 (so the answer is
+ *         the number). Of 7 it asks W's range alone, and 21 comes last.
+ *
+ * header_widen gives the ten bytes back from what it writes.
+ */
+uint64_t header_narrow(const uint8_t *ten, size_t ten_len, uint8_t *eight, size_t eight_len);
 
 /*
  * uplink_write: makes the slots of command frames.

@@ -4,7 +4,8 @@
  *
  * These functions are plain C. They are tested, against the proved calls and the proved runsheet,
  * and they are not proved. Nothing rests on them: run_write and run_read put every question to the
- * header themselves, so a size that came out wrong here would be refused there, with 8.
+ * header themselves, so a size that came out wrong here would be refused there, with 8. They are
+ * for headers of ten bytes; header_widen makes one of eight.
  *
  * They keep no state, allocate nothing, and need memset, strcmp and a few hundred bytes of stack.
  * They are in libmahyrei with the calls.
@@ -25,9 +26,9 @@ extern "C" {
 #define MAHYREI_FRAME_MARKER UINT32_C(0x1ACFFC1D)
 #define MAHYREI_FRAME_MARKER_BITS 32
 
-/* The fields of a run header; mahyrei.h says what they are. */
+/* The fields of a run header; mahyrei.h says what they are. copies is the factor. */
 struct mahyrei_fields {
-    uint64_t rate, m, N, B, F, W, A;
+    uint64_t rate, m, N, B, F, W, A, copies;
 };
 
 /* What a header implies. */
@@ -38,8 +39,9 @@ struct mahyrei_sizes {
     uint64_t S;       /* symbols of a word */
     uint64_t C;       /* blocks, and words */
     uint64_t R;       /* rows of S symbols, each with a marker before it */
-    uint64_t symbols; /* of the run, markers counted: R * (S + W) */
-    uint64_t slots;   /* of the run */
+    uint64_t pooled;  /* symbols of the run, markers counted, as places count: R * (S + W) */
+    uint64_t symbols; /* the same with all copies, as runsheet counts: pooled * copies */
+    uint64_t slots;   /* of the run: symbols * group */
     size_t marker_bytes, frame_bytes, slot_bytes; /* of the slices that the run calls are lent */
 };
 
@@ -50,19 +52,20 @@ const char *mahyrei_field_name(size_t which);
 uint64_t *mahyrei_field(struct mahyrei_fields *fields, const char *name);
 
 /*
- * Takes a header apart, and puts questions 1 to 6 and W's range of 7 to it, as runsheet does.
+ * Takes a header apart, and puts questions 1 to 6, W's range of 7, and 20 to it, as runsheet does.
  *
- * Returns 0, or the number of the first question answered no, 1 to 7. The fields are set whenever
- * the header has its eight bytes, also where it is refused; otherwise they are all 0.
+ * Returns 0, or the number of the first question answered no, 1 to 7 or 20. The fields are set
+ * whenever the header has its ten bytes, also where it is refused; otherwise they are all 0.
  */
 unsigned mahyrei_header_fields(const uint8_t *header, size_t header_len,
                                struct mahyrei_fields *fields);
 
 /*
- * Puts questions 2 to 6 and W's range of 7 to fields.
+ * Puts questions 2 to 6, W's range of 7, and 20 to fields.
  *
  * Returns 0, or the number of the first answered no. Where wrong is not NULL, it is set to the name
- * of the field that fails ("rate", "m", "N", "B", "F", "W", "A"; "N and B" for 5), or to NULL.
+ * of the field that fails ("rate", "m", "N", "B", "F", "W", "A", "copies"; "N and B" for 5), or to
+ * NULL.
  */
 unsigned mahyrei_fields_check(const struct mahyrei_fields *fields, const char **wrong);
 

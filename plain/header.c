@@ -20,11 +20,14 @@ static const struct field FIELDS[] = {
     {"F", 12, 1, 2048, MAHYREI_BAD_FRAMES, offsetof(struct mahyrei_fields, F)},
     {"W", 6, 1, 32, MAHYREI_BAD_MARKER, offsetof(struct mahyrei_fields, W)},
     {"A", 7, 1, 64, MAHYREI_BAD_FRAMES, offsetof(struct mahyrei_fields, A)},
+    {"copies", 6, 1, MAHYREI_COPIES_MAX, MAHYREI_BAD_COPIES,
+     offsetof(struct mahyrei_fields, copies)},
 };
 
 /* The questions put to fields, in their order. */
-static const unsigned QUESTIONS[] = {MAHYREI_BAD_RATE, MAHYREI_BAD_ORDER,  MAHYREI_BAD_ROWS,
-                                     MAHYREI_BAD_FIT,  MAHYREI_BAD_FRAMES, MAHYREI_BAD_MARKER};
+static const unsigned QUESTIONS[] = {MAHYREI_BAD_RATE,  MAHYREI_BAD_ORDER,  MAHYREI_BAD_ROWS,
+                                     MAHYREI_BAD_FIT,   MAHYREI_BAD_FRAMES, MAHYREI_BAD_MARKER,
+                                     MAHYREI_BAD_COPIES};
 
 enum {
     FIELD_COUNT = sizeof FIELDS / sizeof FIELDS[0],
@@ -72,12 +75,29 @@ static const char *misfit(const struct mahyrei_fields *fields) {
     return fields->N * (fields->N - 1) * fields->B % S == 0 ? NULL : "N and B";
 }
 
+/* Question 20: 3, and the powers of 2 in its range. */
+static const char *no_factor(const struct mahyrei_fields *fields) {
+    const uint64_t k = fields->copies;
+    return k != 3 && (k & (k - 1)) != 0 ? "copies" : out_of_range(fields, MAHYREI_BAD_COPIES);
+}
+
+/* The field that fails this question, or NULL. */
+static const char *failing(const struct mahyrei_fields *fields, unsigned number) {
+    switch (number) {
+    case MAHYREI_BAD_FIT:
+        return misfit(fields);
+    case MAHYREI_BAD_COPIES:
+        return no_factor(fields);
+    default:
+        return out_of_range(fields, number);
+    }
+}
+
 unsigned mahyrei_fields_check(const struct mahyrei_fields *fields, const char **wrong) {
     unsigned number = MAHYREI_ACCEPTED;
     const char *name = NULL;
     for (size_t i = 0; i < QUESTION_COUNT && name == NULL; i++) {
-        name =
-            QUESTIONS[i] == MAHYREI_BAD_FIT ? misfit(fields) : out_of_range(fields, QUESTIONS[i]);
+        name = failing(fields, QUESTIONS[i]);
         number = name == NULL ? MAHYREI_ACCEPTED : QUESTIONS[i];
     }
     if (wrong != NULL) {
@@ -148,7 +168,8 @@ unsigned mahyrei_sizes(const uint8_t *header, size_t header_len, struct mahyrei_
     sizes->S = MAHYREI_WORD_BITS / fields.m;
     sizes->C = (fields.A * (8 * fields.F + MAHYREI_FRAME_MARKER_BITS) + sizes->k - 1) / sizes->k;
     sizes->R = sizes->C + fields.N * (fields.N - 1) * fields.B / sizes->S;
-    sizes->symbols = sizes->R * (sizes->S + fields.W);
+    sizes->pooled = sizes->R * (sizes->S + fields.W);
+    sizes->symbols = sizes->pooled * fields.copies;
     sizes->slots = sizes->symbols * sizes->group;
     sizes->marker_bytes = (size_t)fields.W;
     sizes->frame_bytes = (size_t)(fields.A * fields.F);

@@ -5,7 +5,9 @@
 static const char *const SENTENCES[] = {
     [MAHYREI_ACCEPTED] = "All is well: the result has been written, every byte of it; in run_find "
                          "the place is the slot.",
-    [MAHYREI_BAD_HEADER] = "The header is not eight bytes long, or one of its last 16 bits is set.",
+    [MAHYREI_BAD_HEADER] =
+        "The header is not ten bytes long, or one of its last 26 bits is set; for header_widen it "
+        "is eight bytes and 16 bits.",
     [MAHYREI_BAD_RATE] = "There is no such code rate; it is 0, 1 or 2.",
     [MAHYREI_BAD_ORDER] = "There is no such pulse order; m is 2 to 8.",
     [MAHYREI_BAD_ROWS] = "The channel interleaver is out of range; N is 1 to 128 and B is 1 to "
@@ -19,7 +21,8 @@ static const char *const SENTENCES[] = {
     [MAHYREI_BAD_LENGTH] = "A lent slice is longer or shorter than the rate or the header says; a "
                            "pass has 1 to 211 blocks, whole, and as many words; a capture has at "
                            "most 2^53 bytes, and run_cut needs the whole run in it; an uplink has "
-                           "1 to 64 frames, whole, and as many codeblocks.",
+                           "1 to 64 frames, whole, and as many codeblocks; header_widen writes ten "
+                           "bytes, header_narrow eight.",
     [MAHYREI_BAD_SPARE] = "A spare bit behind the last slot is set.",
     [MAHYREI_BAD_PULSE] =
         "A symbol cannot be told: over all its copies, no data slot has more "
@@ -43,6 +46,7 @@ static const char *const SENTENCES[] = {
     [MAHYREI_NO_MARKER] = "No slot of the capture begins a whole marker.",
     [MAHYREI_BAD_COPIES] = "There is no such factor; each symbol is sent 1, 2, 3, 4, 8, 16 or 32 "
                            "times.",
+    [MAHYREI_NO_OLD_HEADER] = "The factor is not 1: no header of eight bytes says the same.",
     [MAHYREI_BAD_BIT] = "There is no such block bit; a block has 5006, 7526 or 10046.",
     [MAHYREI_BAD_GROUP] = "Four slots are no bit: they do not hold exactly one pulse, or it stands "
                           "in a guard slot; the place is the group.",

@@ -11,10 +11,10 @@
 
 Everything is `bytes`, in and out; other objects with a buffer, such as bytearray and memoryview,
 are taken too and copied first. A call gives its whole result or raises Refused. What a refusal says
-comes from the library: run_write, run_read, run_find, run_cut, word_write, word_read, pass_write,
-pass_read, bit_spread, uplink_write and uplink_read are proved there; header, fields, sizes and
-sentence are plain C, and tested. This module adds nothing to their answers; it only lends them
-room.
+comes from the library: run_write, run_read, run_find, run_cut, header_widen, header_narrow,
+word_write, word_read, pass_write, pass_read, bit_spread, uplink_write and uplink_read are proved
+there; header, fields, sizes and sentence are plain C, and tested. This module adds nothing to their
+answers; it only lends them room.
 
 A call works in less than 1 MiB of stack, so a thread that makes one needs a stack above that (see
 threading.stack_size; 0, the default, is enough on Linux). Calls let other threads run meanwhile.
@@ -35,6 +35,8 @@ __all__ = [
     "bit_spread",
     "fields",
     "header",
+    "header_narrow",
+    "header_widen",
     "pass_read",
     "pass_write",
     "run_cut",
@@ -50,13 +52,13 @@ __all__ = [
 ]
 
 # `make install` puts the whole path here.
-_LIBRARY = "libmahyrei.so.2"
+_LIBRARY = "libmahyrei.so.3"
 
-_HEADER_BYTES = 8
+_HEADER_BYTES = 10
+_OLD_HEADER_BYTES = 8
 _WORD_BYTES = 1890
 _BLOCK_BYTES = (626, 941, 1256)  # by rate
 _PASS_MOST = 211
-_COPIES_MOST = 32
 _UPLINK_FRAME_BYTES = 8
 _UPLINK_CODEBLOCK_BYTES = 64
 _UPLINK_MOST = 64
@@ -81,11 +83,13 @@ class Refused(Exception):
         return f"refused, number {self.number}, place {self.place}: {self.sentence}"
 
 
-Fields = collections.namedtuple("Fields", "rate m N B F W A")
-Fields.__doc__ = "The fields of a header, by the specification's letters; rate is 0, 1 or 2."
+Fields = collections.namedtuple("Fields", "rate m N B F W A copies", defaults=(1,))
+Fields.__doc__ = """The fields of a header, by the specification's letters; rate is 0, 1 or 2.
+
+copies is the factor: how often each symbol is sent in a row."""
 
 Sizes = collections.namedtuple(
-    "Sizes", "k M group S C R symbols slots marker_bytes frame_bytes slot_bytes"
+    "Sizes", "k M group S C R pooled symbols slots marker_bytes frame_bytes slot_bytes"
 )
 Sizes.__doc__ = """What follows from a header.
 
@@ -95,7 +99,8 @@ group         slots of a symbol, guard slots counted
 S             symbols of a word
 C             blocks, and words
 R             rows of S symbols, each with a marker before it
-symbols       of the run, markers counted
+pooled        symbols of the run, markers counted, as places count them
+symbols       the same with all copies
 slots         of the run
 marker_bytes, frame_bytes, slot_bytes
               of what the run calls take and give
@@ -126,10 +131,12 @@ def _load():
         ("pass_write", u64, [u64] + given + room),
         ("pass_read", u64, [u64] + given + room),
         ("bit_spread", u64, [u64, u64] + room),
-        ("run_write", u64, [u64] + given * 3 + room),
-        ("run_read", u64, [u64] + given * 3 + room),
+        ("run_write", u64, given * 3 + room),
+        ("run_read", u64, given * 3 + room),
         ("run_find", u64, given * 3),
         ("run_cut", u64, given * 2 + [u64] + room),
+        ("header_widen", u64, given + room),
+        ("header_narrow", u64, given + room),
         ("uplink_write", u64, given + room),
         ("uplink_read", u64, given + room),
         ("mahyrei_header_fields", number, given + [pointer(_CFields)]),
@@ -247,43 +254,51 @@ def bit_spread(rate, bit):
     return _written(lambda *room: _library.bit_spread(rate, bit, *room), [], _WORD_BYTES)
 
 
-def run_write(header, marker, frames, copies=1):
-    """The slots of a run: header of eight bytes, marker of W, frames of A times F, each symbol sent
-    1, 2, 3, 4, 8, 16 or 32 times in a row. Refused with a number from 1 to 8, or 20."""
-    slices, copies = [_bytes(header), _bytes(marker), _bytes(frames)], _number(copies)
-    slots = _lengths(slices[0]).slots * min(copies, _COPIES_MOST)
-    return _written(
-        lambda *rest: _library.run_write(copies, *rest), slices, (slots + 7) // 8
-    )
+def run_write(header, marker, frames):
+    """The slots of a run: header of ten bytes, marker of W, frames of A times F. Refused with a
+    number from 1 to 8, or 20."""
+    slices = [_bytes(header), _bytes(marker), _bytes(frames)]
+    return _written(_library.run_write, slices, _lengths(slices[0]).slot_bytes)
 
 
-def run_read(header, marker, slots, copies=1):
+def run_read(header, marker, slots):
     """The frames of these slots under this header and marker: those for which run_write sends the
     symbols that the copies tell, pooled, and no others. Refused with a number from 1 to 16, or 18
     or 20. With one copy nothing is corrected."""
-    slices, copies = [_bytes(header), _bytes(marker), _bytes(slots)], _number(copies)
-    return _written(
-        lambda *rest: _library.run_read(copies, *rest), slices, _lengths(slices[0]).frame_bytes
-    )
+    slices = [_bytes(header), _bytes(marker), _bytes(slots)]
+    return _written(_library.run_read, slices, _lengths(slices[0]).frame_bytes)
 
 
 def run_find(header, marker, capture):
     """The earliest slot of a capture, counted from 0, at which the whole marker stands, its guard
-    slots empty: where a run begins, if no earlier slot fits. Every bit of the capture is a slot.
-    Refused with a number from 1 to 8, or with 19 where there is none."""
+    slots empty, each symbol once: where a run of factor 1 begins, if no earlier slot fits. Every
+    bit of the capture is a slot. Refused with a number from 1 to 8, or 20, or with 19 where there
+    is none."""
     return _accepted(_library.run_find(*_lent([_bytes(header), _bytes(marker), _bytes(capture)])))
 
 
 def run_cut(header, capture, slot):
     """The slots of the run that begins at this slot of a capture, packed anew, as run_read takes
-    them; they are not judged. Refused with a number from 1 to 8, with 8 where the run does not end
-    within the capture."""
+    them; they are not judged. Refused with a number from 1 to 8, or 20, with 8 where the run does
+    not end within the capture."""
     slices, slot = [_bytes(header), _bytes(capture)], _number(slot)
     return _written(
         lambda *rest: _library.run_cut(*rest[:4], slot, *rest[4:]),
         slices,
         _lengths(slices[0]).slot_bytes,
     )
+
+
+def header_widen(eight):
+    """The header of ten bytes, with factor 1, that says the same as one of eight bytes, as up to
+    version 0.3. Refused with a number from 1 to 7; of 7 only W's range is asked."""
+    return _written(_library.header_widen, [_bytes(eight)], _HEADER_BYTES)
+
+
+def header_narrow(ten):
+    """The header of eight bytes that says the same as one of ten, whose factor is 1: header_widen
+    undone. Refused with a number from 1 to 7, or 20, or with 21 for another factor."""
+    return _written(_library.header_narrow, [_bytes(ten)], _OLD_HEADER_BYTES)
 
 
 def _lengths(header):
@@ -294,8 +309,8 @@ def _lengths(header):
 
 
 def sizes(header):
-    """What follows from a header, as Sizes. Refused with a number from 1 to 7; of 7 only W's range
-    is asked."""
+    """What follows from a header, as Sizes. Refused with a number from 1 to 7, or 20; of 7 only W's
+    range is asked."""
     header, found = _bytes(header), _CSizes()
     number = _library.mahyrei_sizes(header, len(header), found)
     if number != 0:
@@ -312,9 +327,9 @@ def fields(header):
     return Fields(*(getattr(found, name) for name in Fields._fields))
 
 
-def header(rate, m, N, B, F, W, A):
-    """The header of these fields, eight bytes. Refused with a number from 2 to 7."""
-    given = _CFields(*map(_number, (rate, m, N, B, F, W, A)))
+def header(rate, m, N, B, F, W, A, copies=1):
+    """The header of these fields, ten bytes. Refused with a number from 2 to 7, or 20."""
+    given = _CFields(*map(_number, (rate, m, N, B, F, W, A, copies)))
     room, wrong = ctypes.create_string_buffer(_HEADER_BYTES), ctypes.c_char_p()
     number = _library.mahyrei_header_make(given, room, wrong)
     if number != 0:

@@ -326,7 +326,7 @@ static void write_run(const struct run *run, const uint8_t *marker) {
     uint8_t header[MAHYREI_HEADER_BYTES];
     pack_header(run, header);
     fill_random(frames, frame_bytes(run));
-    CHECK(run_write(1, header, sizeof header, marker, run->W, frames, frame_bytes(run), slots,
+    CHECK(run_write(header, sizeof header, marker, run->W, frames, frame_bytes(run), slots,
                     slot_bytes(run)) == MAHYREI_ACCEPTED);
 }
 
@@ -362,7 +362,7 @@ static void test_run_at(const struct run *run, const uint8_t *marker, size_t at,
     CHECK(around == ANYTHING || answer == at_slot(at));
     CHECK(cut(header, sizeof header, capture, len, at, bytes) == MAHYREI_ACCEPTED);
     CHECK(memcmp(lent_slots.slice, slots, bytes) == 0);
-    CHECK(run_read(1, header, sizeof header, marker, run->W, lent_slots.slice, bytes, back,
+    CHECK(run_read(header, sizeof header, marker, run->W, lent_slots.slice, bytes, back,
                    frame_bytes(run)) == MAHYREI_ACCEPTED);
     CHECK(memcmp(back, frames, frame_bytes(run)) == 0);
     /* the capture ends where the run does, or earlier */
@@ -493,7 +493,7 @@ static void test_refused_headers(void) {
         CHECK(cut(header, len, capture, 100, 0, slot_bytes(&ONE_WORD)) ==
               (right ? MAHYREI_BAD_LENGTH : MAHYREI_BAD_HEADER));
     }
-    for (size_t bit = 48; bit < 8 * MAHYREI_HEADER_BYTES; bit++) {
+    for (size_t bit = 54; bit < 8 * MAHYREI_HEADER_BYTES; bit++) {
         pack_header(&ONE_WORD, header);
         flip(header, bit);
         CHECK(find(header, MAHYREI_HEADER_BYTES, marker, 1, capture, 100) == MAHYREI_BAD_HEADER);
@@ -530,10 +530,77 @@ static void test_refused_markers(void) {
     }
 }
 
+/* 20 comes behind 7, the marker's symbols included, and before 8; run_cut is lent none. Of a factor
+ * that there is, run_find takes no account, and run_cut takes as many slots more. */
+static void test_factors(void) {
+    uint8_t header[MAHYREI_HEADER_BYTES];
+    const uint8_t marker[] = {5}, high[] = {16};
+    struct run run = ONE_WORD;
+    write_run(&run, marker);
+    for (run.copies = 0; run.copies < 64; run.copies++) {
+        const bool is_good = run.copies == 1 || run.copies == 2 || run.copies == 3 ||
+                             run.copies == 4 || run.copies == 8 || run.copies == 16 ||
+                             run.copies == 32;
+        const size_t bytes = slot_bytes(&run), len = bytes + 10;
+        pack_header(&run, header);
+        memset(capture, 0, sizeof capture);
+        put_marker(&run, marker, 41);
+        CHECK(search(&run, marker, capture, 100) == (is_good ? at_slot(41) : MAHYREI_BAD_COPIES));
+        CHECK(search(&run, high, capture, 100) == MAHYREI_BAD_MARKER);
+        CHECK(find(header, sizeof header, NULL, 0, NULL, 0) ==
+              (is_good ? MAHYREI_BAD_LENGTH : MAHYREI_BAD_COPIES));
+        CHECK(cut(header, sizeof header, NULL, 0, 0, 0) ==
+              (is_good ? MAHYREI_BAD_LENGTH : MAHYREI_BAD_COPIES));
+        if (!is_good || len + MARGIN > AREA) {
+            continue;
+        }
+        fill_random(capture, len);
+        CHECK(cut(header, sizeof header, capture, len, 3, bytes) == MAHYREI_ACCEPTED);
+        bool right = true;
+        for (size_t x = 0; x < 8 * bytes; x++) {
+            const size_t wanted = x < slot_count(&run) ? get_bit(capture, 3 + x) : 0;
+            right = right && get_bit(lent_slots.slice, x) == wanted;
+        }
+        CHECK(right);
+        CHECK(run.copies == 1 || cut(header, sizeof header, capture, len, 3,
+                                     slot_bytes(&ONE_WORD)) == MAHYREI_BAD_LENGTH);
+        CHECK(cut(header, sizeof header, capture, slot_count(&run) / 8, 3, bytes) ==
+              MAHYREI_BAD_LENGTH);
+    }
+}
+
+/* Runs whose symbols are sent several times, cut out of a capture and read. */
+static void test_repeated_runs(void) {
+    static const struct run REPEATED[] = {{1, 4, 1, 1, 223, 1, 1, 2},
+                                          {0, 2, 1, 9, 200, 2, 1, 8},
+                                          {1, 3, 1, 1, 100, 5, 2, 3},
+                                          {0, 2, 1, 1, 300, 32, 1, 16}};
+    uint8_t marker[MAHYREI_MARKER_MAX], header[MAHYREI_HEADER_BYTES];
+    static uint8_t back[2048];
+    for (size_t i = 0; i < sizeof REPEATED / sizeof REPEATED[0]; i++) {
+        const struct run *const run = &REPEATED[i];
+        const size_t bytes = slot_bytes(run);
+        for (size_t s = 0; s < run->W; s++) {
+            marker[s] = (uint8_t)((size_t)random_number() % pulse_order(run));
+        }
+        write_run(run, marker);
+        pack_header(run, header);
+        for (size_t at = 0; at < 20; at += 1 + (size_t)random_number() % 5) {
+            surround(ANYTHING);
+            put_run(run, at);
+            CHECK(cut(header, sizeof header, capture, bytes + 3, at, bytes) == MAHYREI_ACCEPTED);
+            CHECK(memcmp(lent_slots.slice, slots, bytes) == 0);
+            CHECK(run_read(header, sizeof header, marker, run->W, lent_slots.slice, bytes, back,
+                           frame_bytes(run)) == MAHYREI_ACCEPTED);
+            CHECK(memcmp(back, frames, frame_bytes(run)) == 0);
+        }
+    }
+}
+
 static void test_every_number_met(void) {
     unsigned long total = 0, expected = 0;
     for (size_t number = 0; number < 256; number++) {
-        const bool of_cut = number <= 8, of_find = of_cut || number == 19;
+        const bool of_cut = number <= 8 || number == 20, of_find = of_cut || number == 19;
         total += met[0][number] + met[1][number];
         expected += (of_find ? met[0][number] : 0) + (of_cut ? met[1][number] : 0);
         CHECK(!of_find || met[0][number] > 0);
@@ -559,6 +626,8 @@ int main(void) {
     test_longest();
     test_refused_headers();
     test_refused_markers();
+    test_factors();
+    test_repeated_runs();
     test_every_number_met();
     return failures == 0 ? EXIT_SUCCESS : EXIT_FAILURE;
 }

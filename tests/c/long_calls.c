@@ -28,16 +28,15 @@ static const uint8_t marker[] = {77}, frame[] = {0xA5};
 static uint64_t write_slots(const struct run *run, uint8_t *slots) {
     uint8_t header[MAHYREI_HEADER_BYTES];
     pack_header(run, header);
-    return run_write(run->copies, header, sizeof header, marker, sizeof marker, frame, sizeof frame,
-                     slots, slot_bytes(run));
+    return run_write(header, sizeof header, marker, sizeof marker, frame, sizeof frame, slots,
+                     slot_bytes(run));
 }
 
 static uint64_t read_slots(const uint8_t *slots, uint8_t *to) {
     uint8_t header[MAHYREI_HEADER_BYTES];
     pack_header(&OFTEN, header);
     *to = 0;
-    return run_read(OFTEN.copies, header, sizeof header, marker, sizeof marker, slots,
-                    slot_bytes(&OFTEN), to, 1);
+    return run_read(header, sizeof header, marker, sizeof marker, slots, slot_bytes(&OFTEN), to, 1);
 }
 
 /* Each group of one copy stands there 32 times. */

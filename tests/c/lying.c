@@ -4,15 +4,15 @@
  */
 #include "mahyrei.h"
 
-uint64_t __real_run_read(uint64_t, const uint8_t *, size_t, const uint8_t *, size_t,
-                         const uint8_t *, size_t, uint8_t *, size_t);
-uint64_t __wrap_run_read(uint64_t, const uint8_t *, size_t, const uint8_t *, size_t,
-                         const uint8_t *, size_t, uint8_t *, size_t);
+uint64_t __real_run_read(const uint8_t *, size_t, const uint8_t *, size_t, const uint8_t *, size_t,
+                         uint8_t *, size_t);
+uint64_t __wrap_run_read(const uint8_t *, size_t, const uint8_t *, size_t, const uint8_t *, size_t,
+                         uint8_t *, size_t);
 
-uint64_t __wrap_run_read(uint64_t copies, const uint8_t *header, size_t header_len,
-                         const uint8_t *marker, size_t marker_len, const uint8_t *slots,
-                         size_t slots_len, uint8_t *frames, size_t frames_len) {
-    const uint64_t answer = __real_run_read(copies, header, header_len, marker, marker_len, slots,
+uint64_t __wrap_run_read(const uint8_t *header, size_t header_len, const uint8_t *marker,
+                         size_t marker_len, const uint8_t *slots, size_t slots_len, uint8_t *frames,
+                         size_t frames_len) {
+    const uint64_t answer = __real_run_read(header, header_len, marker, marker_len, slots,
                                             slots_len, frames, frames_len);
     return answer_number(answer) < MAHYREI_BAD_PULSE ? answer : answer + 256;
 }

@@ -1,7 +1,7 @@
 /*
- * Plain C version of the run calls, on the plain C words of bench/plain_word.c: a stand-in for the
- * library, with which the tests can be tried. It allocates, and aborts where it cannot. Steps and
- * questions are numbered as in docs/SPECIFICATION.md.
+ * Plain C version of the run and header calls, on the plain C words of bench/plain_word.c: a
+ * stand-in for the library, with which the tests can be tried. It allocates, and aborts where it
+ * cannot. Steps and questions are numbered as in docs/SPECIFICATION.md.
  */
 #include <stdlib.h>
 #include <string.h>
@@ -46,12 +46,8 @@ static int is_factor(uint64_t copies) {
            (copies == 3 || (copies & (copies - 1)) == 0);
 }
 
-/* Questions 1 to 7, and 20, and what follows from the header. */
-static unsigned ask_header(struct run *r, uint64_t copies, const uint8_t *header, size_t header_len,
-                           const uint8_t *marker, size_t marker_len) {
-    if (header_len != MAHYREI_HEADER_BYTES || header[6] != 0 || header[7] != 0) {
-        return 1;
-    }
+/* Questions 2 to 6, and W's range of 7, of a header of either length. */
+static unsigned ask_fields(struct run *r, const uint8_t *header) {
     r->rate = get_bits(header, 0, 2);
     r->m = get_bits(header, 2, 4);
     r->N = get_bits(header, 6, 8);
@@ -68,30 +64,51 @@ static unsigned ask_header(struct run *r, uint64_t copies, const uint8_t *header
     if (r->N < 1 || r->N > 128 || r->B < 1 || r->B > 256) {
         return 4;
     }
-    const size_t unhit = r->N * (r->N - 1) * r->B;
     r->S = MAHYREI_WORD_BITS / r->m;
-    if (unhit % r->S != 0) {
+    if (r->N * (r->N - 1) * r->B % r->S != 0) {
         return 5;
     }
     if (r->F < 1 || r->F > 2048 || r->A < 1 || r->A > 64) {
         return 6;
     }
     r->M = (size_t)1 << r->m;
-    if (r->W < 1 || r->W > 32) {
-        return 7;
+    return r->W < 1 || r->W > 32 ? 7 : 0;
+}
+
+/* Question 1, which is about the zeros behind the fields too, and those of ask_fields. */
+static unsigned ask_form(struct run *r, const uint8_t *header, size_t header_len, size_t bytes,
+                         size_t fields_end) {
+    if (header_len != bytes || get_bits(header, fields_end, 8 * bytes - fields_end) != 0) {
+        return 1;
+    }
+    return ask_fields(r, header);
+}
+
+enum { OLD_FIELDS_END = 48, FIELDS_END = 54 };
+
+static unsigned ask_old_header(struct run *r, const uint8_t *header, size_t header_len) {
+    return ask_form(r, header, header_len, MAHYREI_OLD_HEADER_BYTES, OLD_FIELDS_END);
+}
+
+/* Questions 1 to 7, and 20, and what follows from the header. */
+static unsigned ask_header(struct run *r, const uint8_t *header, size_t header_len,
+                           const uint8_t *marker, size_t marker_len) {
+    const unsigned number = ask_form(r, header, header_len, MAHYREI_HEADER_BYTES, FIELDS_END);
+    if (number != 0) {
+        return number;
     }
     for (size_t i = 0; i < r->W && i < marker_len; i++) {
         if (marker[i] >= r->M) {
             return 7;
         }
     }
-    if (!is_factor(copies)) {
+    r->copies = get_bits(header, OLD_FIELDS_END, FIELDS_END - OLD_FIELDS_END);
+    if (!is_factor(r->copies)) {
         return 20;
     }
-    r->copies = copies;
     r->k = word_block_bytes(r->rate) * 8 - 2;
     r->C = (r->A * (8 * r->F + MARKER_BITS) + r->k - 1) / r->k;
-    r->places = r->C * r->S + unhit;
+    r->places = r->C * r->S + r->N * (r->N - 1) * r->B;
     r->symbols = r->places / r->S * (r->S + r->W);
     r->group = r->M + r->M / 4;
     r->slots = r->symbols * r->copies * r->group;
@@ -100,9 +117,9 @@ static unsigned ask_header(struct run *r, uint64_t copies, const uint8_t *header
 }
 
 /* Questions 1 to 7, 20 and 8 of run_write and run_read. */
-static unsigned ask(struct run *r, uint64_t copies, const uint8_t *header, size_t header_len,
-                    const uint8_t *marker, size_t marker_len, size_t frames_len, size_t slots_len) {
-    const unsigned number = ask_header(r, copies, header, header_len, marker, marker_len);
+static unsigned ask(struct run *r, const uint8_t *header, size_t header_len, const uint8_t *marker,
+                    size_t marker_len, size_t frames_len, size_t slots_len) {
+    const unsigned number = ask_header(r, header, header_len, marker, marker_len);
     if (number != 0) {
         return number;
     }
@@ -125,12 +142,11 @@ static size_t stand(const struct run *r, size_t t) {
     return p / r->S * (r->S + r->W) + r->W + p % r->S;
 }
 
-uint64_t run_write(uint64_t copies, const uint8_t *header, size_t header_len, const uint8_t *marker,
+uint64_t run_write(const uint8_t *header, size_t header_len, const uint8_t *marker,
                    size_t marker_len, const uint8_t *frames, size_t frames_len, uint8_t *slots,
                    size_t slots_len) {
     struct run r;
-    const unsigned number =
-        ask(&r, copies, header, header_len, marker, marker_len, frames_len, slots_len);
+    const unsigned number = ask(&r, header, header_len, marker, marker_len, frames_len, slots_len);
     if (number != 0) {
         return number;
     }
@@ -269,12 +285,11 @@ static uint64_t read_stream(const struct run *r, const uint8_t *stream, uint8_t 
     return 0;
 }
 
-uint64_t run_read(uint64_t copies, const uint8_t *header, size_t header_len, const uint8_t *marker,
+uint64_t run_read(const uint8_t *header, size_t header_len, const uint8_t *marker,
                   size_t marker_len, const uint8_t *slots, size_t slots_len, uint8_t *frames,
                   size_t frames_len) {
     struct run r;
-    const unsigned number =
-        ask(&r, copies, header, header_len, marker, marker_len, frames_len, slots_len);
+    const unsigned number = ask(&r, header, header_len, marker, marker_len, frames_len, slots_len);
     if (number != 0) {
         return number;
     }
@@ -301,7 +316,7 @@ static int marker_at(const struct run *r, const uint8_t *marker, const uint8_t *
 uint64_t run_find(const uint8_t *header, size_t header_len, const uint8_t *marker,
                   size_t marker_len, const uint8_t *capture, size_t capture_len) {
     struct run r;
-    const unsigned number = ask_header(&r, 1, header, header_len, marker, marker_len);
+    const unsigned number = ask_header(&r, header, header_len, marker, marker_len);
     if (number != 0) {
         return number;
     }
@@ -319,7 +334,7 @@ uint64_t run_find(const uint8_t *header, size_t header_len, const uint8_t *marke
 uint64_t run_cut(const uint8_t *header, size_t header_len, const uint8_t *capture,
                  size_t capture_len, uint64_t slot, uint8_t *slots, size_t slots_len) {
     struct run r;
-    const unsigned number = ask_header(&r, 1, header, header_len, NULL, 0);
+    const unsigned number = ask_header(&r, header, header_len, NULL, 0);
     if (number != 0) {
         return number;
     }
@@ -333,5 +348,40 @@ uint64_t run_cut(const uint8_t *header, size_t header_len, const uint8_t *captur
             put_bit(slots, x);
         }
     }
+    return 0;
+}
+
+/* Both trips: the fields stay where they are, and the factor and the zeros behind them change. */
+enum { FIELD_BYTES = OLD_FIELDS_END / 8 };
+
+uint64_t header_widen(const uint8_t *eight, size_t eight_len, uint8_t *ten, size_t ten_len) {
+    struct run r;
+    const unsigned number = ask_old_header(&r, eight, eight_len);
+    if (number != 0) {
+        return number;
+    }
+    if (ten_len != MAHYREI_HEADER_BYTES) {
+        return 8;
+    }
+    memset(ten, 0, ten_len);
+    memcpy(ten, eight, FIELD_BYTES);
+    put_bit(ten, FIELDS_END - 1);
+    return 0;
+}
+
+uint64_t header_narrow(const uint8_t *ten, size_t ten_len, uint8_t *eight, size_t eight_len) {
+    struct run r;
+    const unsigned number = ask_header(&r, ten, ten_len, NULL, 0);
+    if (number != 0) {
+        return number;
+    }
+    if (eight_len != MAHYREI_OLD_HEADER_BYTES) {
+        return 8;
+    }
+    if (r.copies != 1) {
+        return 21;
+    }
+    memset(eight, 0, eight_len);
+    memcpy(eight, ten, FIELD_BYTES);
     return 0;
 }

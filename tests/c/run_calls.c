@@ -65,7 +65,6 @@ struct lent {
 };
 
 static struct lent lent_header, lent_marker, lent_frames, lent_slots;
-static uint64_t lent_copies;
 
 static void map_area(struct lent *lent) {
     lent->area =
@@ -134,12 +133,11 @@ static uint64_t call(bool write) {
         protect(read[i], PROT_READ);
     }
     remember(to);
-    const uint64_t answer = write ? run_write(lent_copies, lent_header.slice, lent_header.len,
-                                              lent_marker.slice, lent_marker.len, lent_frames.slice,
-                                              lent_frames.len, lent_slots.slice, lent_slots.len)
-                                  : run_read(lent_copies, lent_header.slice, lent_header.len,
-                                             lent_marker.slice, lent_marker.len, lent_slots.slice,
-                                             lent_slots.len, lent_frames.slice, lent_frames.len);
+    const uint64_t answer =
+        write ? run_write(lent_header.slice, lent_header.len, lent_marker.slice, lent_marker.len,
+                          lent_frames.slice, lent_frames.len, lent_slots.slice, lent_slots.len)
+              : run_read(lent_header.slice, lent_header.len, lent_marker.slice, lent_marker.len,
+                         lent_slots.slice, lent_slots.len, lent_frames.slice, lent_frames.len);
     for (size_t i = 0; i < 3; i++) {
         protect(read[i], PROT_READ | PROT_WRITE);
         CHECK(unchanged(read[i], read[i]->len + MARGIN));
@@ -205,7 +203,6 @@ static void lend_header(const struct run *run) {
     sample_marker(run, marker);
     lend_copy(&lent_header, header, sizeof header);
     lend_copy(&lent_marker, marker, run->W);
-    lent_copies = run->copies;
 }
 
 static void write_run(const struct run *run, const uint8_t *frames, uint8_t *slots) {
@@ -323,7 +320,7 @@ static void test_known_runs(void) {
 
 /* Sizes that the specification states for its example. */
 static void test_example_sizes(void) {
-    static const uint8_t EXAMPLE[] = {0x59, 0x50, 0xF0, 0x1B, 0xE8, 0x02, 0x00, 0x00};
+    static const uint8_t EXAMPLE[] = {0x59, 0x50, 0xF0, 0x1B, 0xE8, 0x02, 0x04, 0x00, 0x00, 0x00};
     const struct run run = {1, 6, 84, 120, 223, 16, 2, 1};
     uint8_t header[MAHYREI_HEADER_BYTES];
     pack_header(&run, header);
@@ -764,7 +761,7 @@ static void test_refused_headers(void) {
 /* Question 1. */
 static void test_refused_header_bytes(const struct run *run) {
     for (int write = 0; write < 2; write++) {
-        for (size_t bit = 48; bit < 64; bit++) {
+        for (size_t bit = 54; bit < 80; bit++) {
             lend_header(run);
             flip(lent_header.slice, bit);
             lend(&lent_frames, frame_bytes(run));
@@ -776,8 +773,18 @@ static void test_refused_header_bytes(const struct run *run) {
                 lend_header(run);
                 lend(&lent_header, len);
                 CHECK(call(write) == MAHYREI_BAD_HEADER);
+                lend_header(run); /* cut off, or with zeros behind it */
+                uint8_t header[20] = {0};
+                memcpy(header, lent_header.slice, MAHYREI_HEADER_BYTES);
+                lend_copy(&lent_header, header, len);
+                CHECK(call(write) == MAHYREI_BAD_HEADER);
             }
         }
+        uint8_t old[MAHYREI_OLD_HEADER_BYTES]; /* a good one of the versions before */
+        pack_old_header(run, old);
+        lend_header(run);
+        lend_copy(&lent_header, old, sizeof old);
+        CHECK(call(write) == MAHYREI_BAD_HEADER);
         lend_null(&lent_header);
         lend_null(&lent_marker);
         lend_null(&lent_frames);
@@ -818,32 +825,35 @@ static void test_refused_markers(void) {
     }
 }
 
-/* Question 20: after 7, marker symbols included, and before any length. */
+/* Question 20: after 7, marker symbols included, and before any length. The two bits behind the
+ * factor are zeros of question 1. */
 static void test_refused_copies(void) {
-    static const uint64_t LARGE[] = {64, 256 + 1, (UINT64_C(1) << 32) + 1, UINT64_C(1) << 63,
-                                     UINT64_MAX};
     const struct run run = {0, 3, 1, 1, 10, 2, 1, 1}, wrong = {0, 3, 2, 1, 10, 2, 1, 1};
-    const uint64_t good = UINT64_C(1) << 1 | UINT64_C(1) << 2 | UINT64_C(1) << 3 |
-                          UINT64_C(1) << 4 | UINT64_C(1) << 8 | UINT64_C(1) << 16 |
-                          UINT64_C(1) << 32;
-    for (uint64_t i = 0; i < 64 + sizeof LARGE / sizeof LARGE[0]; i++) {
-        const bool is_good = i < 64 && (good >> i & 1) != 0;
-        const uint64_t copies = i < 64 ? i : LARGE[i - 64];
+    unsigned good = 0;
+    for (unsigned byte = 0; byte < 256; byte++) {
+        const unsigned factor = byte >> 2;
+        const bool is_good = factor == 1 || factor == 2 || factor == 3 || factor == 4 ||
+                             factor == 8 || factor == 16 || factor == 32;
+        const unsigned number = byte % 4 != 0 ? MAHYREI_BAD_HEADER
+                                : is_good     ? MAHYREI_BAD_LENGTH
+                                              : MAHYREI_BAD_COPIES;
+        good += number == MAHYREI_BAD_LENGTH;
         for (int write = 0; write < 2; write++) {
             lend_header(&run);
-            lent_copies = copies;
+            lent_header.slice[6] = (uint8_t)byte;
             lend(&lent_frames, frame_bytes(&run));
             lend(&lent_slots, 1);
-            CHECK(call(write) == (is_good ? MAHYREI_BAD_LENGTH : MAHYREI_BAD_COPIES));
+            CHECK(call(write) == number);
             lend_null(&lent_marker);
-            CHECK(call(write) == (is_good ? MAHYREI_BAD_LENGTH : MAHYREI_BAD_COPIES));
+            CHECK(call(write) == number);
             lend_copy(&lent_marker, (const uint8_t[]){8}, 1);
-            CHECK(call(write) == MAHYREI_BAD_MARKER);
+            CHECK(call(write) == (byte % 4 != 0 ? MAHYREI_BAD_HEADER : MAHYREI_BAD_MARKER));
             lend_header(&wrong);
-            lent_copies = copies;
-            CHECK(call(write) == MAHYREI_BAD_FIT);
+            lent_header.slice[6] = (uint8_t)byte;
+            CHECK(call(write) == (byte % 4 != 0 ? MAHYREI_BAD_HEADER : MAHYREI_BAD_FIT));
         }
     }
+    CHECK(good == 7);
 }
 
 /* Question 8: each slice too short, too long, empty, or of a size that fits another one. */

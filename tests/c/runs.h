@@ -10,24 +10,38 @@
 #include "mahyrei.h"
 
 struct run {
-    uint64_t rate, m, N, B, F, W, A; /* as in the header */
-    uint64_t copies;                 /* the factor */
+    uint64_t rate, m, N, B, F, W, A, copies; /* as in the header; copies is the factor */
 };
 
 enum { FRAME_MARKER_BITS = 32 };
 
-static inline void pack_header(const struct run *run, uint8_t header[MAHYREI_HEADER_BYTES]) {
+/* The fields up to A, in the highest 48 of 64 bits. */
+static inline uint64_t packed_fields(const struct run *run) {
     uint64_t packed = run->rate;
     packed = packed << 4 | run->m;
     packed = packed << 8 | run->N;
     packed = packed << 9 | run->B;
     packed = packed << 12 | run->F;
     packed = packed << 6 | run->W;
-    packed = packed << 7 | run->A;
-    packed <<= 16;
-    for (size_t i = 0; i < MAHYREI_HEADER_BYTES; i++) {
-        header[i] = (uint8_t)(packed >> (56 - 8 * i));
+    return (packed << 7 | run->A) << 16;
+}
+
+static inline void put_big_endian(uint64_t packed, uint8_t bytes[8]) {
+    for (size_t i = 0; i < 8; i++) {
+        bytes[i] = (uint8_t)(packed >> (56 - 8 * i));
     }
+}
+
+/* The factor has six bits; a larger one loses the rest. */
+static inline void pack_header(const struct run *run, uint8_t header[MAHYREI_HEADER_BYTES]) {
+    put_big_endian(packed_fields(run) | (run->copies & 63) << 10, header);
+    header[8] = header[9] = 0;
+}
+
+/* The header that the same run has without its factor. */
+static inline void pack_old_header(const struct run *run,
+                                   uint8_t header[MAHYREI_OLD_HEADER_BYTES]) {
+    put_big_endian(packed_fields(run), header);
 }
 
 /* The sizes of mahyrei.h. */

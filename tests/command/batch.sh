@@ -58,7 +58,7 @@ test_batch() {
     made_all
     same 'lines of results' 6 "$(wc -l <list.results)"
     honest list.results
-    has 'a line of results' '"header_hex": "50157A3E82830000", "marker_hex": "05000C0309"' \
+    has 'a line of results' '"header_hex": "50157A3E828304000000", "marker_hex": "05000C0309"' \
         "$(<list.results)"
     local before
     before=$(stat -c '%n %i %Y' s? | xargs)

@@ -74,7 +74,7 @@ test_find() {
 test_find_refusals() {
     begin_capture
     local h
-    for h in "${header:0:14}" "${header}00" "${header:0:15}1" 00 hex:; do
+    for h in "${header:0:18}" "${header}00" "${header:0:19}1" "$(old_header "$header")" 00 hex:; do
         refused 1 0 find "$h" "$marker" capture
         refused 1 0 cut "$h" capture 13 out
         refused 1 0 read --capture "$h" "$marker" capture out
@@ -155,7 +155,7 @@ test_find_says_where() {
     says '05: the marker'"'"'s symbols have 1 byte, and the header implies 5' \
         find "$header" 05 capture
     says '0500100309: symbol 2 of the marker is 16, and M is 16' find "$header" 0500100309 capture
-    says '00: the header has 1 byte, and needs 8' cut 00 capture 13 out
+    says '00: the header has 1 byte, and needs 10' cut 00 capture 13 out
     says "$(header 1 4 5 257 500 5 3): B is 257" cut "$(header 1 4 5 257 500 5 3)" capture 13 out
     says 'capture: the run has 227100 slots, and from slot 61 on the capture has 227099' \
         cut "$header" capture 61 out

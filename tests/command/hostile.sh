@@ -132,7 +132,7 @@ once_little_stack() {
         run 0 read "$header" "$marker" slots back
         alike "frames on a stack of $size KiB" frames back
         run 0 sheet "$header"
-        same "a sheet on a stack of $size KiB" '1/2 16 5 189 500 5 3 2 11355 227100' "$(out)"
+        same "a sheet on a stack of $size KiB" '1/2 16 5 189 500 5 3 2 11355 227100 1' "$(out)"
         run 1 sheet 00
         run 0 header rate=1/2 m=4 N=5 B=189 F=500 W=5 A=3
     done

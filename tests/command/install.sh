@@ -4,7 +4,7 @@
 # README, the man page, the C header and the sentences have the same numbers, and none has a 17.
 once_numbers() {
     local number sentences=''
-    same 'numbers of README' "$(seq -s ' ' 0 16) 18 19 20 27 28 29" "$(numbers | xargs)"
+    same 'numbers of README' "$(seq -s ' ' 0 16) 18 19 20 21 27 28 29" "$(numbers | xargs)"
     same 'numbers of the man page' "$(numbers | xargs)" \
         "$(sed -n 's/^\.IP \([0-9]*\) 4$/\1/p' "$root/host/mahyrei.1" | xargs)"
     same 'numbers of the header' "$(numbers | xargs)" \
@@ -50,16 +50,16 @@ once_install() {
     begin
     local prefix_folder="$work/a prefix" files libraries flags
     made install PREFIX="$prefix_folder"
-    libraries='lib/libmahyrei.a lib/libmahyrei.so lib/libmahyrei.so.0.3.0 lib/libmahyrei.so.2'
+    libraries='lib/libmahyrei.a lib/libmahyrei.so lib/libmahyrei.so.0.4.0 lib/libmahyrei.so.3'
     files="bin/mahyrei include/mahyrei.h include/mahyrei_plain.h $libraries lib/pkgconfig/mahyrei.pc"
     files+=' share/bash-completion/completions/mahyrei share/mahyrei/python/mahyrei.py'
     same 'files of make install' "$files share/man/man1/mahyrei.1 share/man/man3/mahyrei.3" \
         "$(cd "$prefix_folder" && find . ! -type d -printf '%P\n' | sort | xargs)"
     nm -g --defined-only "$prefix_folder/lib/libmahyrei.a" >"$said/out"
     same 'calls of the library' \
-        "bit_spread pass_read pass_write run_cut run_find run_read run_write uplink_read \
-uplink_write word_read word_write" \
-        "$(grep -Eo ' T ((bit|pass|run|uplink|word)_[a-z]*)$' "$said/out" | cut -c 4- | sort | xargs)"
+        "bit_spread header_narrow header_widen pass_read pass_write run_cut run_find run_read \
+run_write uplink_read uplink_write word_read word_write" \
+        "$(grep -Eo ' T ((bit|header|pass|run|uplink|word)_[a-z]*)$' "$said/out" | cut -c 4- | sort | xargs)"
     awk '/^```c$/ { on = 1; next } /^```$/ { on = 0 } on' "$root/README.md" >program.c
     flags="'-I$prefix_folder/include' '-L$prefix_folder/lib' -lmahyrei"
     if command -v pkg-config >"$said/out"; then
@@ -123,6 +123,10 @@ once_completion() {
     same 'an option of read' --capture "$(completed mahyrei read --cap)"
     same 'a capture' frames "$(completed mahyrei find "$header" "$marker" fra)"
     same 'a field' 'rate=1/3 rate=1/2 rate=2/3' "$(completed mahyrei header rate)"
+    same 'a factor' "$(printf 'copies=%s ' 1 2 3 4 8 16 32 | sed 's/ $//')" \
+        "$(completed mahyrei header cop)"
+    same 'an old header' header "$(completed mahyrei widen hea)"
+    same 'a new header' header "$(completed mahyrei narrow hea)"
     same 'a rate' '1/3 1/2' "$(completed mahyrei pass-write 1)"
     same 'a rate of spread' 2/3 "$(completed mahyrei spread 2)"
     same 'a file behind the rate' frames "$(completed mahyrei pass-read -n 1/3 fra)"

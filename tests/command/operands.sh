@@ -20,9 +20,10 @@ test_operands() {
     begin
     cp frames ./-frames
     cp header beef
-    for text in "$header" "${header,,}" "hex:$header" 'hex:50 15 7a3E 8283 00 00' \
-        ' 50157A3E 82830000 ' 0x50157A3E82830000 0X50157a3e82830000 50:15:7A:3E:82:83:00:00 \
-        'hex:0x50 0x15 0x7A 0x3E 0x82 0x83 0x00 0x00' '50157A3E: 82830000' hex:0x50157A3E82830000 \
+    for text in "$header" "${header,,}" "hex:$header" 'hex:50 15 7a3E 8283 04 000000' \
+        ' 50157A3E 828304000000 ' 0x50157A3E828304000000 0X50157a3e828304000000 \
+        50:15:7A:3E:82:83:04:00:00:00 'hex:0x50 0x15 0x7A 0x3E 0x82 0x83 0x04 0x00 0x00 0x00' \
+        '50157A3E: 828304000000' hex:0x50157A3E828304000000 \
         header ./header ./beef; do
         rm -f out
         run 0 write "$text" "$marker" frames out
@@ -43,9 +44,9 @@ test_operands() {
     unharmed 2 'two digits for each byte' write "${header}0" "$marker" frames out
     unharmed 2 'two digits for each byte' write "$header" hex:05000C030 frames out
     unharmed 2 'two digits for each byte' write "$header" 'hex:0 5' frames out
-    unharmed 2 'two digits for each byte' write hex:50157A3E8283000G "$marker" frames out
+    unharmed 2 'two digits for each byte' write hex:50157A3E82830400000G "$marker" frames out
     unharmed 2 'two digits for each byte' write hex:header "$marker" frames out
-    unharmed 2 'two digits for each byte' write 5:0157A3E82830000 "$marker" frames out
+    unharmed 2 'two digits for each byte' write 5:0157A3E828304000000 "$marker" frames out
     unharmed 2 'two digits for each byte' write 0x5 "$marker" frames out
     unharmed 2 'xx: No such file' write 0xx "$marker" frames out
     unharmed 2 '0x: No such file' write 0x "$marker" frames out
@@ -101,7 +102,7 @@ test_text_or_file() {
     local text name
     cp frames "$header"
     ln -s nowhere "$marker"
-    for name in "$header" "0x$header" 50:15:7A:3E:82:83:00:00; do
+    for name in "$header" "0x$header" 50:15:7A:3E:82:83:04:00:00:00; do
         [ -e "$name" ] || cp header "$name"
         unharmed 2 "$name: this is hexadecimal text and also a file here; hex: before it" \
             write "$name" "hex:$marker" frames out

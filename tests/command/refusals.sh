@@ -7,7 +7,7 @@ test_refusals() {
     for command in write read; do
         local from=frames
         [ "$command" = write ] || from=slots
-        for h in "${header:0:14}" "${header}00" "${header:0:15}1" 00; do
+        for h in "${header:0:18}" "${header}00" "${header:0:19}1" "$(old_header "$header")" 00; do
             refused 1 0 "$command" "$h" "$m" "$from" out
         done
         refused 2 0 "$command" "$(header 3 4 5 189 500 5 3)" "$m" "$from" out
@@ -21,6 +21,7 @@ test_refusals() {
         refused 7 0 "$command" "$(header 1 4 5 189 500 33 3)" "$m" "$from" out
         refused 7 0 "$command" "$(header 1 4 5 189 500 0 3)" "$m" "$from" out
         refused 7 0 "$command" "$header" 0500100309 "$from" out
+        refused 20 0 "$command" "$(header 1 4 5 189 500 5 3 5)" "$m" "$from" out
         refused 8 0 "$command" "$header" "${marker}00" "$from" out
         head -c -1 "$from" >short
         refused 8 0 "$command" "$header" "$m" short out
@@ -54,15 +55,22 @@ test_refusals() {
 test_refusal_says_where() {
     begin
     local m=$marker
-    says '00: the header has 1 byte, and needs 8' write 00 "$m" frames out
-    says "${header}00: the header has 9 bytes or more, and needs 8" write "${header}00" "$m" frames out
-    says 'standard input: the header has 0 bytes, and needs 8' write - "$m" frames out </dev/null
-    says "${header:0:15}1: the last 16 bits of the header are 0001" read "${header:0:15}1" "$m" slots out
-    says "D0157A3E82830000: rate is 3" read "$(header 3 4 5 189 500 5 3)" "$m" slots out
+    says '00: the header has 1 byte, and needs 10' write 00 "$m" frames out
+    says "${header}00: the header has 11 bytes or more, and needs 10" write "${header}00" "$m" frames out
+    says 'standard input: the header has 0 bytes, and needs 10' write - "$m" frames out </dev/null
+    says "${header:0:19}1: the last 26 bits of the header are 0000001" read "${header:0:19}1" "$m" slots out
+    says "50157A3E828307800000: the last 26 bits of the header are 3800000" \
+        read 50157A3E828307800000 "$m" slots out
+    says "D0157A3E828304000000: rate is 3" read "$(header 3 4 5 189 500 5 3)" "$m" slots out
     says "$(header 1 4 5 257 500 5 3): B is 257" read "$(header 1 4 5 257 500 5 3)" "$m" slots out
     says "$(header 1 4 2 189 500 5 3): N is 2, B is 189, and S is 3780" \
         read "$(header 1 4 2 189 500 5 3)" "$m" slots out
     says '0500100309: symbol 2 of the marker is 16, and M is 16' read "$header" 0500100309 slots out
+    local wrong
+    wrong=$(header 1 4 5 189 500 5 3 5)
+    says '0500100309: symbol 2 of the marker is 16, and M is 16' read "$wrong" 0500100309 slots out
+    says "$wrong: copies is 5" read "$wrong" "$m" slots out
+    says "$wrong: copies is 5" verify "$wrong" 05 slots
     says '05: the marker'"'"'s symbols have 1 byte, and the header implies 5' \
         read "$header" 05 slots out
     head -c 1499 frames >short

@@ -5,7 +5,7 @@
 declared() {
     gcc -E -P "$root/include/mahyrei_plain.h" | tr '\n' ' ' | sed 's/{[^{}]*}/;/g' | tr ';' '\n' |
         grep -v static | sed -n 's/.*[ *]\([a-z_]*\)(.*)$/\1/p' |
-        grep -E '^(word|pass|bit|uplink|run|mahyrei)_' | sort
+        grep -E '^(word|pass|bit|header|uplink|run|mahyrei)_' | sort
 }
 
 install_all() {
@@ -22,23 +22,23 @@ once_shared() {
     install_all
     local so=prefix/lib/libmahyrei.so
     same 'functions of the headers' \
-        "bit_spread mahyrei_sizes pass_read pass_write run_cut run_find run_read run_write \
-uplink_read uplink_write word_read word_write" \
-        "$(declared | grep -E '^(bit|pass|run|uplink|word)_|_sizes$' | xargs)"
+        "bit_spread header_narrow header_widen mahyrei_sizes pass_read pass_write run_cut run_find \
+run_read run_write uplink_read uplink_write word_read word_write" \
+        "$(declared | grep -E '^(bit|header|pass|run|uplink|word)_|_sizes$' | xargs)"
     same 'names that can be seen in the shared library' "$(declared | xargs)" \
-        "$(nm -D --defined-only $so | sed -n 's/^[0-9a-f]* T \(.*\)@@MAHYREI_2$/\1/p' | sort | xargs)"
+        "$(nm -D --defined-only $so | sed -n 's/^[0-9a-f]* T \(.*\)@@MAHYREI_3$/\1/p' | sort | xargs)"
     same 'and no others' "$(declared | wc -l)" \
-        "$(nm -D --defined-only $so | grep -vc ' A MAHYREI_2$')"
+        "$(nm -D --defined-only $so | grep -vc ' A MAHYREI_3$')"
     same 'what it needs of others' libc.so.6 \
         "$(readelf -d $so | sed -n 's/.*NEEDED.*\[\(.*\)\]/\1/p' | xargs)"
-    same 'its own name' libmahyrei.so.2 "$(readelf -d $so | sed -n 's/.*SONAME.*\[\(.*\)\]/\1/p')"
+    same 'its own name' libmahyrei.so.3 "$(readelf -d $so | sed -n 's/.*SONAME.*\[\(.*\)\]/\1/p')"
     same 'no code that has to be changed when it is loaded' '' "$(readelf -d $so | grep TEXTREL)"
     same 'no stack that can be run' '' "$(readelf -lW $so | grep 'GNU_STACK.*RWE')"
     local version
     version=$("$mahyrei" --version)
-    same 'the links to it' "libmahyrei.so.2 libmahyrei.so.${version#* }" \
-        "$(readlink $so) $(readlink $so.2)"
-    has 'what the module looks for' '_LIBRARY = "libmahyrei.so.2"' "$(<"$root/python/mahyrei.py")"
+    same 'the links to it' "libmahyrei.so.3 libmahyrei.so.${version#* }" \
+        "$(readlink $so) $(readlink $so.3)"
+    has 'what the module looks for' '_LIBRARY = "libmahyrei.so.3"' "$(<"$root/python/mahyrei.py")"
     # README's program, with the shared library and with the archive.
     local flags="-Iprefix/include -Lprefix/lib -lmahyrei"
     if command -v pkg-config >"$said/out"; then
@@ -47,7 +47,7 @@ uplink_read uplink_write word_read word_write" \
     # shellcheck disable=SC2086
     gcc -std=c11 program.c $flags -o program
     same 'README, shared' "$program_says" "$(LD_LIBRARY_PATH=prefix/lib ./program)"
-    has 'what it looks for' '[libmahyrei.so.2]' "$(readelf -d program)"
+    has 'what it looks for' '[libmahyrei.so.3]' "$(readelf -d program)"
     # shellcheck disable=SC2086
     gcc -std=c11 -static program.c $flags -o program
     same 'README, static' "$program_says" "$(./program)"

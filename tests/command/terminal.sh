@@ -21,7 +21,7 @@ once_progress() {
     has 'the beginning of it' 'mahyrei: reading the input, 0.5 s' "$(out)"
     alike 'slots beside a progress line' slots out
     script -qec "$mahyrei --log log sheet $header" /dev/null </dev/null >"$said/out"
-    same 'no progress where little is to be done' $'1/2 16 5 189 500 5 3 2 11355 227100\r' "$(out)"
+    same 'no progress where little is to be done' $'1/2 16 5 189 500 5 3 2 11355 227100 1\r' "$(out)"
 }
 
 # Bytes are not for a terminal unless somebody insists.

@@ -24,6 +24,7 @@ test_usage() {
     unharmed 2 'operand too many' read "$header" "$marker" slots out out
     unharmed 2 'number of operands' sheet
     unharmed 2 'operand too many' sheet "$header" "$header"
+    unharmed 2 'no such option' write --copies 2 "$header" "$marker" frames out
     unharmed 2 'no such option' --loud write "$header" "$marker" frames out
     unharmed 2 'no such option' -qx write "$header" "$marker" frames out
     unharmed 2 'no such option' -qo write "$header" "$marker" frames out

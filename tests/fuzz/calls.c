@@ -44,11 +44,13 @@ enum {
 };
 
 /* Bits of the header's fields, in order; the last are the zeros at its end. */
-static const size_t WIDTHS[8] = {2, 4, 8, 9, 12, 6, 7, 16};
+enum { FIELDS = 9 };
+static const size_t WIDTHS[FIELDS] = {2, 4, 8, 9, 12, 6, 7, 6, 26};
 
 static const char *const CALL_NAMES[CALLS] = {
-    "word_write",  "word_read", "pass_write", "pass_read", "bit_spread", "uplink_write",
-    "uplink_read", "run_write", "run_read",   "run_find",  "run_cut"};
+    "word_write",   "word_read",   "pass_write",   "pass_read",     "bit_spread",
+    "uplink_write", "uplink_read", "header_widen", "header_narrow", "run_write",
+    "run_read",     "run_find",    "run_cut"};
 
 /* The numbers that a call can answer, a bit each. */
 static const uint32_t CAN_ANSWER[CALLS] = {
@@ -59,10 +61,12 @@ static const uint32_t CAN_ANSWER[CALLS] = {
     [BIT_SPREAD] = 1U << 0 | 1U << 2 | 1U << 8 | 1U << 27,
     [UPLINK_WRITE] = 1U << 0 | 1U << 8,
     [UPLINK_READ] = 1U << 0 | 1U << 8 | 1U << 28 | 1U << 29,
+    [HEADER_WIDEN] = 0x1FF,
+    [HEADER_NARROW] = 0x1FF | 1U << 20 | 1U << 21,
     [RUN_WRITE] = 0x1FF | 1U << 20,
     [RUN_READ] = 0x1FFFF | 1U << 18 | 1U << 20,
-    [RUN_FIND] = 0x1FF | 1U << 19,
-    [RUN_CUT] = 0x1FF,
+    [RUN_FIND] = 0x1FF | 1U << 19 | 1U << 20,
+    [RUN_CUT] = 0x1FF | 1U << 20,
 };
 
 struct counts *counts;
@@ -158,10 +162,9 @@ struct lent {
 enum { HEADER, MARKER, FROM, TO, SLICES };
 
 static struct lent lent[SLICES];
-static uint64_t lent_copies; /* of a run */
-static uint64_t block_bit;   /* that bit_spread is asked about */
-static uint64_t from_slot;   /* that run_cut is told */
-static uint8_t placement;    /* a bit for each slice, and one for NULL in place of an empty slice */
+static uint64_t block_bit; /* that bit_spread is asked about */
+static uint64_t from_slot; /* that run_cut is told */
+static uint8_t placement;  /* a bit for each slice, and one for NULL in place of an empty slice */
 
 static void map_area(struct lent *slice) {
     uint8_t *pages =
@@ -228,18 +231,17 @@ static bool is_run(enum call call) {
     return call >= RUN_WRITE;
 }
 
-/* The header as it is lent; only for one of eight bytes. */
+/* The header as it is lent; only for one of ten bytes. */
 static struct run lent_run(void) {
-    uint64_t fields[7], packed = 0;
-    for (size_t i = 0; i < MAHYREI_HEADER_BYTES; i++) {
-        packed = packed << 8 | lent[HEADER].slice[i];
-    }
-    for (size_t i = 0; i < 7; i++) {
-        fields[i] = packed >> (64 - WIDTHS[i]);
-        packed <<= WIDTHS[i];
+    uint64_t fields[FIELDS] = {0};
+    size_t at = 0;
+    for (size_t i = 0; i < FIELDS; i++) {
+        for (size_t end = at + WIDTHS[i]; at < end; at++) {
+            fields[i] = fields[i] << 1 | get_bit(lent[HEADER].slice, at);
+        }
     }
     return (struct run){fields[0], fields[1], fields[2], fields[3],
-                        fields[4], fields[5], fields[6], lent_copies};
+                        fields[4], fields[5], fields[6], fields[7]};
 }
 
 static uint64_t put_library(enum call call, uint64_t rate) {
@@ -260,12 +262,16 @@ static uint64_t put_library(enum call call, uint64_t rate) {
         return uplink_write(from->slice, from->len, to->slice, to->len);
     case UPLINK_READ:
         return uplink_read(from->slice, from->len, to->slice, to->len);
+    case HEADER_WIDEN:
+        return header_widen(from->slice, from->len, to->slice, to->len);
+    case HEADER_NARROW:
+        return header_narrow(from->slice, from->len, to->slice, to->len);
     case RUN_WRITE:
-        return run_write(lent_copies, h->slice, h->len, m->slice, m->len, from->slice, from->len,
-                         to->slice, to->len);
+        return run_write(h->slice, h->len, m->slice, m->len, from->slice, from->len, to->slice,
+                         to->len);
     case RUN_READ:
-        return run_read(lent_copies, h->slice, h->len, m->slice, m->len, from->slice, from->len,
-                        to->slice, to->len);
+        return run_read(h->slice, h->len, m->slice, m->len, from->slice, from->len, to->slice,
+                        to->len);
     case RUN_FIND:
         return run_find(h->slice, h->len, m->slice, m->len, from->slice, from->len);
     default:
@@ -291,12 +297,16 @@ static uint64_t put_plain(enum call call, uint64_t rate, uint8_t *to, size_t to_
         return plain_uplink_write(from->slice, from->len, to, to_len);
     case UPLINK_READ:
         return plain_uplink_read(from->slice, from->len, to, to_len);
+    case HEADER_WIDEN:
+        return plain_header_widen(from->slice, from->len, to, to_len);
+    case HEADER_NARROW:
+        return plain_header_narrow(from->slice, from->len, to, to_len);
     case RUN_WRITE:
-        return plain_run_write(lent_copies, h->slice, h->len, m->slice, m->len, from->slice,
-                               from->len, to, to_len);
+        return plain_run_write(h->slice, h->len, m->slice, m->len, from->slice, from->len, to,
+                               to_len);
     case RUN_READ:
-        return plain_run_read(lent_copies, h->slice, h->len, m->slice, m->len, from->slice,
-                              from->len, to, to_len);
+        return plain_run_read(h->slice, h->len, m->slice, m->len, from->slice, from->len, to,
+                              to_len);
     case RUN_FIND:
         return plain_run_find(h->slice, h->len, m->slice, m->len, from->slice, from->len);
     default:
@@ -336,7 +346,9 @@ static void judge_answer(enum call call, uint64_t rate, uint64_t answer) {
     require(number < NUMBERS && CAN_ANSWER[call] >> number & 1, call, "a number it cannot give");
     require(answer_place(answer) < place_limit(call, number), call, "a place that there is not");
     counts->call[call].answers[number]++;
-    const uint64_t kind = !is_run(call) ? rate : lent[HEADER].len != 8 ? 0 : lent_run().m;
+    const uint64_t kind = !is_run(call)                              ? rate
+                          : lent[HEADER].len != MAHYREI_HEADER_BYTES ? 0
+                                                                     : lent_run().m;
     seen[call][number][kind < 16 ? kind : 15] = 1;
 }
 
@@ -387,9 +399,10 @@ static void put_written(enum call call, uint64_t rate, size_t to_len) {
 static void put_and_back(enum call call, uint64_t rate) {
     static uint8_t came[AREA], went[AREA];
     static const enum call BACK[CALLS] = {
-        [WORD_WRITE] = WORD_READ, [WORD_READ] = WORD_WRITE,     [PASS_WRITE] = PASS_READ,
-        [PASS_READ] = PASS_WRITE, [UPLINK_WRITE] = UPLINK_READ, [UPLINK_READ] = UPLINK_WRITE,
-        [RUN_WRITE] = RUN_READ,   [RUN_READ] = RUN_WRITE};
+        [WORD_WRITE] = WORD_READ,      [WORD_READ] = WORD_WRITE,     [PASS_WRITE] = PASS_READ,
+        [PASS_READ] = PASS_WRITE,      [UPLINK_WRITE] = UPLINK_READ, [UPLINK_READ] = UPLINK_WRITE,
+        [RUN_WRITE] = RUN_READ,        [RUN_READ] = RUN_WRITE,       [HEADER_WIDEN] = HEADER_NARROW,
+        [HEADER_NARROW] = HEADER_WIDEN};
     const enum call back = BACK[call];
     if (put(call, rate) != MAHYREI_ACCEPTED) {
         return;
@@ -404,7 +417,7 @@ static void put_and_back(enum call call, uint64_t rate) {
         }
     }
     put_written(back, rate, from_len);
-    if (call == RUN_READ && lent_copies > 1) { /* a copy may have been damaged */
+    if (call == RUN_READ && lent_run().copies > 1) { /* a copy may have been damaged */
         put_written(call, rate, to_len);
         require(memcmp(lent[TO].slice, went, to_len) == 0, call, "did not lead back");
         return;
@@ -801,20 +814,44 @@ static void lend_header(struct input *in, const struct run *run) {
     size_t len = MAHYREI_HEADER_BYTES;
     pack_header(run, header);
     const size_t choice = take_below(in, 1, 32);
-    lent_copies = run->copies;
-    if (choice < 8) {
-        set_field(header, choice, choice == 0 ? 3 : take(in, 2)); /* any other rate there is */
-    } else if (choice == 8) {
+    if (choice < FIELDS) {
+        set_field(header, choice, choice == 0 ? 3 : take(in, 4)); /* any other rate there is */
+    } else if (choice == FIELDS) {
         for (size_t i = 0; i < len; i++) {
             header[i] = (uint8_t)take(in, 1);
         }
-    } else if (choice == 9) {
+    } else if (choice == FIELDS + 1) {
         len = take_below(in, 1, sizeof header);
-    } else if (choice == 10) {
-        lent_copies = take(in, 8);
     }
     lend(HEADER, len, header, len);
 }
+
+/* ---- forms of headers */
+
+/* The header of a run in one of its forms, mostly as it is, else changed in one way. */
+static void put_header(struct input *in, enum call call) {
+    const size_t eight = MAHYREI_OLD_HEADER_BYTES, ten = MAHYREI_HEADER_BYTES;
+    const size_t bytes = call == HEADER_WIDEN ? eight : ten;
+    uint8_t header[2 * MAHYREI_HEADER_BYTES] = {0};
+    const struct run run = make_run(in);
+    if (call == HEADER_WIDEN) {
+        pack_old_header(&run, header);
+    } else {
+        pack_header(&run, header);
+    }
+    const size_t choice = take_below(in, 1, 32);
+    if (choice < FIELDS - 1) { /* behind A, the old form has zeros alone */
+        set_field(header, choice, choice == 0 ? 3 : take(in, 4));
+    } else if (choice == FIELDS) {
+        flip(header, take_below(in, 1, 8 * bytes));
+    }
+    const size_t len = choose_len(in, bytes) % sizeof header;
+    lend(FROM, len, header, sizeof header);
+    lend_to(choose_len(in, eight + ten - bytes));
+    put_and_back(call, run.m);
+}
+
+/* ---- markers and slots */
 
 static void make_marker(struct input *in, const struct run *run, uint8_t marker[MARKER_ROOM]) {
     const size_t choice = take_below(in, 1, 8);
@@ -835,8 +872,7 @@ static void make_slots(struct input *in, const struct run *run, const uint8_t *m
     fill(in, frames, frame_bytes(run));
     pack_header(run, header);
     memset(given, 0, slot_bytes(run)); /* an input says all that it does */
-    if (run_write(run->copies, header, sizeof header, marker, run->W, frames, frame_bytes(run),
-                  given,
+    if (run_write(header, sizeof header, marker, run->W, frames, frame_bytes(run), given,
                   slot_bytes(run)) == MAHYREI_ACCEPTED) { /* not where a marker symbol is M */
         damage_run(in, run, given);
     }
@@ -903,8 +939,7 @@ static size_t make_capture(struct input *in, const struct run *run, const uint8_
 
 static void put_find(struct input *in) {
     uint8_t marker[MARKER_ROOM];
-    struct run run = make_run(in);
-    run.copies = 1;
+    const struct run run = make_run(in);
     lend_header(in, &run);
     make_marker(in, &run, marker);
     lend(MARKER, choose_len(in, run.W) % MARKER_ROOM, marker, MARKER_ROOM);
@@ -918,15 +953,14 @@ static void put_find(struct input *in) {
 static void put_cut(struct input *in) {
     static uint8_t frames[MAHYREI_FRAMES_BYTES_MAX], written[AREA];
     uint8_t marker[MARKER_ROOM], header[MAHYREI_HEADER_BYTES];
-    struct run run = make_run(in);
-    run.copies = 1;
+    const struct run run = make_run(in);
     const size_t bytes = slot_bytes(&run), count = slot_count(&run);
     lend_header(in, &run);
     make_marker(in, &run, marker);
     fill(in, frames, frame_bytes(&run));
     pack_header(&run, header);
-    const bool sound = run_write(run.copies, header, sizeof header, marker, run.W, frames,
-                                 frame_bytes(&run), written, bytes) == MAHYREI_ACCEPTED;
+    const bool sound = run_write(header, sizeof header, marker, run.W, frames, frame_bytes(&run),
+                                 written, bytes) == MAHYREI_ACCEPTED;
     const size_t at = take_below(in, 1, 256), len = (at + count + 7) / 8 + take_below(in, 1, 32);
     fill(in, given, len);
     for (size_t x = 0; sound && x < count; x++) {
@@ -941,7 +975,6 @@ static void put_cut(struct input *in) {
     lend_to(choose_len(in, bytes));
     const bool same =
         lent[HEADER].len == sizeof header && memcmp(lent[HEADER].slice, header, sizeof header) == 0;
-    lent_copies = run.copies;
     if (put(RUN_CUT, 0) != MAHYREI_ACCEPTED || !sound || !same || from_slot != at) {
         return;
     }
@@ -949,7 +982,8 @@ static void put_cut(struct input *in) {
     lend(MARKER, run.W, marker, run.W);
     lend_to(0);
     const uint64_t found = put(RUN_FIND, 0);
-    require(answer_number(found) == 0 && answer_place(found) <= at, RUN_FIND, "missed a run");
+    require(run.copies > 1 || (answer_number(found) == 0 && answer_place(found) <= at), RUN_FIND,
+            "missed a run");
     lend(FROM, bytes, written, bytes);
     lend_to(frame_bytes(&run));
     require(put(RUN_READ, 0) == MAHYREI_ACCEPTED, RUN_READ, "refused what was cut out");
@@ -1005,6 +1039,8 @@ int LLVMFuzzerTestOneInput(const uint8_t *data, size_t size) {
         put_spread(&in);
     } else if (call == UPLINK_WRITE || call == UPLINK_READ) {
         put_uplink(&in, call);
+    } else if (call == HEADER_WIDEN || call == HEADER_NARROW) {
+        put_header(&in, call);
     } else {
         put_word(&in, call);
     }

@@ -16,6 +16,8 @@ enum call {
     BIT_SPREAD,
     UPLINK_WRITE,
     UPLINK_READ,
+    HEADER_WIDEN,
+    HEADER_NARROW,
     RUN_WRITE,
     RUN_READ,
     RUN_FIND,

@@ -16,7 +16,7 @@
 
 enum {
     /* of call and number, as calls.c has them */
-    PAIRS = 3 + 6 + 3 + 6 + 4 + 2 + 4 + 10 + 19 + 10 + 9,
+    PAIRS = 3 + 6 + 3 + 6 + 4 + 2 + 4 + 9 + 11 + 10 + 19 + 11 + 10,
     LEAST_INPUTS = 1500,
     MOST_INPUTS = 20000,
     RANDOM_LEN = 96,
@@ -100,7 +100,7 @@ static void put_sound_run(uint8_t rate, uint8_t m) {
     uint8_t header[MAHYREI_HEADER_BYTES];
     pack_header(&run, header);
     memcpy(input, before, sizeof before);
-    run_write(run.copies, header, sizeof header, marker, sizeof marker, frames, sizeof frames,
+    run_write(header, sizeof header, marker, sizeof marker, frames, sizeof frames,
               input + sizeof before, slot_bytes(&run));
     put_sound(RUN_READ, input, sizeof before + slot_bytes(&run));
 }

@@ -99,12 +99,14 @@ pub enum Call {
     RunRead,
     RunFind,
     RunCut,
+    HeaderWiden,
+    HeaderNarrow,
     UplinkWrite,
     UplinkRead,
 }
 
 impl Call {
-    pub const ALL: [Call; 11] = [
+    pub const ALL: [Call; 13] = [
         Call::WordWrite,
         Call::WordRead,
         Call::PassWrite,
@@ -114,6 +116,8 @@ impl Call {
         Call::RunRead,
         Call::RunFind,
         Call::RunCut,
+        Call::HeaderWiden,
+        Call::HeaderNarrow,
         Call::UplinkWrite,
         Call::UplinkRead,
     ];
@@ -129,6 +133,8 @@ impl Call {
             Call::RunRead => "run_read",
             Call::RunFind => "run_find",
             Call::RunCut => "run_cut",
+            Call::HeaderWiden => "header_widen",
+            Call::HeaderNarrow => "header_narrow",
             Call::UplinkWrite => "uplink_write",
             Call::UplinkRead => "uplink_read",
         }
@@ -144,8 +150,10 @@ impl Call {
             Call::RunRead => &[
                 0, 1, 2, 3, 4, 5, 6, 7, 8, 9, 10, 11, 12, 13, 14, 15, 16, 18, 20,
             ],
-            Call::RunFind => &[0, 1, 2, 3, 4, 5, 6, 7, 8, 19],
-            Call::RunCut => &[0, 1, 2, 3, 4, 5, 6, 7, 8],
+            Call::RunFind => &[0, 1, 2, 3, 4, 5, 6, 7, 8, 19, 20],
+            Call::RunCut => &[0, 1, 2, 3, 4, 5, 6, 7, 8, 20],
+            Call::HeaderWiden => &[0, 1, 2, 3, 4, 5, 6, 7, 8],
+            Call::HeaderNarrow => &[0, 1, 2, 3, 4, 5, 6, 7, 8, 20, 21],
             Call::UplinkWrite => &[0, 8],
             Call::UplinkRead => &[0, 8, 28, 29],
         }
@@ -190,7 +198,7 @@ impl Way {
 }
 
 /// What each number says. No call answers any other.
-const NUMBERS: [(u8, &str); 23] = [
+const NUMBERS: [(u8, &str); 24] = [
     (0, "accepted"),
     (1, "header"),
     (2, "rate"),
@@ -211,6 +219,7 @@ const NUMBERS: [(u8, &str); 23] = [
     (18, "fill bits"),
     (19, "whole marker"),
     (20, "factor"),
+    (21, "no old form"),
     (27, "block bit"),
     (28, "groups"),
     (29, "parity"),
@@ -343,8 +352,8 @@ impl Tally {
     /// One table of these calls: what was put to each and what it answered.
     pub fn table(&self, calls: &[Call]) {
         print!("  {:<29}", "");
-        calls.iter().for_each(|call| print!(" {:>12}", call.name()));
-        println!(" {:>12}", "all");
+        calls.iter().for_each(|call| print!(" {:>13}", call.name()));
+        println!(" {:>13}", "all");
         let any = |_| true;
         self.row(calls, "cases", |of| of.cases, any);
         for (number, name) in NUMBERS {
@@ -370,12 +379,12 @@ impl Tally {
         print!("  {name:<29}");
         for &call in calls {
             match count(call) {
-                0 if !can(call) => print!(" {:>12}", "-"),
-                count => print!(" {count:>12}"),
+                0 if !can(call) => print!(" {:>13}", "-"),
+                count => print!(" {count:>13}"),
             }
         }
         let all: u64 = calls.iter().map(|&call| count(call)).sum();
-        println!(" {all:>12}");
+        println!(" {all:>13}");
     }
 
     /// Prints the table. Fails where something differs, or where a number that one of these calls

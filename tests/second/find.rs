@@ -1,7 +1,7 @@
 //! Finding the start of a capture, and cutting the run out of it, a second time: one loop over the
 //! starting slots, one over the marker's slots.
 
-use crate::run::{accept, slots_of_symbols, Run};
+use crate::run::{accept, accept_header, Run};
 use crate::word::{self, refuse, Refusal};
 
 /// The most bytes of a capture.
@@ -17,17 +17,19 @@ pub fn marker_len(run: &Run) -> usize {
     run.marker_len() * run.group()
 }
 
-/// Step 10 for the marker alone.
+/// Step 10 for the marker alone, each symbol once.
 pub fn marker_slots(run: &Run, marker: &[u8]) -> Vec<bool> {
-    let mut slots = word::unpack(&slots_of_symbols(run, marker));
-    slots.truncate(marker_len(run));
+    let mut slots = vec![false; marker_len(run)];
+    for (i, &symbol) in marker.iter().enumerate() {
+        slots[i * run.group() + usize::from(symbol)] = true;
+    }
     slots
 }
 
 /// Question 19: the earliest slot at which the whole marker stands, or the first question whose
 /// answer is no.
 pub fn find(header: &[u8], marker: &[u8], capture: &[u8]) -> Result<usize, Refusal> {
-    let run = accept(1, header, marker)?;
+    let run = accept(header, marker)?;
     if marker.len() != run.marker_len() || capture.len() as u64 > CAPTURE_MOST {
         return refuse(8, 0);
     }
@@ -43,7 +45,7 @@ pub fn find(header: &[u8], marker: &[u8], capture: &[u8]) -> Result<usize, Refus
 /// The slots of the run that begins at this slot of the capture, packed anew, or the first question
 /// whose answer is no.
 pub fn cut(header: &[u8], capture: &[u8], from: u64, slots_len: usize) -> Result<Vec<u8>, Refusal> {
-    let run = Run::of(1, header)?;
+    let run = accept_header(header)?;
     let end = u128::from(from) + run.slots() as u128;
     let lengths_right = capture.len() as u64 <= CAPTURE_MOST && slots_len == run.slots_len();
     if !lengths_right || end > 8 * capture.len() as u128 {
@@ -113,10 +115,10 @@ mod tests {
     #[test]
     fn run_at_any_slot() {
         let header = ONE_WORD.pack();
-        let run = Run::of(1, &header).unwrap();
+        let run = Run::of(&header).unwrap();
         assert_eq!((run.slots(), run.slots_len()), (75_620, 9_453));
         let frames: Vec<u8> = (0..223).map(|i| (i * i / 3) as u8).collect();
-        let slots = run::write(1, &header, &[5], &frames, run.slots_len()).unwrap();
+        let slots = run::write(&header, &[5], &frames, run.slots_len()).unwrap();
         for at in [0, 1, 7, 8, 13] {
             for around in [false, true] {
                 let mut bits = vec![around; at];
@@ -127,7 +129,7 @@ mod tests {
                 let again = cut(&header, &capture, at as u64, run.slots_len());
                 assert_eq!(again.as_ref(), Ok(&slots));
                 assert_eq!(
-                    run::read(1, &header, &[5], &slots, frames.len()).as_ref(),
+                    run::read(&header, &[5], &slots, frames.len()).as_ref(),
                     Ok(&frames)
                 );
                 let last = (8 * capture.len() - run.slots()) as u64;

@@ -1,6 +1,7 @@
 //! The second implementation, and what the programs that compare the library with it share.
 
 pub mod compare;
+pub mod convert;
 pub mod find;
 #[cfg(not(test))] // the tests of the second implementation are linked with no library
 pub mod library;

@@ -32,7 +32,6 @@ mod c {
         ) -> u64;
         pub fn bit_spread(rate: u64, bit: u64, places: *mut u8, places_len: usize) -> u64;
         pub fn run_write(
-            copies: u64,
             header: *const u8,
             header_len: usize,
             marker: *const u8,
@@ -43,7 +42,6 @@ mod c {
             slots_len: usize,
         ) -> u64;
         pub fn run_read(
-            copies: u64,
             header: *const u8,
             header_len: usize,
             marker: *const u8,
@@ -69,6 +67,18 @@ mod c {
             slot: u64,
             slots: *mut u8,
             slots_len: usize,
+        ) -> u64;
+        pub fn header_widen(
+            eight: *const u8,
+            eight_len: usize,
+            ten: *mut u8,
+            ten_len: usize,
+        ) -> u64;
+        pub fn header_narrow(
+            ten: *const u8,
+            ten_len: usize,
+            eight: *mut u8,
+            eight_len: usize,
         ) -> u64;
         pub fn uplink_write(
             frames: *const u8,
@@ -112,16 +122,9 @@ pub fn bit_spread(rate: u64, bit: u64, places: &mut [u8]) -> u64 {
     unsafe { c::bit_spread(rate, bit, places.as_mut_ptr(), places.len()) }
 }
 
-pub fn run_write(
-    copies: u64,
-    header: &[u8],
-    marker: &[u8],
-    frames: &[u8],
-    slots: &mut [u8],
-) -> u64 {
+pub fn run_write(header: &[u8], marker: &[u8], frames: &[u8], slots: &mut [u8]) -> u64 {
     unsafe {
         c::run_write(
-            copies,
             header.as_ptr(),
             header.len(),
             marker.as_ptr(),
@@ -134,10 +137,9 @@ pub fn run_write(
     }
 }
 
-pub fn run_read(copies: u64, header: &[u8], marker: &[u8], slots: &[u8], frames: &mut [u8]) -> u64 {
+pub fn run_read(header: &[u8], marker: &[u8], slots: &[u8], frames: &mut [u8]) -> u64 {
     unsafe {
         c::run_read(
-            copies,
             header.as_ptr(),
             header.len(),
             marker.as_ptr(),
@@ -175,6 +177,14 @@ pub fn run_cut(header: &[u8], capture: &[u8], slot: u64, slots: &mut [u8]) -> u6
             slots.len(),
         )
     }
+}
+
+pub fn header_widen(eight: &[u8], ten: &mut [u8]) -> u64 {
+    unsafe { c::header_widen(eight.as_ptr(), eight.len(), ten.as_mut_ptr(), ten.len()) }
+}
+
+pub fn header_narrow(ten: &[u8], eight: &mut [u8]) -> u64 {
+    unsafe { c::header_narrow(ten.as_ptr(), ten.len(), eight.as_mut_ptr(), eight.len()) }
 }
 
 pub fn uplink_write(frames: &[u8], slots: &mut [u8]) -> u64 {

@@ -7,7 +7,9 @@
 
 use crate::word::{self, refuse, Rate, Refusal, WORD_BITS};
 
-pub const HEADER_BYTES: usize = 8;
+pub const HEADER_BYTES: usize = 10;
+/// Of a header without a factor.
+pub const OLD_HEADER_BYTES: usize = 8;
 pub const FRAME_MARKER: u32 = 0x1ACF_FC1D;
 pub const FRAME_MARKER_BITS: usize = 32;
 /// The most marker symbols.
@@ -31,18 +33,45 @@ pub struct Header {
     pub marker: u64,
     /// A.
     pub frames: u64,
-    /// How often each symbol is sent; lent beside the header.
+    /// How often each symbol is sent.
     pub copies: u64,
-    /// The last 16 bits, which are zero.
+    /// The last bits, which are zero.
     pub spare: u64,
 }
 
-/// Bits of the fields, in order.
-pub const FIELD_BITS: [u32; 8] = [2, 4, 8, 9, 12, 6, 7, 16];
+/// Bits of the fields, in order: rate, m, N, B, F, W, A, factor, zeros.
+pub const FIELD_BITS: [u32; 9] = [2, 4, 8, 9, 12, 6, 7, 6, 26];
+/// The same in a header without a factor.
+pub const OLD_FIELD_BITS: [u32; 8] = [2, 4, 8, 9, 12, 6, 7, 16];
+
+/// Fields one after another, first bit highest, as a number.
+fn join(fields: &[u64], widths: &[u32]) -> u128 {
+    let both = fields.iter().zip(widths);
+    both.fold(0, |joined, (&field, &width)| {
+        joined << width | u128::from(field)
+    })
+}
+
+/// The fields of so many bits that a number is joined of.
+fn split<const COUNT: usize>(joined: u128, widths: [u32; COUNT]) -> [u64; COUNT] {
+    let mut left = widths.iter().sum::<u32>();
+    widths.map(|width| {
+        left -= width;
+        (joined >> left & ((1 << width) - 1)) as u64
+    })
+}
+
+/// The bytes as a number, first byte highest.
+fn big_endian(bytes: &[u8]) -> u128 {
+    bytes
+        .iter()
+        .fold(0, |high, &byte| high << 8 | u128::from(byte))
+}
 
 impl Header {
-    pub fn pack(&self) -> [u8; HEADER_BYTES] {
-        let fields = [
+    /// The fields up to A.
+    fn seven(&self) -> [u64; 7] {
+        [
             self.rate,
             self.bits,
             self.rows,
@@ -50,21 +79,10 @@ impl Header {
             self.frame_bytes,
             self.marker,
             self.frames,
-            self.spare,
-        ];
-        let join = |joined: u64, (field, width): (u64, u32)| joined << width | field;
-        let joined = fields.into_iter().zip(FIELD_BITS).fold(0, join);
-        joined.to_be_bytes()
+        ]
     }
 
-    pub fn unpack(bytes: &[u8; HEADER_BYTES]) -> Header {
-        let mut left = u64::from_be_bytes(*bytes);
-        let fields = FIELD_BITS.map(|width| {
-            let field = left >> (64 - width);
-            left <<= width;
-            field
-        });
-        let [rate, bits, rows, step, frame_bytes, marker, frames, spare] = fields;
+    fn of_seven([rate, bits, rows, step, frame_bytes, marker, frames]: [u64; 7]) -> Header {
         Header {
             rate,
             bits,
@@ -74,18 +92,69 @@ impl Header {
             marker,
             frames,
             copies: 1,
-            spare,
+            spare: 0,
         }
     }
 
-    /// Questions 1 to 6, and W's range of 7.
+    pub fn pack(&self) -> [u8; HEADER_BYTES] {
+        let fields = [&self.seven()[..], &[self.copies, self.spare]].concat();
+        let bytes = join(&fields, &FIELD_BITS).to_be_bytes();
+        std::array::from_fn(|i| bytes[16 - HEADER_BYTES + i])
+    }
+
+    pub fn unpack(bytes: &[u8; HEADER_BYTES]) -> Header {
+        let [rate, bits, rows, step, frame_bytes, marker, frames, copies, spare] =
+            split(big_endian(bytes), FIELD_BITS);
+        Header {
+            copies,
+            spare,
+            ..Header::of_seven([rate, bits, rows, step, frame_bytes, marker, frames])
+        }
+    }
+
+    /// The eight bytes that have no factor.
+    pub fn pack_old(&self) -> [u8; OLD_HEADER_BYTES] {
+        let fields = [&self.seven()[..], &[self.spare]].concat();
+        let bytes = join(&fields, &OLD_FIELD_BITS).to_be_bytes();
+        std::array::from_fn(|i| bytes[16 - OLD_HEADER_BYTES + i])
+    }
+
+    /// Each symbol is sent once.
+    pub fn unpack_old(bytes: &[u8; OLD_HEADER_BYTES]) -> Header {
+        let [rate, bits, rows, step, frame_bytes, marker, frames, spare] =
+            split(big_endian(bytes), OLD_FIELD_BITS);
+        Header {
+            spare,
+            ..Header::of_seven([rate, bits, rows, step, frame_bytes, marker, frames])
+        }
+    }
+
+    /// Question 1.
+    pub fn of(bytes: &[u8]) -> Result<Header, Refusal> {
+        whole(bytes.try_into().ok().map(Header::unpack))
+    }
+
+    /// The old question 1.
+    pub fn of_old(bytes: &[u8]) -> Result<Header, Refusal> {
+        whole(bytes.try_into().ok().map(Header::unpack_old))
+    }
+
+    /// Questions 2 to 6, and W's range of 7.
     pub fn run(&self) -> Result<Run, Refusal> {
-        Run::of(self.copies, &self.pack())
+        Run::of_fields(self)
     }
 }
 
-/// What a header that passes questions 1 to 6, and W's range of 7, decides, and the factor, which may
-/// be one that there is not.
+/// A header of the right length, whose last bits are zero.
+fn whole(header: Option<Header>) -> Result<Header, Refusal> {
+    match header {
+        Some(header) if header.spare == 0 => Ok(header),
+        _ => refuse(1, 0),
+    }
+}
+
+/// What a header that passes questions 1 to 6, and W's range of 7, decides. The factor may be one
+/// that there is not.
 pub struct Run {
     rate_number: u64,
     rate: &'static Rate,
@@ -100,14 +169,12 @@ pub struct Run {
 
 impl Run {
     /// Questions 1 to 6, and W's range of 7.
-    pub fn of(copies: u64, header: &[u8]) -> Result<Run, Refusal> {
-        let Ok(header) = header.try_into() else {
-            return refuse(1, 0);
-        };
-        let header = Header::unpack(header);
-        if header.spare != 0 {
-            return refuse(1, 0);
-        }
+    pub fn of(header: &[u8]) -> Result<Run, Refusal> {
+        Header::of(header)?.run()
+    }
+
+    /// Questions 2 to 6, and W's range of 7.
+    fn of_fields(header: &Header) -> Result<Run, Refusal> {
         let Some(rate) = Rate::of(header.rate) else {
             return refuse(2, 0);
         };
@@ -126,7 +193,7 @@ impl Run {
             frame_bytes: header.frame_bytes as usize,
             marker: header.marker as usize,
             frames: header.frames as usize,
-            copies,
+            copies: header.copies,
         };
         if run.unhit() % run.word_symbols() != 0 {
             return refuse(5, 0);
@@ -239,28 +306,37 @@ impl Run {
     }
 }
 
-/// Questions 1 to 7, and 20.
-pub fn accept(copies: u64, header: &[u8], marker: &[u8]) -> Result<Run, Refusal> {
-    let run = Run::of(copies, header)?;
-    let too_high = |&symbol: &u8| usize::from(symbol) >= run.order();
-    if marker.iter().take(run.marker).any(too_high) {
-        return refuse(7, 0);
-    }
+/// Question 20.
+fn accept_factor(run: Run) -> Result<Run, Refusal> {
     if !run.is_factor() {
         return refuse(20, 0);
     }
     Ok(run)
 }
 
+/// The questions that a header alone can be asked: 1 to 6, W's range of 7, and 20.
+pub fn accept_header(header: &[u8]) -> Result<Run, Refusal> {
+    accept_factor(Run::of(header)?)
+}
+
+/// Questions 1 to 7, and 20.
+pub fn accept(header: &[u8], marker: &[u8]) -> Result<Run, Refusal> {
+    let run = Run::of(header)?;
+    let too_high = |&symbol: &u8| usize::from(symbol) >= run.order();
+    if marker.iter().take(run.marker).any(too_high) {
+        return refuse(7, 0);
+    }
+    accept_factor(run)
+}
+
 /// Questions 1 to 7, 20 and 8.
 fn accept_slices(
-    copies: u64,
     header: &[u8],
     marker: &[u8],
     frames_len: usize,
     slots_len: usize,
 ) -> Result<Run, Refusal> {
-    let run = accept(copies, header, marker)?;
+    let run = accept(header, marker)?;
     let lent = [marker.len(), frames_len, slots_len];
     if lent != [run.marker, run.frames_len(), run.slots_len()] {
         return refuse(8, 0);
@@ -461,13 +537,12 @@ fn frames_of_stream(run: &Run, stream: &[bool]) -> Result<Vec<u8>, Refusal> {
 
 /// The run writer: the slots, or the first question whose answer is no.
 pub fn write(
-    copies: u64,
     header: &[u8],
     marker: &[u8],
     frames: &[u8],
     slots_len: usize,
 ) -> Result<Vec<u8>, Refusal> {
-    let run = accept_slices(copies, header, marker, frames.len(), slots_len)?;
+    let run = accept_slices(header, marker, frames.len(), slots_len)?;
     let words = words(&run, &stream(&run, frames));
     let symbols = mark(&run, &places(&run, &words), marker);
     Ok(slots_of_symbols(&run, &symbols))
@@ -475,13 +550,12 @@ pub fn write(
 
 /// The run reader: the frames, or the first question whose answer is no.
 pub fn read(
-    copies: u64,
     header: &[u8],
     marker: &[u8],
     slots: &[u8],
     frames_len: usize,
 ) -> Result<Vec<u8>, Refusal> {
-    let run = accept_slices(copies, header, marker, frames_len, slots.len())?;
+    let run = accept_slices(header, marker, frames_len, slots.len())?;
     spare_slots_zero(&run, slots)?;
     let symbols = symbols_of_slots(&run, slots)?;
     let places = unmark(&run, &symbols, marker)?;
@@ -520,7 +594,7 @@ mod tests {
         spare: 0,
     };
 
-    const EXAMPLE: [u8; 8] = [0x59, 0x50, 0xF0, 0x1B, 0xE8, 0x02, 0x00, 0x00];
+    const EXAMPLE: [u8; 10] = [0x59, 0x50, 0xF0, 0x1B, 0xE8, 0x02, 0x04, 0x00, 0x00, 0x00];
 
     fn bits(text: &str) -> Vec<bool> {
         let digits = text.chars().filter(|c| !c.is_whitespace());
@@ -537,7 +611,8 @@ mod tests {
 
     /// The number that a header gets before any slice is looked at, 0 where it passes.
     fn number(header: Header) -> u8 {
-        header.run().map_or_else(|refusal| refusal.number, |_| 0)
+        let accepted = accept_header(&header.pack());
+        accepted.map_or_else(|refusal| refusal.number, |_| 0)
     }
 
     // The rows of the bench table on steps 8 and 10.
@@ -603,7 +678,7 @@ mod tests {
 
     #[test]
     fn example_sheet() {
-        let run = Run::of(1, &EXAMPLE).unwrap();
+        let run = Run::of(&EXAMPLE).unwrap();
         assert_eq!(
             (run.rate_number, run.order(), run.rows, run.step),
             (1, 64, 84, 120)
@@ -679,22 +754,38 @@ mod tests {
             }),
             6
         );
-        assert_eq!(accept(1, &SMALL.pack(), &[3, 3, 3]).map(|_| ()), Ok(()));
-        assert_eq!(
-            accept(1, &SMALL.pack(), &[3, 3, 4]).map(|_| ()),
-            refuse(7, 0)
-        );
-        for copies in (0..100).chain([1 << 32 | 1, u64::MAX]) {
-            let accepted = accept(copies, &SMALL.pack(), &[3, 3, 3]).map(|_| ());
-            let wanted = match copies {
-                1 | 2 | 3 | 4 | 8 | 16 | 32 => Ok(()),
-                _ => refuse(20, 0),
-            };
-            assert_eq!(accepted, wanted);
+        assert_eq!(accept(&SMALL.pack(), &[3, 3, 3]).map(|_| ()), Ok(()));
+        assert_eq!(accept(&SMALL.pack(), &[3, 3, 4]).map(|_| ()), refuse(7, 0));
+        for len in [0, 7, 8, 9, 11] {
+            assert_eq!(Run::of(&vec![0; len]).map(|_| ()), refuse(1, 0));
         }
-        assert_eq!(accept(5, &SMALL.pack(), &[4]).map(|_| ()), refuse(7, 0));
-        for len in [0, 7, 9] {
-            assert_eq!(Run::of(1, &vec![0; len]).map(|_| ()), refuse(1, 0));
+    }
+
+    /// Each value of the factor's six bits, after 7 and before 8, and of the two bits behind it.
+    #[test]
+    fn factors() {
+        for byte in 0..=255 {
+            let mut header = SMALL.pack();
+            header[6] = byte;
+            let wanted = match byte {
+                0x04 | 0x08 | 0x0C | 0x10 | 0x20 | 0x40 | 0x80 => refuse(8, 0),
+                _ if byte % 4 == 0 => refuse(20, 0),
+                _ => refuse(1, 0),
+            };
+            assert_eq!(write(&header, &[3, 3, 3], &[], 0), wanted);
+            let wanted = if byte % 4 == 0 { 7 } else { 1 };
+            assert_eq!(write(&header, &[4], &[], 0), refuse(wanted, 0));
+        }
+    }
+
+    /// Each of the last 26 bits.
+    #[test]
+    fn zeros_at_the_end() {
+        for bit in 54..80 {
+            let mut header = EXAMPLE;
+            header[bit / 8] |= 0x80 >> (bit % 8);
+            assert_eq!(Run::of(&header).map(|_| ()), refuse(1, 0));
+            assert_eq!(Header::unpack(&header).spare, 1 << (79 - bit));
         }
     }
 
@@ -702,10 +793,10 @@ mod tests {
     #[test]
     fn marker_before_length() {
         let header = SMALL.pack();
-        assert_eq!(write(1, &header, &[4], &[], 0), refuse(7, 0));
-        assert_eq!(write(1, &header, &[3], &[], 0), refuse(8, 0));
-        assert_eq!(write(1, &header, &[0, 1, 2, 4], &[], 0), refuse(8, 0));
-        assert_eq!(write(1, &header, &[], &[], 0), refuse(8, 0));
+        assert_eq!(write(&header, &[4], &[], 0), refuse(7, 0));
+        assert_eq!(write(&header, &[3], &[], 0), refuse(8, 0));
+        assert_eq!(write(&header, &[0, 1, 2, 4], &[], 0), refuse(8, 0));
+        assert_eq!(write(&header, &[], &[], 0), refuse(8, 0));
     }
 
     /// The only runs with no fill.
@@ -762,15 +853,13 @@ mod tests {
             .into_iter()
             .flat_map(|h| FACTORS.map(|k| (h, k)))
         {
-            let run = run(Header { copies, ..header });
+            let header = Header { copies, ..header };
+            let run = run(header);
             let (header, marker) = (header.pack(), &[3, 0, 1][..run.marker]);
             let frames = sample(run.frames_len());
-            let slots = write(copies, &header, marker, &frames, run.slots_len()).unwrap();
+            let slots = write(&header, marker, &frames, run.slots_len()).unwrap();
             assert_eq!(slots.len(), run.slots_len());
-            assert_eq!(
-                read(copies, &header, marker, &slots, frames.len()),
-                Ok(frames)
-            );
+            assert_eq!(read(&header, marker, &slots, frames.len()), Ok(frames));
         }
     }
 
@@ -823,7 +912,7 @@ mod tests {
         let run = run(TWO_WORDS);
         let frames = sample(run.frames_len());
         assert_eq!((run.blocks(), run.marked_bits()), (2, 4032));
-        let read = |slots: &[u8]| read(1, &header, marker, slots, frames.len());
+        let read = |slots: &[u8]| read(&header, marker, slots, frames.len());
         let read_symbols = |symbols: &[u8]| read(&slots_of_symbols(&run, symbols));
         let read_words =
             |words: &[Vec<u8>]| read_symbols(&mark(&run, &places(&run, words), marker));

@@ -1,4 +1,4 @@
-//! Cases for the run calls.
+//! Cases for the run calls, and for those that change a header's form.
 //!
 //! Every run is written by both from the same frames, then read by both, as it is or damaged.
 //! Beside each run goes a call with arguments that are wrong in one way or several. Each answer's
@@ -7,6 +7,7 @@
 
 mod calls;
 mod captures;
+mod convert;
 mod copies;
 mod damages;
 mod edges;
@@ -16,6 +17,7 @@ mod refusals;
 mod sample;
 
 pub use captures::{compare_capture, example_capture, LEAST_CAPTURES};
+pub use convert::{compare_header, header_edges, LEAST_HEADERS};
 pub use edges::{edges, largest};
 pub use headers::Sizes;
 pub use kinds::Met;
@@ -87,7 +89,7 @@ pub fn compare_any(tally: &mut Tally, rng: &mut Rng, sizes: &Sizes, index: u64) 
 /// Both calls with this header and with slices of any length and content.
 fn compare_slices(tally: &mut Tally, rng: &mut Rng, header: Header, what: &str) {
     let mut packed = header.pack().to_vec();
-    packed.resize(rng.pick(&[8, 8, 8, 8, 8, 8, 8, 0, 7, 9]), 0);
+    packed.resize(rng.pick(&[10, 10, 10, 10, 10, 10, 10, 0, 8, 11]), 0);
     for way in [Way::Write, Way::Read] {
         let len = rng.pick(&[header.marker as usize, header.marker as usize, 0, 40]);
         let marker: Vec<u8> = match rng.below(2) {
@@ -96,7 +98,6 @@ fn compare_slices(tally: &mut Tally, rng: &mut Rng, header: Header, what: &str) 
         };
         let (input_len, output_len) = (rng.below(4096), rng.below(4096));
         let arguments = Arguments {
-            copies: header.copies,
             header: &packed,
             marker: &marker,
             input: &rng.bytes(input_len),

@@ -8,7 +8,9 @@
 
 use second::compare::{argument, optional_argument, verdict, Call, Rng, Tally, MANY_DIFFERENCES};
 use second::pass_cases::compare_pass;
-use second::run_cases::{compare_any, compare_capture, compare_run, edges, Sizes};
+use second::run_cases::{
+    compare_any, compare_capture, compare_header, compare_run, edges, header_edges, Sizes,
+};
 use second::spread_cases::compare_spread;
 use second::uplink_cases::compare_uplink;
 use second::word_cases::compare_word;
@@ -43,15 +45,19 @@ fn fresh_seed() -> Result<u64, String> {
     Ok(u64::from_be_bytes(bytes))
 }
 
-/// Puts one case. Of 32, 13 are words, 2 are captures, one is an uplink, one a block bit, 3 are
-/// passes, 11 are runs, one is a run with any header, of which some are large; the specification's
-/// edges come first.
+/// Puts one case. Of 32, 12 are words, one is a header, 2 are captures, one is an uplink, one a
+/// block bit, 3 are passes, 11 are runs, one is a run with any header, of which some are large; the
+/// specification's edges come first.
 fn put_case(tally: &mut Tally, soak: &Soak, case: u64) {
     let rng = &mut Rng::of_index(soak.seed, case);
     let (round, seat) = (case / 32, case % 32);
     match seat {
-        _ if case == 0 => edges(tally, rng),
-        0..=12 => compare_word(tally, rng, 13 * round + seat),
+        _ if case == 0 => {
+            edges(tally, rng);
+            header_edges(tally, rng);
+        }
+        0..=11 => compare_word(tally, rng, 12 * round + seat),
+        12 => compare_header(tally, rng, &soak.sizes, round),
         13..=14 => compare_capture(tally, rng, &soak.sizes, 2 * round + seat - 13),
         15 => compare_uplink(tally, rng, round),
         16 => compare_spread(tally, rng, round),

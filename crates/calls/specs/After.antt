@@ -7,6 +7,7 @@ use Rattle.word.specs.Word as words
 use Rattle.pass.specs.Pass as passes
 use Rattle.spread.specs.Spread as spreads
 use Rattle.header.specs.Header.{fieldsOf}
+use Rattle.convert.specs.Convert as trips
 use Rattle.run.specs.Run as runs
 use Rattle.cut.specs.Cut as cuts
 use Rattle.uplink.specs.Uplink as uplinks
@@ -26,11 +27,17 @@ blocksAfter rate words old = after (passes.readSays rate words (length old)) (pa
 abbrev pub placesAfter : ℕ → ℕ → List ℕ → List ℕ
 placesAfter rate bit old = after (spreads.spreadSays rate bit (length old)) (spreads.spreadOf rate bit) old
 
-abbrev pub slotsAfter : ℕ → List ℕ → List ℕ → List ℕ → List ℕ → List ℕ
-slotsAfter copies header marker frames old = after (runs.writeSays copies header marker frames (length old)) (runs.runOf copies header marker frames) old
+abbrev pub slotsAfter : List ℕ → List ℕ → List ℕ → List ℕ → List ℕ
+slotsAfter header marker frames old = after (runs.writeSays header marker frames (length old)) (runs.runOf header marker frames) old
 
-abbrev pub framesAfter : ℕ → List ℕ → List ℕ → List ℕ → List ℕ → List ℕ
-framesAfter copies header marker slots old = after (runs.readSays copies header marker slots (length old)) (runs.framesRead copies header marker slots) old
+abbrev pub framesAfter : List ℕ → List ℕ → List ℕ → List ℕ → List ℕ
+framesAfter header marker slots old = after (runs.readSays header marker slots (length old)) (runs.framesRead header marker slots) old
+
+abbrev pub tenAfter : List ℕ → List ℕ → List ℕ
+tenAfter eight old = after (trips.widenSays eight (length old)) (trips.widened eight) old
+
+abbrev pub eightAfter : List ℕ → List ℕ → List ℕ
+eightAfter ten old = after (trips.narrowSays ten (length old)) (trips.narrowed ten) old
 
 abbrev pub cutAfter : List ℕ → List ℕ → ℕ → List ℕ → List ℕ
 cutAfter header capture slot old = after (cuts.cutSays header (length capture) slot (length old)) (cuts.cutOf (fieldsOf header) capture slot) old

@@ -6,11 +6,12 @@ ghost use Rattle.answers.specs.Answer.{codeOf};
 ghost use Rattle.word.specs.Word as words;
 ghost use Rattle.pass.specs.Pass as passes;
 ghost use Rattle.spread.specs.Spread as spreads;
+ghost use Rattle.convert.specs.Convert as trips;
 ghost use Rattle.search.specs.Search as searches;
 ghost use Rattle.run.specs.Run as runs;
 ghost use Rattle.cut.specs.Cut as cuts;
 ghost use Rattle.uplink.specs.Uplink as uplinks;
-ghost use Rattle.calls.specs.After.{wordAfter, blockAfter, wordsAfter, blocksAfter, placesAfter, slotsAfter, framesAfter, cutAfter, uplinkSlotsAfter, uplinkFramesAfter};
+ghost use Rattle.calls.specs.After.{wordAfter, blockAfter, wordsAfter, blocksAfter, placesAfter, slotsAfter, framesAfter, tenAfter, eightAfter, cutAfter, uplinkSlotsAfter, uplinkFramesAfter};
 
 // A packed block to its word (step 7, and then steps 2 to 6).
 #[no_mangle]
@@ -57,34 +58,40 @@ pub extern "C" fn bit_spread(rate: u64, bit: u64, places: &mut [u8]) -> u64
     answers::code(spread::mark(rate, bit, places))
 }
 
-// Frames to slots (steps 1, 7, 2 to 6, and 8 to 10), each symbol sent `copies` times.
+// Frames to slots (steps 1, 7, 2 to 6, and 8 to 10), each symbol sent as many times as the header says.
 #[no_mangle]
-pub extern "C" fn run_write(
-    copies: u64,
-    header: &[u8],
-    marker: &[u8],
-    frames: &[u8],
-    slots: &mut [u8],
-) -> u64
-    ensures { λ r. ⌜ r ≡ codeOf (runs.writeSays copies (now (header .entry)) (now (marker .entry)) (now (frames .entry)) (length (now (slots .entry)))) ⌝ }
-    ensures { λ _. ⌜ now (slots .exit) ≡ slotsAfter copies (now (header .entry)) (now (marker .entry)) (now (frames .entry)) (now (slots .entry)) ⌝ }
+pub extern "C" fn run_write(header: &[u8], marker: &[u8], frames: &[u8], slots: &mut [u8]) -> u64
+    ensures { λ r. ⌜ r ≡ codeOf (runs.writeSays (now (header .entry)) (now (marker .entry)) (now (frames .entry)) (length (now (slots .entry)))) ⌝ }
+    ensures { λ _. ⌜ now (slots .exit) ≡ slotsAfter (now (header .entry)) (now (marker .entry)) (now (frames .entry)) (now (slots .entry)) ⌝ }
 {
-    answers::code(run_writer::write(copies as usize, header, marker, frames, slots))
+    answers::code(run_writer::write(header, marker, frames, slots))
 }
 
 // Slots back to frames, if the symbols that their copies pool to are those of some frames.
 #[no_mangle]
-pub extern "C" fn run_read(
-    copies: u64,
-    header: &[u8],
-    marker: &[u8],
-    slots: &[u8],
-    frames: &mut [u8],
-) -> u64
-    ensures { λ r. ⌜ r ≡ codeOf (runs.readSays copies (now (header .entry)) (now (marker .entry)) (now (slots .entry)) (length (now (frames .entry)))) ⌝ }
-    ensures { λ _. ⌜ now (frames .exit) ≡ framesAfter copies (now (header .entry)) (now (marker .entry)) (now (slots .entry)) (now (frames .entry)) ⌝ }
+pub extern "C" fn run_read(header: &[u8], marker: &[u8], slots: &[u8], frames: &mut [u8]) -> u64
+    ensures { λ r. ⌜ r ≡ codeOf (runs.readSays (now (header .entry)) (now (marker .entry)) (now (slots .entry)) (length (now (frames .entry)))) ⌝ }
+    ensures { λ _. ⌜ now (frames .exit) ≡ framesAfter (now (header .entry)) (now (marker .entry)) (now (slots .entry)) (now (frames .entry)) ⌝ }
 {
-    answers::code(run_reader::read(copies as usize, header, marker, slots, frames))
+    answers::code(run_reader::read(header, marker, slots, frames))
+}
+
+// An archived header of eight bytes to one of ten with factor 1.
+#[no_mangle]
+pub extern "C" fn header_widen(eight: &[u8], ten: &mut [u8]) -> u64
+    ensures { λ r. ⌜ r ≡ codeOf (trips.widenSays (now (eight .entry)) (length (now (ten .entry)))) ⌝ }
+    ensures { λ _. ⌜ now (ten .exit) ≡ tenAfter (now (eight .entry)) (now (ten .entry)) ⌝ }
+{
+    answers::code(convert::widen(eight, ten))
+}
+
+// And back, if the factor is 1.
+#[no_mangle]
+pub extern "C" fn header_narrow(ten: &[u8], eight: &mut [u8]) -> u64
+    ensures { λ r. ⌜ r ≡ codeOf (trips.narrowSays (now (ten .entry)) (length (now (eight .entry)))) ⌝ }
+    ensures { λ _. ⌜ now (eight .exit) ≡ eightAfter (now (ten .entry)) (now (eight .entry)) ⌝ }
+{
+    answers::code(convert::narrow(ten, eight))
 }
 
 // The start of a capture: the earliest slot at which the whole marker stands is the place of an accepted answer.

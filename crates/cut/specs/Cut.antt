@@ -1,4 +1,4 @@
--- The slots of a run out of a capture: as many as the header says, from any slot on, packed anew with spare bits of 0.
+-- The slots of a run out of a capture: as many as the header says, copies counted, from any slot on, packed anew with spare bits of 0.
 use mathlib.Core.Bool.{Bool}
 use mathlib.Core.List.{List}
 use Prim.Native.Nat.{ℕ, _+_, _*_}
@@ -22,6 +22,6 @@ unfoldable pub lengthsRight : Fields → ℕ → ℕ → ℕ → Bool
 lengthsRight f captureLength s slotsLength =
     both (leb captureLength captureMost) (both (eqb slotsLength (slotBytes f)) (leb (s + slotCount f) (8 * captureLength)))
 
--- the questions: 1 to 7 of the header alone, and 8
+-- the questions: 1 to 7 and 20 of the header alone, and 8
 unfoldable pub cutSays : List ℕ → ℕ → ℕ → ℕ → Answer
 cutSays header captureLength s slotsLength = then (headerSays header) (ask (lengthsRight (fieldsOf header) captureLength s slotsLength) 8 0)

@@ -27,12 +27,12 @@ use Rattle.search.specs.Search.{captureMost}
 use Rattle.cut.specs.Cut.{cutOf, lengthsRight, cutSays}
 
 -- a run has slots
-pub slots-some : (f : Fields) → Valid f → 1 ≤ slotCount f
+pub slots-some : (f : Fields) → Valid f → 1 ≤ f .copies → 1 ≤ slotCount f
 unfolding slotCount symbolCount
-slots-some f v =
+slots-some f v k =
     let s : 1 ≤ symbolsPerWord f + f .markers = let l = symbols-least f (v .shaped) in omega arith in
     let g : 1 ≤ slotsPerSymbol f = let l = group-least f (v .shaped) in omega arith in
-    mul-le-mul {n₁ = 1} (mul-le-mul {n₁ = 1} (lines-least f v) s) g
+    mul-le-mul {n₁ = 1} (mul-le-mul {n₁ = 1} (mul-le-mul {n₁ = 1} (lines-least f v) s) k) g
 
 -- the lengths, from their test and to it
 pub record Right (f : Fields) (captureLength s slotsLength : ℕ) : Type 0 where

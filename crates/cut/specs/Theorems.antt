@@ -1,4 +1,4 @@
--- A sound run that stands in a capture is found at its first slot, cut out of it as it was written, and read.
+-- A sound run that stands in a capture is cut out of it as it was written, and read; where each symbol is sent once, it is found at its first slot.
 use mathlib.Core.Path.{_≡_, refl, sym, ap, ap₂, _∙_}
 use mathlib.Core.List.{List}
 use mathlib.Core.Logic.{⊎-elim}
@@ -10,7 +10,7 @@ use lib.Dec.{eqb}
 use lib.ListN.{length, getD}
 use Rattle.bits.specs.Choice.{bool, lt-or-le}
 use Rattle.bits.specs.Pack.{bitAt, cut, bit-bytes, bytes-made, cut-in, cut-past}
-use Rattle.answers.specs.Answer.{ask, then, then-done}
+use Rattle.answers.specs.Answer.{ask, then-done}
 use Rattle.answers.specs.declared.Answer.the-variants.{Done}
 use Rattle.header.specs.Header.{fieldsOf}
 use Rattle.header.specs.declared.Fields.{Fields}
@@ -20,7 +20,7 @@ use Rattle.parameters.specs.Marks.{runSays, parametersOf}
 use Rattle.parameters.specs.Accepted.{run-good, lent-all}
 use Rattle.plan.specs.declared.Plan.{Plan}
 use Rattle.plan.specs.Plan.{planOf, planIn, unit, symbolCount, sent, slotBytes}
-use Rattle.plan.specs.Lengths.{copiesGood, lengthsRight, callSays}
+use Rattle.plan.specs.Lengths.{lengthsRight, callSays}
 use Rattle.plan.specs.Accepted.{Ready, ready}
 use Rattle.pulses.specs.Laws.{slot-bits}
 use Rattle.slots.specs.Slots.{slotsOf}
@@ -35,39 +35,35 @@ use Rattle.cut.specs.Laws.{are-lengths}
 -- the run of these frames begins at slot s: all its slots lie in the capture, and stand there as they were written; what else stands there is free
 pub record RunAt (header marker frames b : List ℕ) (s : ℕ) : Type 0 where
   pub inside : s + quantities.slotCount (fieldsOf header) ≤ 8 * length b
-  pub slot : (i : ℕ) → i < quantities.slotCount (fieldsOf header) → bitAt b (s + i) ≡ bitAt (runOf 1 header marker frames) i
+  pub slot : (i : ℕ) → i < quantities.slotCount (fieldsOf header) → bitAt b (s + i) ≡ bitAt (runOf header marker frames) i
 
-module _ (header marker frames : List ℕ) (n : ℕ) (e : writeSays 1 header marker frames n ≡ Done) where
-  known : Ready 1 header marker (length frames) n
+module _ (header marker frames : List ℕ) (n : ℕ) (e : writeSays header marker frames n ≡ Done) where
+  known : Ready header marker (length frames) n
   unfolding writeSays
-  known = ready 1 header marker (length frames) n e
+  known = ready header marker (length frames) n e
 
   said : runSays header marker ≡ Done
   unfolding writeSays callSays
   said =
-      then-done (runSays header marker)
-      (then (ask (copiesGood 1) 20 0) (ask (lengthsRight 1 (fieldsOf header) (length marker) (length frames) n) 8 0)) e .0
+      then-done (runSays header marker) (ask (lengthsRight (fieldsOf header) (length marker) (length frames) n) 8 0) e .0
 
   -- the plan has the symbols and the slots of the header
-  symbols-are : symbolCount (planIn 1 header marker) ≡ quantities.symbolCount (fieldsOf header)
+  symbols-are : symbolCount (planIn header marker) ≡ quantities.symbolCount (fieldsOf header)
   unfolding planOf parametersOf quantities.symbolCount
   symbols-are = rw (lent-all (fieldsOf header) marker (known .marker-is)) refl
 
-  slots-are : symbolCount (planIn 1 header marker) * planIn 1 header marker .group ≡ quantities.slotCount (fieldsOf header)
-  unfolding quantities.slotCount
-  slots-are = ap₂ (λ (a g : ℕ). a * g) symbols-are (lent header marker said (known .marker-is) .group-is)
+  slots-are : sent (planIn header marker) * planIn header marker .group ≡ quantities.slotCount (fieldsOf header)
+  unfolding planOf parametersOf quantities.slotCount
+  slots-are = ap₂ (λ (a g : ℕ). a * fieldsOf header .copies * g) symbols-are (lent header marker said (known .marker-is) .group-is)
 
-  -- of one copy
-  sent-is : sent (planIn 1 header marker) ≡ symbolCount (planIn 1 header marker)
-  unfolding planOf
-  sent-is = omega arith
-
-  sent-slots : sent (planIn 1 header marker) * planIn 1 header marker .group ≡ quantities.slotCount (fieldsOf header)
-  sent-slots = ap (λ (k : ℕ). k * planIn 1 header marker .group) sent-is ∙ slots-are
-
-  bytes-are : slotBytes (planIn 1 header marker) ≡ quantities.slotBytes (fieldsOf header)
+  bytes-are : slotBytes (planIn header marker) ≡ quantities.slotBytes (fieldsOf header)
   unfolding quantities.slotBytes
-  bytes-are = ap (λ (k : ℕ). (k + 7) / 8) sent-slots
+  bytes-are = ap (λ (k : ℕ). (k + 7) / 8) slots-are
+
+  -- each symbol is sent at least once
+  some-copies : 1 ≤ fieldsOf header .copies
+  unfolding planOf parametersOf
+  some-copies = known .fine .copies-least
 
   -- the marker's slots are among them
   marker-in : (fieldsOf header .markers ≤ quantities.symbolCount (fieldsOf header))
@@ -78,64 +74,53 @@ module _ (header marker frames : List ℕ) (n : ℕ) (e : writeSays 1 header mar
       let w : f .markers ≤ quantities.symbolsPerWord f + f .markers = omega arith in
       let few : 1 * f .markers ≤ quantities.lineCount f * (quantities.symbolsPerWord f + f .markers) = mul-le-mul (lines-least f (known .valid)) w in
       let less : f .markers ≤ quantities.lineCount f * (quantities.symbolsPerWord f + f .markers) = omega arith in
-      (less, mul-le-mul less (le-refl (quantities.slotsPerSymbol f)))
+      let sent-in : f .markers * 1 ≤ quantities.lineCount f * (quantities.symbolsPerWord f + f .markers) * f .copies = mul-le-mul less some-copies in
+      let in-slots : f .markers ≤ quantities.lineCount f * (quantities.symbolsPerWord f + f .markers) * f .copies = omega arith in
+      (less, mul-le-mul in-slots (le-refl (quantities.slotsPerSymbol f)))
 
   -- slot i of the run, spare ones included
-  run-slot : (i : ℕ) → i < 8 * slotBytes (planIn 1 header marker) → bitAt (runOf 1 header marker frames) i ≡ slot 1 header marker frames i
+  run-slot : (i : ℕ) → i < 8 * slotBytes (planIn header marker) → bitAt (runOf header marker frames) i ≡ slot header marker frames i
   run-slot i l =
-      let p : Plan = planIn 1 header marker in
-      ap (λ (xs : List ℕ). bitAt xs i) (run-is 1 header marker frames)
-      ∙ bit-bytes (slotBytes p) (slot 1 header marker frames) (slot-bits (p .group) (sent p) (λ u. step10 1 header marker frames (u / p .copies))) i l
+      let p : Plan = planIn header marker in
+      ap (λ (xs : List ℕ). bitAt xs i) (run-is header marker frames)
+      ∙ bit-bytes (slotBytes p) (slot header marker frames) (slot-bits (p .group) (sent p) (λ u. step10 header marker frames (u / p .copies))) i l
 
-  run-spare : (i : ℕ) → i < 8 * slotBytes (planIn 1 header marker) → quantities.slotCount (fieldsOf header) ≤ i
-      → bitAt (runOf 1 header marker frames) i ≡ 0
+  run-spare : (i : ℕ) → i < 8 * slotBytes (planIn header marker) → quantities.slotCount (fieldsOf header) ≤ i
+      → bitAt (runOf header marker frames) i ≡ 0
+  unfolding planOf parametersOf
   run-spare i l h =
-      let p : Plan = planIn 1 header marker in
+      let p : Plan = planIn header marker in
       let k = lent header marker said (known .marker-is) in
       let g : 0 < p .group = let q = k .group-is in let some = k .group-some in omega arith in
-      let past : symbolCount p * 1 ≤ i / p .group = le-div-iff-mul-le g .1 (let c = slots-are in omega arith) in
-      run-slot i l ∙ slot-none 1 header marker frames i past
+      let past : sent p ≤ i / p .group = le-div-iff-mul-le g .1 (let c = slots-are in omega arith) in
+      run-slot i l ∙ slot-none header marker frames i past
 
-  -- a run begins with its marker
-  run-marker : (w r : ℕ) → w < fieldsOf header .markers → r < quantities.slotsPerSymbol (fieldsOf header)
-      → bitAt (runOf 1 header marker frames) (w * quantities.slotsPerSymbol (fieldsOf header) + r) ≡ bool (eqb r (getD marker w 0))
-  run-marker w r lw lr =
-      let p : Plan = planIn 1 header marker in
+  -- where each is sent once, a run begins with its marker
+  run-marker : fieldsOf header .copies ≡ 1 → (w r : ℕ) → w < fieldsOf header .markers → r < quantities.slotsPerSymbol (fieldsOf header)
+      → bitAt (runOf header marker frames) (w * quantities.slotsPerSymbol (fieldsOf header) + r) ≡ bool (eqb r (getD marker w 0))
+  run-marker one w r lw lr =
+      let p : Plan = planIn header marker in
       let k = lent header marker said (known .marker-is) in
       let g : p .group ≡ quantities.slotsPerSymbol (fieldsOf header) = k .group-is in
       let at : w * quantities.slotsPerSymbol (fieldsOf header) + r < fieldsOf header .markers * quantities.slotsPerSymbol (fieldsOf header) =
       digits-lt lw lr in
-      let room : w * quantities.slotsPerSymbol (fieldsOf header) + r < 8 * slotBytes p = let m = marker-in .1 in let c = sent-slots in omega arith in
+      let room : w * quantities.slotsPerSymbol (fieldsOf header) + r < 8 * slotBytes p = let m = marker-in .1 in let c = slots-are in omega arith in
       let sym-in : w < symbolCount p = let m = marker-in .0 in let c = symbols-are in omega arith in
       let line : w ≡ 0 * unit p + w = omega arith in
-      let copy : w ≡ w * 1 + 0 = omega arith in
+      let copy : w ≡ w * fieldsOf header .copies + 0 = rw one (omega arith) in
       run-slot (w * quantities.slotsPerSymbol (fieldsOf header) + r) room
-      ∙ ap₂ (λ (s n : ℕ). slot 1 header marker frames (s * n + r)) copy (sym g)
-      ∙ slot-is 1 header marker frames w 0 r sym-in (omega arith) (rw g lr)
-      ∙ ap (λ (q : ℕ). bool (eqb r q)) (ap (step10 1 header marker frames) line ∙ marker-is 1 header marker frames 0 w (rw (k .markers-are) lw)
+      ∙ ap₂ (λ (s n : ℕ). slot header marker frames (s * n + r)) copy (sym g)
+      ∙ slot-is header marker frames w 0 r sym-in (omega arith) (rw g lr)
+      ∙ ap (λ (q : ℕ). bool (eqb r q)) (ap (step10 header marker frames) line ∙ marker-is header marker frames 0 w (rw (k .markers-are) lw)
       ∙ k .marks-are w lw)
 
   module _ (b : List ℕ) (s : ℕ) (short : length b ≤ captureMost) (at : RunAt header marker frames b s) where
-    -- so its marker stands where it begins,
-    pub run-starts : MarkerAt header marker b s
-    run-starts = record {
-      inside = let m = marker-in .1 in let i = at .inside in omega arith;
-      slot = λ w r lw lr.
-          let l : w * quantities.slotsPerSymbol (fieldsOf header) + r < fieldsOf header .markers * quantities.slotsPerSymbol (fieldsOf header) =
-          digits-lt lw lr in
-          at .slot (w * quantities.slotsPerSymbol (fieldsOf header) + r) (let m = marker-in .1 in omega arith) ∙ run-marker w r lw lr;
-    }
-
-    -- and where no marker stands before, the search finds it;
-    pub run-found : ((x : ℕ) → x < s → MarkerAt header marker b x → ⊥) → (findSays header marker b ≡ Done) × (firstFit (planIn 1 header marker) b ≡ s)
-    run-found none = earliest-found header marker b said (known .marker-is) short s run-starts none
-
-    -- its slots, cut out, are those that were written.
-    pub run-cut : (cutSays header (length b) s n ≡ Done) × (cutOf (fieldsOf header) b s ≡ runOf 1 header marker frames)
+    -- its slots, cut out, are those that were written;
+    pub run-cut : (cutSays header (length b) s n ≡ Done) × (cutOf (fieldsOf header) b s ≡ runOf header marker frames)
     unfolding cutSays cutOf runOf
     run-cut =
         let f : Fields = fieldsOf header in
-        let p : Plan = planIn 1 header marker in
+        let p : Plan = planIn header marker in
         let run : List ℕ = slotsOf p (wordAt f frames) in
         let good = run-good header marker said .0 in
         let lengths = are-lengths f (length b) s n record { most = short; slots-are = known .slots-are ∙ bytes-are; inside = at .inside } in (
@@ -148,3 +133,17 @@ module _ (header marker frames : List ℕ) (n : ℕ) (e : writeSays 1 header mar
               run-spare i (rw bytes-are l) h ∙ sym (cut-past (quantities.slotCount f) (λ i. bitAt b (s + i)) i h))
               (lt-or-le i (quantities.slotCount f)))),
         )
+
+    -- where each symbol is sent once, its marker stands where it begins,
+    pub run-starts : fieldsOf header .copies ≡ 1 → MarkerAt header marker b s
+    run-starts one = record {
+      inside = let m = marker-in .1 in let i = at .inside in omega arith;
+      slot = λ w r lw lr.
+          let l : w * quantities.slotsPerSymbol (fieldsOf header) + r < fieldsOf header .markers * quantities.slotsPerSymbol (fieldsOf header) =
+          digits-lt lw lr in
+          at .slot (w * quantities.slotsPerSymbol (fieldsOf header) + r) (let m = marker-in .1 in omega arith) ∙ run-marker one w r lw lr;
+    }
+
+    -- and where no marker stands before, the search finds it.
+    pub run-found : fieldsOf header .copies ≡ 1 → ((x : ℕ) → x < s → MarkerAt header marker b x → ⊥) → (findSays header marker b ≡ Done) × (firstFit (planIn header marker) b ≡ s)
+    run-found one none = earliest-found header marker b said (known .marker-is) short s (run-starts one) none

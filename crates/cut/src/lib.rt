@@ -3,7 +3,7 @@ use answers::Answer;
 use header::Fields;
 use header::layout;
 ghost use mathlib.Core.Path.{_≡_};
-ghost use Prim.Native.Nat.{_+_, _*_, _<_};
+ghost use Prim.Native.Nat.{_+_, _*_, _≤_, _<_};
 ghost use lib.ListN.{length};
 ghost use Rattle.answers.specs.Answer.{after};
 ghost use Rattle.bits.specs.Pack.{val, bitAt, bytesOf, cut};
@@ -36,7 +36,7 @@ fn take(b: &[u8], s: usize, count: usize, slots: &mut [u8])
 
 // Question 8: no sum with the slot is made, since that can be any number.
 fn lengths_right(f: Fields, capture_length: usize, s: usize, slots_length: usize) -> bool
-    requires { ⌜ Valid f ⌝ }
+    requires { ⌜ Valid f × (f .copies ≤ 32) ⌝ }
     ensures { λ r. ⌜ r ≡ lengthsRight f «capture_length» s «slots_length» ⌝ }
 {
     if capture_length > search::MOST {

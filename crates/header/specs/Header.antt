@@ -1,16 +1,18 @@
--- The run header, eight bytes, bit-packed, most significant bit first:
+-- The run header, ten bytes, bit-packed, most significant bit first:
 --
---     rate 2 bits | m 4 | rows N 8 | step B 9 | frame bytes F 12 | marker symbols W 6 | frame count A 7 | 16 zero bits
+--     rate 2 bits | m 4 | rows N 8 | step B 9 | frame bytes F 12 | marker symbols W 6 | frame count A 7 | factor 6 | 26 zero bits
+--
+-- Archived headers have eight: the same without the factor, and 16 zero bits.
 use mathlib.Core.List.{List}
-use Prim.Native.Nat.{ℕ, _+_, _*_, _^_, _<_}
-use Rattle.bits.specs.Pack.{val, bitAt, bitOf, bytesOf}
+use Prim.Native.Nat.{ℕ, _+_}
+use Rattle.bits.specs.Pack.{val, bitAt}
 use Rattle.header.specs.declared.Fields.{Fields}
 
 -- the n bits from bit `at` on, as a number
 unfoldable pub field : List ℕ → ℕ → ℕ → ℕ
 field header at n = val (λ t. bitAt header (at + t)) n
 
--- the fields of eight bytes
+-- the fields of a header; in eight bytes nobody asks for the factor
 unfoldable pub fieldsOf : List ℕ → Fields
 fieldsOf header = record {
   rate = field header 0 2;
@@ -20,27 +22,26 @@ fieldsOf header = record {
   size = field header 23 12;
   markers = field header 35 6;
   frames = field header 41 7;
+  copies = field header 48 6;
 }
 
--- the 16 bits that are to be zero
+-- the 26 bits that are to be zero
 unfoldable pub spareOf : List ℕ → ℕ
-spareOf header = field header 48 16
+spareOf header = field header 54 26
 
--- the fields one after the other, and 16 zero bits, as one number of 64 bits
-unfoldable pub packed : Fields → ℕ
-packed f =
-    ((((((f .rate * 2 ^ 4 + f .bits) * 2 ^ 8 + f .rows) * 2 ^ 9 + f .step) * 2 ^ 12 + f .size) * 2 ^ 6 + f .markers) * 2 ^ 7 + f .frames) * 2 ^ 16
+-- and the 16 of eight bytes
+unfoldable pub oldSpareOf : List ℕ → ℕ
+oldSpareOf header = field header 48 16
 
--- the header with these fields
-unfoldable pub headerOf : Fields → List ℕ
-headerOf f = bytesOf 8 (bitOf (packed f))
-
--- each field fits its bits
-pub record Widths (f : Fields) : Type 0 where
-  pub rate : f .rate < 2 ^ 2
-  pub bits : f .bits < 2 ^ 4
-  pub rows : f .rows < 2 ^ 8
-  pub step : f .step < 2 ^ 9
-  pub size : f .size < 2 ^ 12
-  pub markers : f .markers < 2 ^ 6
-  pub frames : f .frames < 2 ^ 7
+-- the same fields with this factor
+unfoldable pub withCopies : ℕ → Fields → Fields
+withCopies copies f = record {
+  rate = f .rate;
+  bits = f .bits;
+  rows = f .rows;
+  step = f .step;
+  size = f .size;
+  markers = f .markers;
+  frames = f .frames;
+  copies = copies;
+}

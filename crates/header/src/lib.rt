@@ -1,4 +1,4 @@
-// The run header: eight bytes, and the fields in them. `layout` reads and makes the bytes.
+// The run header: ten bytes, and the fields in them. `layout` reads the bytes, those of archived headers too.
 pub mod layout;
 
 // The header's fields, with their letters in the comments.
@@ -17,4 +17,6 @@ pub struct Fields {
     pub markers: usize,
     // A
     pub frames: usize,
+    // the factor: how many times each symbol is sent
+    pub copies: usize,
 }

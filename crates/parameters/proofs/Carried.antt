@@ -1,4 +1,4 @@
--- What the loops over the marker symbols keep, and the three ways out of a check.
+-- What the loops over the marker symbols keep, and the four ways out of a check.
 use mathlib.Core.Path.{_≡_, refl, sym, ap, ap₂, _∙_}
 use mathlib.Core.Bool.{true, false}
 use mathlib.Core.List.{List}
@@ -14,7 +14,7 @@ use Rattle.bits.specs.Pack.{cut, cut-in, cut-past}
 use Rattle.bits.specs.Table.{tab-made}
 use Rattle.header.specs.Header.{fieldsOf}
 use Rattle.header.specs.declared.Fields.{Fields}
-use Rattle.questions.specs.Questions.{headerSays}
+use Rattle.questions.specs.Questions.{question20, formSays}
 use Rattle.parameters.specs.Marks.{lentMarks, below, allUnder, marksGood, runSays, parametersOf, noParameters, checkedOf, checked}
 use Rattle.parameters.specs.declared.Parameters.{Parameters}
 use Rattle.parameters.specs.declared.Checked.{Checked}
@@ -53,26 +53,34 @@ unfolding parametersOf
 parameters-same f marker marks n e en h =
     ap₂ (λ (m : List ℕ) (c : ℕ). record { fields = f; marks = m; markers = c }) (tab-made 32 (cut (lentMarks f marker) (λ i. getD marker i 0)) marks e h) en
 
--- ---- the three ways out of a check
+-- ---- the four ways out of a check
 
 module _ (header marker : List ℕ) where
   -- a header that is turned away: its own answer
-  pub checked-header : (a : Answer) → a ≡ headerSays header → (a ≡ Done → ⊥) → (none : Parameters) → none ≡ noParameters
+  pub checked-header : (a : Answer) → a ≡ formSays header → (a ≡ Done → ⊥) → (none : Parameters) → none ≡ noParameters
       → _≡_ {A = Checked} (record { answer = a; parameters = none }) (checked header marker)
   unfolding checked checkedOf runSays
   checked-header Done e n none en = absurd (n refl)
   checked-header (No number place) e n none en =
+      let f : Fields = fieldsOf header in
       ap (λ (q : Parameters). record { answer = No number place; parameters = q }) en
-      ∙ ap (λ (a : Answer). checkedOf (then a (ask (marksGood (fieldsOf header) marker) 7 0)) (parametersOf (fieldsOf header) marker)) e
+      ∙ ap (λ (a : Answer). checkedOf (then a (then (ask (marksGood f marker) 7 0) (ask (question20 f) 20 0))) (parametersOf f marker)) e
 
   -- a marker symbol that is not below M
-  pub checked-marks : headerSays header ≡ Done → marksGood (fieldsOf header) marker ≡ false → (none : Parameters) → none ≡ noParameters
+  pub checked-marks : formSays header ≡ Done → marksGood (fieldsOf header) marker ≡ false → (none : Parameters) → none ≡ noParameters
       → _≡_ {A = Checked} (record { answer = No 7 0; parameters = none }) (checked header marker)
   unfolding checked checkedOf runSays
   checked-marks g b none en = ap (λ (q : Parameters). record { answer = No 7 0; parameters = q }) en ∙ sym (rw (g, b) refl)
 
-  -- acceptance
-  pub checked-good : headerSays header ≡ Done → marksGood (fieldsOf header) marker ≡ true → (p : Parameters) → p ≡ parametersOf (fieldsOf header) marker
-      → _≡_ {A = Checked} (record { answer = Done; parameters = p }) (checked header marker)
-  unfolding checked checkedOf runSays
-  checked-good g b p e = ap (λ (q : Parameters). record { answer = Done; parameters = q }) e ∙ sym (rw (g, b) refl)
+  module _ (g : formSays header ≡ Done) (b : marksGood (fieldsOf header) marker ≡ true) where
+    -- another factor
+    pub checked-factor : question20 (fieldsOf header) ≡ false → (none : Parameters) → none ≡ noParameters
+        → _≡_ {A = Checked} (record { answer = No 20 0; parameters = none }) (checked header marker)
+    unfolding checked checkedOf runSays
+    checked-factor k none en = ap (λ (q : Parameters). record { answer = No 20 0; parameters = q }) en ∙ sym (rw (g, b, k) refl)
+
+    -- acceptance
+    pub checked-good : question20 (fieldsOf header) ≡ true → (p : Parameters) → p ≡ parametersOf (fieldsOf header) marker
+        → _≡_ {A = Checked} (record { answer = Done; parameters = p }) (checked header marker)
+    unfolding checked checkedOf runSays
+    checked-good k p e = ap (λ (q : Parameters). record { answer = Done; parameters = q }) e ∙ sym (rw (g, b, k) refl)

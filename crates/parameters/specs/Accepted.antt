@@ -18,12 +18,12 @@ use Rattle.header.specs.declared.Fields.{Fields}
 use Rattle.quantities.specs.Quantities.{pulseOrder}
 use Rattle.quantities.specs.Valid.{Valid}
 use Rattle.quantities.specs.Shape.{order-least}
-use Rattle.questions.specs.Questions.{headerSays}
-use Rattle.questions.specs.Good.{GoodHeader, header-good, header-fits}
+use Rattle.questions.specs.Questions.{question20, formSays, headerSays}
+use Rattle.questions.specs.Good.{GoodHeader, header-good, form-fits}
 use Rattle.parameters.specs.Marks.{lentMarks, below, allUnder, marksGood, runSays, parametersOf, checkedOf, checked}
 use Rattle.parameters.specs.declared.Parameters.{Parameters}
 use Rattle.parameters.specs.declared.Checked.{Checked}
-use Rattle.answers.specs.Answer.{ask, then-done, ask-done, Fits, fits-ask, fits-then}
+use Rattle.answers.specs.Answer.{ask, then, then-done, ask-done, Fits, fits-ask, fits-then}
 use Rattle.answers.specs.declared.Answer.{Answer}
 use Rattle.answers.specs.declared.Answer.the-variants.{Done}
 
@@ -65,10 +65,12 @@ marks-same f marker other e h =
 
 -- an accepted call: the header is good, and the marker symbols that were looked at are below M
 pub run-good : (header marker : List ℕ) → runSays header marker ≡ Done → (headerSays header ≡ Done) × (marksGood (fieldsOf header) marker ≡ true)
-unfolding runSays
+unfolding runSays headerSays
 run-good header marker e =
-    let r = then-done (headerSays header) (ask (marksGood (fieldsOf header) marker) 7 0) e in
-    (r .0, ask-done (marksGood (fieldsOf header) marker) 7 0 (r .1))
+    let f : Fields = fieldsOf header in
+    let r = then-done (formSays header) (then (ask (marksGood f marker) 7 0) (ask (question20 f) 20 0)) e in
+    let t = then-done (ask (marksGood f marker) 7 0) (ask (question20 f) 20 0) (r .1) in
+    (rw (r .0) (t .1), ask-done (marksGood f marker) 7 0 (t .0))
 
 -- the checked parameters: 32 bytes, the lent symbols first, zeros behind them, all below M
 pub record CarriesMarks (f : Fields) (marker : List ℕ) (p : Parameters) : Type 0 where
@@ -143,5 +145,8 @@ check-parameters header marker c e g =
 pub run-fits : (header marker : List ℕ) → Fits (runSays header marker)
 unfolding runSays
 run-fits header marker =
-    fits-then (headerSays header) (ask (marksGood (fieldsOf header) marker) 7 0) (header-fits header)
-    (λ e. fits-ask (marksGood (fieldsOf header) marker) 7 0 (omega arith) (omega arith) (λ z. omega arith))
+    let m : Bool = marksGood (fieldsOf header) marker in
+    let k : Bool = question20 (fieldsOf header) in
+    fits-then (formSays header) (then (ask m 7 0) (ask k 20 0)) (form-fits header)
+    (λ e. fits-then (ask m 7 0) (ask k 20 0) (fits-ask m 7 0 (omega arith) (omega arith) (λ z. omega arith))
+    (λ g. fits-ask k 20 0 (omega arith) (omega arith) (λ z. omega arith)))

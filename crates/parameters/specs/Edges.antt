@@ -9,7 +9,7 @@ use Rattle.parameters.specs.Marks.{lentMarks, marksGood}
 
 -- the marker symbols of two: 3 is below M = 4, and 4 is not; a short slice is looked at, and what stands past the W-th is not
 abbrev two : Fields
-two = record { rate = 1; bits = 2; rows = 1; step = 1; size = 1; markers = 2; frames = 1 }
+two = record { rate = 1; bits = 2; rows = 1; step = 1; size = 1; markers = 2; frames = 1; copies = 1 }
 
 pub symbols-below : marksGood two (3 ∷ 0 ∷ []) ≡ true
 unfolding marksGood lentMarks pulseOrder firstFrom

@@ -9,7 +9,7 @@ use Rattle.bits.specs.Pack.{cut}
 use Rattle.bits.specs.Table.{tab}
 use Rattle.header.specs.Header.{fieldsOf}
 use Rattle.quantities.specs.Quantities.{pulseOrder}
-use Rattle.questions.specs.Questions.{headerSays}
+use Rattle.questions.specs.Questions.{question20, formSays}
 use Rattle.header.specs.declared.Fields.{Fields}
 use Rattle.parameters.specs.declared.Parameters.{Parameters}
 use Rattle.parameters.specs.declared.Checked.{Checked}
@@ -32,9 +32,12 @@ allUnder order n marker = eqb (upTo (below order marker) 0 n) n
 unfoldable pub marksGood : Fields → List ℕ → Bool
 marksGood f marker = allUnder (pulseOrder f) (lentMarks f marker) marker
 
--- questions 1 to 7, put to a header and its marker symbols
+-- questions 1 to 7 and 20, put to a header and its marker symbols
 unfoldable pub runSays : List ℕ → List ℕ → Answer
-runSays header marker = then (headerSays header) (ask (marksGood (fieldsOf header) marker) 7 0)
+runSays header marker =
+    then (formSays header)
+    (then (ask (marksGood (fieldsOf header) marker) 7 0)
+    (ask (question20 (fieldsOf header)) 20 0))
 
 -- the fields and the marker symbols, with zeros behind them
 unfoldable pub parametersOf : Fields → List ℕ → Parameters
@@ -47,7 +50,7 @@ parametersOf f marker = record {
 -- what stands in their place on a refusal
 unfoldable pub noParameters : Parameters
 noParameters = record {
-  fields = record { rate = 0; bits = 0; rows = 0; step = 0; size = 0; markers = 0; frames = 0 };
+  fields = record { rate = 0; bits = 0; rows = 0; step = 0; size = 0; markers = 0; frames = 0; copies = 0 };
   marks = tab 32 (λ i. 0);
   markers = 0;
 }

@@ -1,4 +1,4 @@
-// The checked parameters of a run: the header's fields and the marker symbols that are lent beside it. `check` puts questions 1 to 7.
+// The checked parameters of a run: the header's fields and the marker symbols that are lent beside it. `check` puts questions 1 to 7 and 20.
 use answers::Answer;
 use header::Fields;
 use header::layout;
@@ -79,6 +79,7 @@ fn nothing() -> Parameters
         size: 0,
         markers: 0,
         frames: 0,
+        copies: 0,
     };
     let marks = [0u8; 32];
     Parameters {
@@ -88,11 +89,11 @@ fn nothing() -> Parameters
     }
 }
 
-// Questions 1 to 7, and the parameters where they are answered yes.
+// Questions 1 to 7 and 20, and the parameters where they are answered yes.
 pub fn check(header: &[u8], marker: &[u8]) -> Checked
     ensures { λ r. ⌜ r ≡ Marks·checked (now (header .entry)) (now (marker .entry)) ⌝ }
 {
-    let answer = questions::header_says(header);
+    let answer = questions::form_says(header);
     let Answer::Done = answer else {
         let parameters = nothing();
         return Checked { answer, parameters };
@@ -102,6 +103,13 @@ pub fn check(header: &[u8], marker: &[u8]) -> Checked
         let parameters = nothing();
         return Checked {
             answer: Answer::No(7, 0),
+            parameters,
+        };
+    }
+    if !questions::question20(f) {
+        let parameters = nothing();
+        return Checked {
+            answer: Answer::No(20, 0),
             parameters,
         };
     }

@@ -1,4 +1,4 @@
--- What steps 8 to 10 ask of a run, from the factor and the checked parameters, and what it is known to be where all questions are answered yes.
+-- What steps 8 to 10 ask of a run, from the checked parameters, and what it is known to be where all questions are answered yes.
 use mathlib.Core.Path.{_≡_}
 use mathlib.Core.List.{List}
 use Prim.Native.Nat.{ℕ, _+_, _-_, _*_, _/_, _^_, _≤_, _<_}
@@ -10,9 +10,9 @@ use Rattle.quantities.specs.Quantities as quantities
 use Rattle.parameters.specs.declared.Parameters.{Parameters}
 use Rattle.plan.specs.declared.Plan.{Plan}
 
-unfoldable pub planOf : ℕ → Parameters → Plan
-planOf copies q = record {
-  copies = copies;
+unfoldable pub planOf : Parameters → Plan
+planOf q = record {
+  copies = q .fields .copies;
   bits = q .fields .bits;
   order = quantities.pulseOrder (q .fields);
   group = quantities.slotsPerSymbol (q .fields);
@@ -25,9 +25,9 @@ planOf copies q = record {
   marks = q .marks;
 }
 
--- a factor, and a header with its marker symbols
-abbrev pub planIn : ℕ → List ℕ → List ℕ → Plan
-planIn copies header marker = planOf copies (parametersOf (fieldsOf header) marker)
+-- of a header with its marker symbols
+abbrev pub planIn : List ℕ → List ℕ → Plan
+planIn header marker = planOf (parametersOf (fieldsOf header) marker)
 
 -- the symbols of a line with its markers
 abbrev pub unit : Plan → ℕ

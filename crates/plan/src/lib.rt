@@ -10,9 +10,9 @@ ghost use Rattle.header.specs.Header.{fieldsOf};
 ghost use Rattle.parameters.specs.Marks.{parametersOf};
 ghost use Rattle.quantities.specs.Valid.{Valid};
 ghost use Rattle.plan.specs.Plan.{planOf};
-ghost use Rattle.plan.specs.Lengths.{copiesGood, sentBytes, lengthsRight, callSays};
+ghost use Rattle.plan.specs.Lengths.{lengthsRight, callSays};
 
-// What steps 8 to 10 ask of a run: the factor, the header's numbers and those that follow from them.
+// What steps 8 to 10 ask of a run: the header's numbers and those that follow from them.
 pub struct Plan {
     // how many times each symbol is sent
     pub copies: usize,
@@ -38,9 +38,9 @@ pub struct Plan {
 }
 
 // The plan of checked parameters, reckoned once.
-pub fn plan_of(copies: usize, q: Parameters) -> Plan
+pub fn plan_of(q: Parameters) -> Plan
     requires { ⌜ Valid (q .fields) ⌝ }
-    ensures { λ r. ⌜ r ≡ planOf copies q ⌝ }
+    ensures { λ r. ⌜ r ≡ planOf q ⌝ }
 {
     let f = q.fields;
     let marks = q.marks;
@@ -50,7 +50,7 @@ pub fn plan_of(copies: usize, q: Parameters) -> Plan
     let words = quantities::block_count(f);
     let lines = quantities::line_count(f);
     Plan {
-        copies,
+        copies: f.copies,
         bits: f.bits,
         order,
         group,
@@ -64,43 +64,10 @@ pub fn plan_of(copies: usize, q: Parameters) -> Plan
     }
 }
 
-// Question 20: whether symbols are sent so many times.
-fn copies_good(copies: usize) -> bool
-    ensures { λ r. ⌜ r ≡ copiesGood copies ⌝ }
-{
-    if copies == 0 {
-        return false;
-    }
-    if copies < 5 {
-        return true;
-    }
-    if copies == 8 {
-        return true;
-    }
-    if copies == 16 {
-        return true;
-    }
-    copies == 32
-}
-
-// The bytes of the packed slots of all symbols with their copies.
-fn sent_bytes(copies: usize, f: Fields) -> usize
-    requires { ⌜ Valid f × (copies ≤ 32) ⌝ }
-    ensures { λ r. ⌜ r ≡ sentBytes copies f ⌝ }
-{
-    (quantities::symbol_count(f) * copies * quantities::slots_per_symbol(f) + 7) / 8
-}
-
-// Question 8: whether each slice has the length that the header and the factor imply.
-fn lengths_right(
-    copies: usize,
-    f: Fields,
-    marker_length: usize,
-    frames_length: usize,
-    slots_length: usize,
-) -> bool
-    requires { ⌜ Valid f × (copies ≤ 32) ⌝ }
-    ensures { λ r. ⌜ r ≡ lengthsRight copies f «marker_length» «frames_length» «slots_length» ⌝ }
+// Question 8: whether each slice has the length that the header implies.
+fn lengths_right(f: Fields, marker_length: usize, frames_length: usize, slots_length: usize) -> bool
+    requires { ⌜ Valid f × (f .copies ≤ 32) ⌝ }
+    ensures { λ r. ⌜ r ≡ lengthsRight f «marker_length» «frames_length» «slots_length» ⌝ }
 {
     if marker_length != quantities::marker_bytes(f) {
         return false;
@@ -108,18 +75,12 @@ fn lengths_right(
     if frames_length != quantities::frame_bytes(f) {
         return false;
     }
-    slots_length == sent_bytes(copies, f)
+    slots_length == quantities::slot_bytes(f)
 }
 
 // Questions 1 to 7, 20 and 8 of a call that is lent frames and slots; the parameters count where all are answered yes.
-pub fn check(
-    copies: usize,
-    header: &[u8],
-    marker: &[u8],
-    frames_length: usize,
-    slots_length: usize,
-) -> Checked
-    ensures { λ r. ⌜ r .answer ≡ callSays copies (now (header .entry)) (now (marker .entry)) «frames_length» «slots_length» ⌝ }
+pub fn check(header: &[u8], marker: &[u8], frames_length: usize, slots_length: usize) -> Checked
+    ensures { λ r. ⌜ r .answer ≡ callSays (now (header .entry)) (now (marker .entry)) «frames_length» «slots_length» ⌝ }
     ensures { λ r. ⌜ (r .answer ≡ Done → r .parameters ≡ parametersOf (fieldsOf (now (header .entry))) (now (marker .entry))) ⌝ }
 {
     let checked = parameters::check(header, marker);
@@ -129,13 +90,7 @@ pub fn check(
     };
     let parameters = checked.parameters;
     let f = parameters.fields;
-    if !copies_good(copies) {
-        return Checked {
-            answer: Answer::No(20, 0),
-            parameters,
-        };
-    }
-    if !lengths_right(copies, f, marker.len(), frames_length, slots_length) {
+    if !lengths_right(f, marker.len(), frames_length, slots_length) {
         return Checked {
             answer: Answer::No(8, 0),
             parameters,

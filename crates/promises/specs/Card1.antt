@@ -41,22 +41,22 @@ use Rattle.calls.specs.After.{cutAfter}
 
 -- ---- the search
 
--- its questions: 1 to 7 of the header and the marker symbols, then the lengths, then whether any slot fits. "Any number of bytes up to 2^53; a longer
+-- its questions: 1 to 7 and 20 of the header and the marker symbols, then the lengths, then whether any slot fits. "Any number of bytes up to 2^53; a longer
 -- one gets 8." "19 when no slot fits, put after 8."
 pub find-asks : (header marker capture : List ℕ)
     → findSays header marker capture
     ≡ then (runSays header marker)
     (then (ask (both (eqb (length marker) (markerBytes (fieldsOf header))) (leb (length capture) (2 ^ 53))) 8 0)
-    (ask (ltb (firstFit (planIn 1 header marker) capture) (8 * length capture + 1 - markerSlots (planIn 1 header marker))) 19 0))
+    (ask (ltb (firstFit (planIn header marker) capture) (8 * length capture + 1 - markerSlots (planIn header marker))) 19 0))
 unfolding findSays lengthsRight slotSays
 find-asks header marker capture = refl
 
 -- an acceptance goes to C as number 0 with the slot as its place
 pub found-code : (header marker capture : List ℕ) → findSays header marker capture ≡ Done
-    → findCode header marker capture ≡ firstFit (planIn 1 header marker) capture * 256
-found-code header marker capture e = ap (λ (a : Answer). codeAt a (firstFit (planIn 1 header marker) capture)) e
+    → findCode header marker capture ≡ firstFit (planIn header marker) capture * 256
+found-code header marker capture e = ap (λ (a : Answer). codeAt a (firstFit (planIn header marker) capture)) e
 
-module _ (header marker capture : List ℕ) (e : findSays header marker capture ≡ Done) (s : ℕ) (es : s ≡ firstFit (planIn 1 header marker) capture) where
+module _ (header marker capture : List ℕ) (e : findSays header marker capture ≡ Done) (s : ℕ) (es : s ≡ firstFit (planIn header marker) capture) where
   -- "The earliest slot at which a whole marker stands",
   pub earliest : MarkerAt header marker capture s × ((x : ℕ) → x < s → MarkerAt header marker capture x → ⊥)
   earliest = rw es (search-theorems.earliest-slot header marker capture e)
@@ -89,7 +89,7 @@ none-is-19 = search-theorems.no-slot-19
 
 -- ---- the slots from there, packed anew
 
--- the questions of that call: 1 to 7 of the header alone, and 8, which asks too whether the slots lie in the capture
+-- the questions of that call: 1 to 7 and 20 of the header alone, and 8, which asks too whether the slots lie in the capture
 pub cut-asks : (header : List ℕ) (captureLength s slotsLength : ℕ)
     → cuts.cutSays header captureLength s slotsLength
     ≡ then (headerSays header)
@@ -113,25 +113,25 @@ refused-cut header capture s old number place e = ap (λ (a : Answer). after a (
 
 -- ---- "If a sound run begins at slot s": one that is written for some frames; what stands before and behind it in the capture is free
 
-module _ (header marker frames : List ℕ) (n : ℕ) (written : runs.writeSays 1 header marker frames n ≡ Done)
+module _ (header marker frames : List ℕ) (n : ℕ) (written : runs.writeSays header marker frames n ≡ Done)
     (capture : List ℕ) (s : ℕ) (short : length capture ≤ 2 ^ 53) (begins : RunAt header marker frames capture s) where
-  -- "and no earlier slot fits, the answer is number 0 with s as its place",
-  pub run-found : ((x : ℕ) → x < s → MarkerAt header marker capture x → ⊥)
+  -- "and no earlier slot fits, the answer is number 0 with s as its place": where each symbol is sent once, since then the marker stands there whole;
+  pub run-found : fieldsOf header .copies ≡ 1 → ((x : ℕ) → x < s → MarkerAt header marker capture x → ⊥)
       → findCode header marker capture ≡ s * 256
-  run-found none =
-      let f = cut-theorems.run-found header marker frames n written capture s short begins none in
+  run-found one none =
+      let f = cut-theorems.run-found header marker frames n written capture s short begins one none in
       found-code header marker capture (f .0) ∙ ap (λ (x : ℕ). x * 256) (f .1)
 
   -- "and the run's number of slots from there, packed anew, reads as that run's frames."
   pub run-reads : Bytes frames → (old : List ℕ) → length old ≡ n
       → (cuts.cutSays header (length capture) s (length old) ≡ Done)
-      × (cutAfter header capture s old ≡ runs.runOf 1 header marker frames)
-      × (runs.readSays 1 header marker (cutAfter header capture s old) (length frames) ≡ Done)
-      × (runs.framesRead 1 header marker (cutAfter header capture s old) ≡ frames)
+      × (cutAfter header capture s old ≡ runs.runOf header marker frames)
+      × (runs.readSays header marker (cutAfter header capture s old) (length frames) ≡ Done)
+      × (runs.framesRead header marker (cutAfter header capture s old) ≡ frames)
   run-reads bytes old el =
       let c = cut-theorems.run-cut header marker frames n written capture s short begins in
-      let r = run-laws.written-read 1 header marker frames n bytes written in
+      let r = run-laws.written-read header marker frames n bytes written in
       let done : cuts.cutSays header (length capture) s (length old) ≡ Done = rw el (c .0) in
-      let run : cutAfter header capture s old ≡ runs.runOf 1 header marker frames =
+      let run : cutAfter header capture s old ≡ runs.runOf header marker frames =
       ap (λ (a : Answer). after a (cuts.cutOf (fieldsOf header) capture s) old) done ∙ c .1 in
       (done, run, rw run (r .0), rw run (r .1))

@@ -5,9 +5,9 @@
 -- if some frames are written to it", "It corrects nothing" and "exactly one pulse"; whatever is written is still accepted and gives its frames, and for
 -- factor 1 and for single words nothing changes. Turned away: 20 for another factor, put after 7."
 --
--- `copies` is the factor, and p the plan of a factor, a header and its marker symbols (`planIn`). For factor 1 Demand2 has its text, and single words know
--- no factor. Where question 20 is put stands in `run-writer-asks` and `run-reader-asks` of Demand1.
-use mathlib.Core.Path.{_≡_, refl, ap, _∙_}
+-- The factor is a field of the header since Card 6. Plans are those of a header and its marker symbols (`planIn`). For factor 1 Demand2 has its text, and
+-- single words know no factor. Where question 20 is put stands in `run-writer-asks` and `run-reader-asks` of Demand1.
+use mathlib.Core.Path.{_≡_, refl}
 use mathlib.Core.Bool.{true, false}
 use mathlib.Core.List.{List, [], _∷_, map}
 use Prim.Native.Nat.{ℕ, _+_, _*_, _/_, _≤_, _<_}
@@ -16,15 +16,15 @@ use lib.ListN.{length}
 use Rattle.bits.specs.Choice.{bool}
 use Rattle.bits.specs.Pack.{bitAt, Bytes}
 use Rattle.bits.specs.Weight.{weight}
-use Rattle.answers.specs.Answer.{after}
-use Rattle.answers.specs.declared.Answer.{Answer}
 use Rattle.answers.specs.declared.Answer.the-variants.{Done, No}
 use Rattle.sizes.specs.Rate.{infoBits}
-use Rattle.quantities.specs.Quantities.{pulseOrder, symbolsPerWord, markedBits, blockCount, spread, sequenceLength, lineCount, symbolCount, slotsPerSymbol}
-use Rattle.parameters.specs.Marks.{runSays}
+use Rattle.header.specs.Header.{fieldsOf, withCopies}
+use Rattle.quantities.specs.Quantities.{pulseOrder, symbolsPerWord, markedBits, blockCount, spread, sequenceLength, lineCount, symbolCount, slotsPerSymbol, slotCount, slotBytes}
+use Rattle.questions.specs.Questions.{copiesGood, formSays}
+use Rattle.parameters.specs.Marks.{marksGood, runSays}
 use Rattle.plan.specs.Plan as plans
 use Rattle.plan.specs.Plan.{planIn}
-use Rattle.plan.specs.Lengths.{copiesGood, sentSlots, sentBytes, callSays}
+use Rattle.plan.specs.Lengths.{callSays}
 use Rattle.pulses.specs.Pulses as pulses
 use Rattle.pool.specs.Pooled.{count, pooled, firstUndecided}
 use Rattle.pool.specs.Laws as pool-laws
@@ -33,6 +33,7 @@ use Rattle.run.specs.Run as runs
 use Rattle.run.specs.Return as run-laws
 use Rattle.run.specs.Steps as steps
 use Rattle.calls.specs.After.{slotsAfter, framesAfter}
+use Rattle.promises.specs.Demand2.{run-written-read, run-there-and-back}
 use Rattle.promises.specs.Edges.{smallest, largest}
 
 -- ---- "1, 2, 3, 4, 8, 16 or 32 times"
@@ -46,29 +47,30 @@ unfolding copiesGood
 other-factors = refl
 
 -- "20 for another factor, put after 7": both calls, where header and marker symbols pass
-pub factor-refused : (copies : ℕ) (header marker frames slots : List ℕ) (n : ℕ) → runSays header marker ≡ Done → copiesGood copies ≡ false
-    → (runs.writeSays copies header marker frames n ≡ No 20 0) × (runs.readSays copies header marker slots n ≡ No 20 0)
-unfolding runs.writeSays runs.readSays callSays
-factor-refused copies header marker frames slots n e bad = (rw (e, bad) refl, rw (e, bad) refl)
+pub factor-refused : (header marker frames slots : List ℕ) (n : ℕ) → formSays header ≡ Done → marksGood (fieldsOf header) marker ≡ true
+    → copiesGood (fieldsOf header .copies) ≡ false
+    → (runs.writeSays header marker frames n ≡ No 20 0) × (runs.readSays header marker slots n ≡ No 20 0)
+unfolding runs.writeSays runs.readSays callSays runSays
+factor-refused header marker frames slots n e marks bad = (rw (e, marks, bad) refl, rw (e, marks, bad) refl)
 
 -- ---- "Faint links send each symbol, markers and guard slots included, .. times in a row"
 
 -- slot r of copy c of symbol s has a pulse if the symbol is r, and there is none behind the last copy
-pub copies-sent : (copies : ℕ) (header marker frames : List ℕ) (s c r : ℕ) → s < plans.symbolCount (planIn copies header marker) → c < copies → r < planIn copies header marker .group
-    → steps.slot copies header marker frames ((s * copies + c) * planIn copies header marker .group + r) ≡ bool (eqb r (steps.step10 copies header marker frames s))
+pub copies-sent : (header marker frames : List ℕ) (s c r : ℕ) → s < plans.symbolCount (planIn header marker) → c < fieldsOf header .copies → r < planIn header marker .group
+    → steps.slot header marker frames ((s * fieldsOf header .copies + c) * planIn header marker .group + r) ≡ bool (eqb r (steps.step10 header marker frames s))
 copies-sent = steps.slot-is
 
-pub none-behind : (copies : ℕ) (header marker frames : List ℕ) (x : ℕ) → plans.symbolCount (planIn copies header marker) * copies ≤ x / planIn copies header marker .group
-    → steps.slot copies header marker frames x ≡ 0
+pub none-behind : (header marker frames : List ℕ) (x : ℕ) → plans.symbolCount (planIn header marker) * fieldsOf header .copies ≤ x / planIn header marker .group
+    → steps.slot header marker frames x ≡ 0
 none-behind = steps.slot-none
 
 -- the bytes of 1, 2, 3, 4 and 8 copies of the smallest run, packed once, and the slots and bytes of 32 copies of the largest
-pub sent-lengths : map (λ k. sentBytes k smallest) (1 ∷ 2 ∷ 3 ∷ 4 ∷ 8 ∷ []) ≡ 4726 ∷ 9452 ∷ 14177 ∷ 18903 ∷ 37805 ∷ []
-unfolding sentBytes sentSlots slotsPerSymbol pulseOrder symbolCount lineCount sequenceLength blockCount markedBits symbolsPerWord spread infoBits
+pub sent-lengths : map (λ k. slotBytes (withCopies k smallest)) (1 ∷ 2 ∷ 3 ∷ 4 ∷ 8 ∷ []) ≡ 4726 ∷ 9452 ∷ 14177 ∷ 18903 ∷ 37805 ∷ []
+unfolding withCopies slotBytes slotCount slotsPerSymbol pulseOrder symbolCount lineCount sequenceLength blockCount markedBits symbolsPerWord spread infoBits
 sent-lengths = refl
 
-pub largest-sent : (sentSlots 32 largest ≡ 46624952320) × (sentBytes 32 largest ≡ 5828119040)
-unfolding sentBytes sentSlots slotsPerSymbol pulseOrder symbolCount lineCount sequenceLength blockCount markedBits symbolsPerWord spread infoBits
+pub largest-sent : (slotCount (withCopies 32 largest) ≡ 46624952320) × (slotBytes (withCopies 32 largest) ≡ 5828119040)
+unfolding withCopies slotBytes slotCount slotsPerSymbol pulseOrder symbolCount lineCount sequenceLength blockCount markedBits symbolsPerWord spread infoBits
 largest-sent = (refl, refl)
 
 -- ---- "It counts pulses per slot over all copies, guard slots too, and the symbol is the slot with the strictly largest count, which must be a data slot"
@@ -100,40 +102,33 @@ one-copy-asked = pool-laws.undecided-one
 
 -- ---- "A repeated buffer is accepted if its pooled symbols are those of some run and its spare bits are zero, giving that run's frames, and otherwise not"
 
-pub repeated-accepted : (copies : ℕ) (header marker frames slots : List ℕ) → Bytes frames → runs.writeSays copies header marker frames (length slots) ≡ Done
-    → spareEmpty (planIn copies header marker) slots ≡ true → runs.PoolsTo copies header marker slots frames
-    → (runs.readSays copies header marker slots (length frames) ≡ Done) × (runs.framesRead copies header marker slots ≡ frames)
+pub repeated-accepted : (header marker frames slots : List ℕ) → Bytes frames → runs.writeSays header marker frames (length slots) ≡ Done
+    → spareEmpty (planIn header marker) slots ≡ true → runs.PoolsTo header marker slots frames
+    → (runs.readSays header marker slots (length frames) ≡ Done) × (runs.framesRead header marker slots ≡ frames)
 repeated-accepted = run-laws.pooled-read
 
-pub repeated-only : (copies : ℕ) (header marker slots : List ℕ) (n : ℕ) → runs.readSays copies header marker slots n ≡ Done
-    → (runs.writeSays copies header marker (runs.framesRead copies header marker slots) (length slots) ≡ Done)
-    × (spareEmpty (planIn copies header marker) slots ≡ true)
-    × runs.PoolsTo copies header marker slots (runs.framesRead copies header marker slots)
+pub repeated-only : (header marker slots : List ℕ) (n : ℕ) → runs.readSays header marker slots n ≡ Done
+    → (runs.writeSays header marker (runs.framesRead header marker slots) (length slots) ≡ Done)
+    × (spareEmpty (planIn header marker) slots ≡ true)
+    × runs.PoolsTo header marker slots (runs.framesRead header marker slots)
 repeated-only = run-laws.read-pooled
 
 -- "Places count pooled symbols": the first whose copies do not decide on a data slot is the place of 10. Those of 11 and 12 are symbols too (Demand1).
-pub pooled-place : (copies : ℕ) (header marker slots : List ℕ) (n s : ℕ) → callSays copies header marker n (length slots) ≡ Done
-    → spareEmpty (planIn copies header marker) slots ≡ true → s < plans.symbolCount (planIn copies header marker)
-    → ((i : ℕ) → i < s → pooledIn (planIn copies header marker) slots i < planIn copies header marker .order)
-    → planIn copies header marker .order ≤ pooledIn (planIn copies header marker) slots s
-    → runs.readSays copies header marker slots n ≡ No 10 s
+pub pooled-place : (header marker slots : List ℕ) (n s : ℕ) → callSays header marker n (length slots) ≡ Done
+    → spareEmpty (planIn header marker) slots ≡ true → s < plans.symbolCount (planIn header marker)
+    → ((i : ℕ) → i < s → pooledIn (planIn header marker) slots i < planIn header marker .order)
+    → planIn header marker .order ≤ pooledIn (planIn header marker) slots s
+    → runs.readSays header marker slots n ≡ No 10 s
 pooled-place = run-laws.undecided-place
 
 -- ---- "Whatever is written is still accepted and gives its frames", at every factor
 
-pub repeated-written-read : (copies : ℕ) (header marker frames : List ℕ) (n : ℕ) → Bytes frames → runs.writeSays copies header marker frames n ≡ Done
-    → (runs.readSays copies header marker (runs.runOf copies header marker frames) (length frames) ≡ Done)
-    × (runs.framesRead copies header marker (runs.runOf copies header marker frames) ≡ frames)
-repeated-written-read = run-laws.written-read
+pub repeated-written-read : (header marker frames : List ℕ) (n : ℕ) → Bytes frames → runs.writeSays header marker frames n ≡ Done
+    → (runs.readSays header marker (runs.runOf header marker frames) (length frames) ≡ Done)
+    × (runs.framesRead header marker (runs.runOf header marker frames) ≡ frames)
+repeated-written-read = run-written-read
 
 -- and in the lent slices
-pub repeated-there-and-back : (copies : ℕ) (header marker frames slots back : List ℕ) → Bytes frames → runs.writeSays copies header marker frames (length slots) ≡ Done
-    → length back ≡ length frames → framesAfter copies header marker (slotsAfter copies header marker frames slots) back ≡ frames
-repeated-there-and-back copies header marker frames slots back b w e =
-    let r = repeated-written-read copies header marker frames (length slots) b w in
-    let run : List ℕ = runs.runOf copies header marker frames in
-    let written : slotsAfter copies header marker frames slots ≡ run = ap (λ (a : Answer). after a run slots) w in
-    let said : runs.readSays copies header marker run (length back) ≡ Done = ap (runs.readSays copies header marker run) e ∙ r .0 in
-    ap (λ (s : List ℕ). framesAfter copies header marker s back) written
-    ∙ ap (λ (a : Answer). after a (runs.framesRead copies header marker run) back) said
-    ∙ r .1
+pub repeated-there-and-back : (header marker frames slots back : List ℕ) → Bytes frames → runs.writeSays header marker frames (length slots) ≡ Done
+    → length back ≡ length frames → framesAfter header marker (slotsAfter header marker frames slots) back ≡ frames
+repeated-there-and-back = run-there-and-back

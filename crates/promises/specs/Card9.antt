@@ -19,6 +19,8 @@ use Rattle.header.specs.Header.{fieldsOf}
 use Rattle.header.specs.declared.Fields.{Fields}
 use Rattle.quantities.specs.Quantities.{markedBits, blockCount, fillBits}
 use Rattle.quantities.specs.Bounds.{fill-sum, fill-few}
+use Rattle.convert.specs.Convert.{widenSays, narrowSays}
+use Rattle.convert.specs.Theorems as trip-laws
 use Rattle.plan.specs.Plan.{planIn}
 use Rattle.plan.specs.Lengths.{callSays}
 use Rattle.plan.specs.Accepted.{ready}
@@ -38,28 +40,28 @@ use Rattle.spread.specs.Spread.{spreadSays}
 use Rattle.spread.specs.Answers as spread-laws
 
 -- Where these are passed, the marked frames and the fill bits are all bits of the blocks, and the fill bits are fewer than k.
-pub few-fill-bits : (copies : ℕ) (header marker : List ℕ) (framesLength slotsLength : ℕ) → callSays copies header marker framesLength slotsLength ≡ Done
+pub few-fill-bits : (header marker : List ℕ) (framesLength slotsLength : ℕ) → callSays header marker framesLength slotsLength ≡ Done
     → (markedBits (fieldsOf header) + fillBits (fieldsOf header) ≡ blockCount (fieldsOf header) * infoBits (fieldsOf header .rate))
     × (fillBits (fieldsOf header) < infoBits (fieldsOf header .rate))
-few-fill-bits copies header marker n s e =
+few-fill-bits header marker n s e =
     let f : Fields = fieldsOf header in
-    let v = ready copies header marker n s e .valid in
+    let v = ready header marker n s e .valid in
     (fill-sum f v, fill-few f v)
 
 -- The reader with the question put where it stood, between 16 and 18, gives the same answer to every input.
-pub asked-17 : (copies : ℕ) (header marker slots : List ℕ) (n : ℕ) (f : Fields) (word : ℕ → List ℕ) → f ≡ fieldsOf header → word ≡ wordOut (planIn copies header marker) slots
-    → runs.readSays copies header marker slots n
-    ≡ then (callSays copies header marker n (length slots))
-    (then (slotsSay (planIn copies header marker) slots)
+pub asked-17 : (header marker slots : List ℕ) (n : ℕ) (f : Fields) (word : ℕ → List ℕ) → f ≡ fieldsOf header → word ≡ wordOut (planIn header marker) slots
+    → runs.readSays header marker slots n
+    ≡ then (callSays header marker n (length slots))
+    (then (slotsSay (planIn header marker) slots)
     (then (runs.wordsSay f word)
     (then (ask (eqb (firstUnmarked (f .size) (f .frames) (runs.streamIn f word)) (f .frames)) 16 (firstUnmarked (f .size) (f .frames) (runs.streamIn f word)))
     (then (ask (ltb (fillBits f) (infoBits (f .rate))) 17 0)
     (ask (fillZero (f .size) (f .frames) (blockCount f * infoBits (f .rate)) (runs.streamIn f word)) 18 0)))))
 unfolding runs.readSays runs.bufferSays runs.streamSays framesSay
-asked-17 copies header marker slots n f word ef ew =
+asked-17 header marker slots n f word ef ew =
     rw (ef, ew)
-    (then-when (callSays copies header marker n (length slots)) _ _ (λ e.
-    let few = few-fill-bits copies header marker n (length slots) e .1 in
+    (then-when (callSays header marker n (length slots)) _ _ (λ e.
+    let few = few-fill-bits header marker n (length slots) e .1 in
     let asked : Answer = ask (ltb (fillBits (fieldsOf header)) (infoBits (fieldsOf header .rate))) 17 0 in
     let yes : asked ≡ Done = ask-yes _ 17 0 (lt-ltb (fillBits (fieldsOf header)) (infoBits (fieldsOf header .rate)) few) in
     rw yes refl))
@@ -71,11 +73,11 @@ word-write-not-17 rate block n = word-laws.write-fits rate block n .listed
 pub word-read-not-17 : (rate : ℕ) (word : List ℕ) (n : ℕ) → numberOf (words.readSays rate word n) ≡ 17 → ⊥
 word-read-not-17 rate word n = word-laws.read-fits rate word n .listed
 
-pub run-write-not-17 : (copies : ℕ) (header marker frames : List ℕ) (n : ℕ) → numberOf (runs.writeSays copies header marker frames n) ≡ 17 → ⊥
-run-write-not-17 copies header marker frames n = run-laws.write-fits copies header marker frames n .listed
+pub run-write-not-17 : (header marker frames : List ℕ) (n : ℕ) → numberOf (runs.writeSays header marker frames n) ≡ 17 → ⊥
+run-write-not-17 header marker frames n = run-laws.write-fits header marker frames n .listed
 
-pub run-read-not-17 : (copies : ℕ) (header marker slots : List ℕ) (n : ℕ) → numberOf (runs.readSays copies header marker slots n) ≡ 17 → ⊥
-run-read-not-17 copies header marker slots n = run-laws.read-fits copies header marker slots n .listed
+pub run-read-not-17 : (header marker slots : List ℕ) (n : ℕ) → numberOf (runs.readSays header marker slots n) ≡ 17 → ⊥
+run-read-not-17 header marker slots n = run-laws.read-fits header marker slots n .listed
 
 pub pass-write-not-17 : (rate : ℕ) (blocks : List ℕ) (n : ℕ) → numberOf (passes.writeSays rate blocks n) ≡ 17 → ⊥
 pass-write-not-17 rate blocks n = pass-laws.write-fits rate blocks n .listed
@@ -91,3 +93,9 @@ find-not-17 header marker capture = search-laws.find-fits header marker capture 
 
 pub cut-not-17 : (header : List ℕ) (captureLength s slotsLength : ℕ) → numberOf (cutSays header captureLength s slotsLength) ≡ 17 → ⊥
 cut-not-17 header captureLength s slotsLength = cut-laws.cut-fits header captureLength s slotsLength .listed
+
+pub widen-not-17 : (old : List ℕ) (n : ℕ) → numberOf (widenSays old n) ≡ 17 → ⊥
+widen-not-17 old n = trip-laws.widen-fits old n .listed
+
+pub narrow-not-17 : (header : List ℕ) (n : ℕ) → numberOf (narrowSays header n) ≡ 17 → ⊥
+narrow-not-17 header n = trip-laws.narrow-fits header n .listed

@@ -5,9 +5,9 @@
 -- The definitions are those that the contracts of the calls cite (crate `calls`): what a call says (`writeSays`, `readSays`), the slots of frames
 -- (`runOf`), the frames in slots (`framesRead`), the word of a block (`wordOf`) and the block in a word (`blockIn`). `Bytes` says that the elements
 -- of a list are bytes, as they are in every slice. `SameBits` says of two packed blocks that their k bits are the same, `SpareZero` of one that its
--- two spare bits are 0. The run calls take a factor since Card 5; the customer's sentence holds for factor 1, and Card5 has what stands in its place for
--- the others.
-use mathlib.Core.Path.{_≡_, refl, sym, ap, _∙_}
+-- two spare bits are 0. "Only if some frames are written to it" holds where the header's factor is 1, and Card5 has what stands in its place for the
+-- others; all else holds for every factor.
+use mathlib.Core.Path.{_≡_, sym, ap, _∙_}
 use mathlib.Core.List.{List}
 use Prim.Native.Nat.{ℕ}
 use lib.ListN.{length}
@@ -18,39 +18,40 @@ use Rattle.answers.specs.declared.Answer.the-variants.{Done}
 use Rattle.sizes.specs.Sizes.{wordBytes}
 use Rattle.word.specs.Word as words
 use Rattle.word.specs.Return as word-laws
+use Rattle.header.specs.Header.{fieldsOf}
 use Rattle.run.specs.Run as runs
 use Rattle.run.specs.Return as run-laws
 use Rattle.calls.specs.After.{wordAfter, blockAfter, slotsAfter, framesAfter}
 
--- ---- runs, each symbol sent once: factor 1
+-- ---- runs
 
 -- If frames are written to a slot buffer, the reader accepts that buffer and returns those frames.
-pub run-written-read : (header marker frames : List ℕ) (n : ℕ) → Bytes frames → runs.writeSays 1 header marker frames n ≡ Done
-    → (runs.readSays 1 header marker (runs.runOf 1 header marker frames) (length frames) ≡ Done)
-    × (runs.framesRead 1 header marker (runs.runOf 1 header marker frames) ≡ frames)
-run-written-read = run-laws.written-read 1
+pub run-written-read : (header marker frames : List ℕ) (n : ℕ) → Bytes frames → runs.writeSays header marker frames n ≡ Done
+    → (runs.readSays header marker (runs.runOf header marker frames) (length frames) ≡ Done)
+    × (runs.framesRead header marker (runs.runOf header marker frames) ≡ frames)
+run-written-read = run-laws.written-read
 
--- If the reader accepts a slot buffer with some frames, the writer writes that very buffer for those frames.
-pub run-read-written : (header marker slots : List ℕ) (n : ℕ) → Bytes slots → runs.readSays 1 header marker slots n ≡ Done
-    → (runs.writeSays 1 header marker (runs.framesRead 1 header marker slots) (length slots) ≡ Done)
-    × (runs.runOf 1 header marker (runs.framesRead 1 header marker slots) ≡ slots)
-run-read-written = run-laws.read-written 1 refl
+-- If the reader accepts a slot buffer with some frames, each symbol being sent once, the writer writes that very buffer for those frames.
+pub run-read-written : (header marker slots : List ℕ) (n : ℕ) → fieldsOf header .copies ≡ 1 → Bytes slots → runs.readSays header marker slots n ≡ Done
+    → (runs.writeSays header marker (runs.framesRead header marker slots) (length slots) ≡ Done)
+    × (runs.runOf header marker (runs.framesRead header marker slots) ≡ slots)
+run-read-written = run-laws.read-written
 
 -- So two different sets of frames never give one buffer.
-pub run-one : (header marker a b : List ℕ) (n m : ℕ) → Bytes a → Bytes b → runs.writeSays 1 header marker a n ≡ Done → runs.writeSays 1 header marker b m ≡ Done
-    → runs.runOf 1 header marker a ≡ runs.runOf 1 header marker b → a ≡ b
+pub run-one : (header marker a b : List ℕ) (n m : ℕ) → Bytes a → Bytes b → runs.writeSays header marker a n ≡ Done → runs.writeSays header marker b m ≡ Done
+    → runs.runOf header marker a ≡ runs.runOf header marker b → a ≡ b
 run-one header marker a b n m ha hb wa wb e =
-    sym (run-written-read header marker a n ha wa .1) ∙ ap (runs.framesRead 1 header marker) e ∙ run-written-read header marker b m hb wb .1
+    sym (run-written-read header marker a n ha wa .1) ∙ ap (runs.framesRead header marker) e ∙ run-written-read header marker b m hb wb .1
 
 -- The same of the slices that two calls in a row are lent: what `run_write` leaves in the slots, `run_read` turns back into the frames.
-pub run-there-and-back : (header marker frames slots back : List ℕ) → Bytes frames → runs.writeSays 1 header marker frames (length slots) ≡ Done → length back ≡ length frames
-    → framesAfter 1 header marker (slotsAfter 1 header marker frames slots) back ≡ frames
+pub run-there-and-back : (header marker frames slots back : List ℕ) → Bytes frames → runs.writeSays header marker frames (length slots) ≡ Done → length back ≡ length frames
+    → framesAfter header marker (slotsAfter header marker frames slots) back ≡ frames
 run-there-and-back header marker frames slots back b w e =
     let r = run-written-read header marker frames (length slots) b w in
-    let written : slotsAfter 1 header marker frames slots ≡ runs.runOf 1 header marker frames = ap (λ (a : Answer). after a (runs.runOf 1 header marker frames) slots) w in
-    let said : runs.readSays 1 header marker (runs.runOf 1 header marker frames) (length back) ≡ Done = ap (runs.readSays 1 header marker (runs.runOf 1 header marker frames)) e ∙ r .0 in
-    ap (λ (s : List ℕ). framesAfter 1 header marker s back) written
-    ∙ ap (λ (a : Answer). after a (runs.framesRead 1 header marker (runs.runOf 1 header marker frames)) back) said
+    let written : slotsAfter header marker frames slots ≡ runs.runOf header marker frames = ap (λ (a : Answer). after a (runs.runOf header marker frames) slots) w in
+    let said : runs.readSays header marker (runs.runOf header marker frames) (length back) ≡ Done = ap (runs.readSays header marker (runs.runOf header marker frames)) e ∙ r .0 in
+    ap (λ (s : List ℕ). framesAfter header marker s back) written
+    ∙ ap (λ (a : Answer). after a (runs.framesRead header marker (runs.runOf header marker frames)) back) said
     ∙ r .1
 
 -- ---- words

@@ -7,6 +7,7 @@ pub mod Card2
 pub mod Card3
 pub mod Card4
 pub mod Card5
+pub mod Card6
 pub mod Card7
 pub mod Card9
 pub mod Card12

@@ -5,7 +5,7 @@ use native.Mathlib.Omega.{arith}
 use native.Mathlib.Nat.{mul-le-mul, mul-le-mul-left, mul-le-mul-right, mul-assoc, div-mul-le-self, lt-div-mul-add, lt-of-mul-lt-mul-right, div-add-mod', mul-add-mod-self-right}
 use Rattle.sizes.specs.Rate.{infoBits, by-rate}
 use Rattle.sizes.specs.Sizes.{wordBits, wordBytes, span}
-use Rattle.quantities.specs.Quantities.{symbolsPerWord, markedBits, blockCount, fillBits, spread, sequenceLength, lineCount, symbolCount, slotCount, slotBytes, frameBytes}
+use Rattle.quantities.specs.Quantities.{symbolsPerWord, markedBits, blockCount, fillBits, spread, sequenceLength, lineCount, symbolCount, sentSymbols, slotsPerSymbol, slotCount, slotBytes, frameBytes}
 use Rattle.quantities.specs.Valid.{Valid}
 use Rattle.quantities.specs.Shape.{word-symbols, symbols-least, symbols-most, group-most, spread-most, spread-steps}
 use Rattle.header.specs.declared.Fields.{Fields}
@@ -161,17 +161,33 @@ module _ (f : Fields) (v : Valid f) where
   pub symbol-most : symbolCount f < 2 ^ 23
   symbol-most = let m = symbol-bound in omega arith
 
-  slot-bound : slotCount f ≤ 5846448 * 320
-  unfolding slotCount
-  slot-bound = mul-le-mul symbol-bound (group-most f (v .shaped))
+  -- a copy of each symbol
+  once-bound : symbolCount f * slotsPerSymbol f ≤ 5846448 * 320
+  once-bound = mul-le-mul symbol-bound (group-most f (v .shaped))
 
-  pub slot-most : slotCount f < 2 ^ 31
-  slot-most = let m = slot-bound in omega arith
-
-  pub slot-bytes-most : slotBytes f < 2 ^ 28
-  unfolding slotBytes
-  slot-bytes-most = let m = slot-bound in omega arith
+  pub once-most : symbolCount f * slotsPerSymbol f < 2 ^ 31
+  once-most = let m = once-bound in omega arith
 
   pub frame-bytes-most : frameBytes f ≤ 131072
   unfolding frameBytes
   frame-bytes-most = mul-le-mul (v .frames-most) (v .size-most)
+
+  -- and with all copies, of which there are at most 32
+  module _ (few : f .copies ≤ 32) where
+    sent-bound : symbolCount f * f .copies ≤ 5846448 * 32
+    sent-bound = mul-le-mul symbol-bound few
+
+    pub sent-most : sentSymbols f < 2 ^ 28
+    unfolding sentSymbols
+    sent-most = let m = sent-bound in omega arith
+
+    slot-bound : slotCount f ≤ 5846448 * 32 * 320
+    unfolding slotCount
+    slot-bound = mul-le-mul sent-bound (group-most f (v .shaped))
+
+    pub slot-most : slotCount f < 2 ^ 36
+    slot-most = let m = slot-bound in omega arith
+
+    pub slot-bytes-most : slotBytes f < 2 ^ 33
+    unfolding slotBytes
+    slot-bytes-most = let m = slot-bound in omega arith

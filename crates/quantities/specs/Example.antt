@@ -14,6 +14,6 @@ unfolding markedBits
 example-marked = refl
 
 -- the most blocks: 64 frames of 2,048 bytes at rate 1/3
-pub most-blocks : blockCount (record { rate = 0; bits = 2; rows = 1; step = 1; size = 2048; markers = 1; frames = 64 }) ≡ 210
+pub most-blocks : blockCount (record { rate = 0; bits = 2; rows = 1; step = 1; size = 2048; markers = 1; frames = 64; copies = 1 }) ≡ 210
 unfolding blockCount markedBits infoBits
 most-blocks = refl

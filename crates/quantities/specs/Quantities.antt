@@ -44,8 +44,13 @@ symbolCount f = lineCount f * (symbolsPerWord f + f .markers)
 unfoldable pub slotsPerSymbol : Fields → ℕ
 slotsPerSymbol f = pulseOrder f + pulseOrder f / 4
 
+-- the symbols as they are sent: each as many times as the factor says
+unfoldable pub sentSymbols : Fields → ℕ
+sentSymbols f = symbolCount f * f .copies
+
+-- their slots
 unfoldable pub slotCount : Fields → ℕ
-slotCount f = symbolCount f * slotsPerSymbol f
+slotCount f = symbolCount f * f .copies * slotsPerSymbol f
 
 -- the lengths that question 8 compares: the slots, packed; the frames; the marker symbols
 unfoldable pub slotBytes : Fields → ℕ

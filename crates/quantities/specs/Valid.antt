@@ -1,8 +1,7 @@
--- What the quantities are asked of: fields in their ranges. Questions 2 to 7 say so, and every function here asks it.
+-- What the quantities are asked of: fields in their ranges. Questions 2 to 7 say so, and every function here asks it; those that count copies also ask
+-- for a factor of at most 32, which question 20 says.
 use mathlib.Core.Path.{_≡_}
 use Prim.Native.Nat.{_%_, _≤_, _<_}
-use native.Mathlib.Omega.{arith}
-use Rattle.header.specs.Header.{Widths}
 use Rattle.header.specs.declared.Fields.{Fields}
 use Rattle.quantities.specs.Quantities.{symbolsPerWord, spread}
 
@@ -26,15 +25,3 @@ pub record Valid (f : Fields) : Type 0 where
   pub frames-most : f .frames ≤ 64
   pub markers-least : 1 ≤ f .markers
   pub markers-most : f .markers ≤ 32
-
--- valid fields fit their bits, so that they make a header
-pub valid-widths : (f : Fields) → Valid f → Widths f
-valid-widths f v = let s = v .shaped in record {
-  rate = omega arith;
-  bits = omega arith;
-  rows = omega arith;
-  step = omega arith;
-  size = omega arith;
-  markers = omega arith;
-  frames = omega arith;
-}

@@ -1,7 +1,8 @@
-// What a header implies, each quantity with its letter. All of them fit 32 bits.
+// What a header implies, each quantity with its letter. All of them fit 36 bits.
 use header::Fields;
 ghost use mathlib.Core.Path.{_≡_};
-ghost use Rattle.quantities.specs.Quantities.{pulseOrder, symbolsPerWord, markedBits, blockCount, sequenceLength, lineCount, symbolCount, slotsPerSymbol, slotCount, slotBytes, frameBytes, markerBytes};
+ghost use Prim.Native.Nat.{_≤_};
+ghost use Rattle.quantities.specs.Quantities.{pulseOrder, symbolsPerWord, markedBits, blockCount, sequenceLength, lineCount, symbolCount, sentSymbols, slotsPerSymbol, slotCount, slotBytes, frameBytes, markerBytes};
 ghost use Rattle.quantities.specs.Quantities.{spread as Quantities·spread};
 ghost use Rattle.quantities.specs.Valid.{Shaped, Valid};
 
@@ -79,16 +80,25 @@ pub fn slots_per_symbol(f: Fields) -> usize
     m + m / 4
 }
 
+// The symbols as they are sent: each as many times as the factor says.
+pub fn sent_symbols(f: Fields) -> usize
+    requires { ⌜ Valid f × (f .copies ≤ 32) ⌝ }
+    ensures { λ r. ⌜ r ≡ sentSymbols f ⌝ }
+{
+    symbol_count(f) * f.copies
+}
+
+// Their slots.
 pub fn slot_count(f: Fields) -> usize
-    requires { ⌜ Valid f ⌝ }
+    requires { ⌜ Valid f × (f .copies ≤ 32) ⌝ }
     ensures { λ r. ⌜ r ≡ slotCount f ⌝ }
 {
-    symbol_count(f) * slots_per_symbol(f)
+    sent_symbols(f) * slots_per_symbol(f)
 }
 
 // The bytes of the packed slots.
 pub fn slot_bytes(f: Fields) -> usize
-    requires { ⌜ Valid f ⌝ }
+    requires { ⌜ Valid f × (f .copies ≤ 32) ⌝ }
     ensures { λ r. ⌜ r ≡ slotBytes f ⌝ }
 {
     (slot_count(f) + 7) / 8

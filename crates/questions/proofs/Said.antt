@@ -2,14 +2,16 @@
 use mathlib.Core.Path.{_≡_, refl, sym, _∙_}
 use mathlib.Core.Bool.{Bool, true, false, not}
 use mathlib.Core.List.{List}
-use Prim.Native.Nat.{ℕ}
+use Prim.Native.Nat.{ℕ, _≤_}
+use native.Mathlib.Omega.{arith}
 use lib.Dec.{eqb}
 use lib.ListN.{length}
 use borrow.Author.Tests.{eqb-true, not-true, not-false}
 use Rattle.bits.specs.Table.{both-true}
-use Rattle.header.specs.Header.{fieldsOf, spareOf}
+use Rattle.header.specs.Header.{spareOf, oldSpareOf}
 use Rattle.header.specs.declared.Fields.{Fields}
-use Rattle.questions.specs.Questions.{question1, question2, question3, question4, question5, question6, question7, fieldsSay, headerSays}
+use Rattle.questions.specs.Questions.{question1, oldQuestion1, question2, question3, question4, question5, question6, question7, fieldsSay}
+use Rattle.answers.specs.Answer.{ask, then}
 use Rattle.answers.specs.declared.Answer.the-variants.{Done, No}
 
 -- what a test `if !r` says of the question that gave r
@@ -50,14 +52,17 @@ module _ (f : Fields) where
   unfolding fieldsSay
   say-good e2 e3 e4 e5 e6 e7 = sym (rw (e2, e3, e4, e5, e6, e7) refl)
 
-pub say1 : (header : List ℕ) → question1 header ≡ false → headerSays header ≡ No 1 0
-unfolding headerSays
-say1 header e = rw e refl
+-- of ten bytes and of eight
+pub say1 : (t : Bool) (f : Fields) → t ≡ false → No 1 0 ≡ then (ask t 1 0) (fieldsSay f)
+say1 t f e = sym (rw e refl)
 
-pub say-rest : (header : List ℕ) → question1 header ≡ true → headerSays header ≡ fieldsSay (fieldsOf header)
-unfolding headerSays
-say-rest header e = rw e refl
+pub say-rest : (t : Bool) (f : Fields) → t ≡ true → fieldsSay f ≡ then (ask t 1 0) (fieldsSay f)
+say-rest t f e = sym (rw e refl)
 
-pub question1-long : (header : List ℕ) → question1 header ≡ true → length header ≡ 8
+pub question1-long : (header : List ℕ) → question1 header ≡ true → 8 ≤ length header
 unfolding question1
-question1-long header e = eqb-true (length header) 8 (both-true (eqb (length header) 8) (eqb (spareOf header) 0) e .0)
+question1-long header e = let l = eqb-true (length header) 10 (both-true (eqb (length header) 10) (eqb (spareOf header) 0) e .0) in omega arith
+
+pub old-long : (old : List ℕ) → oldQuestion1 old ≡ true → 8 ≤ length old
+unfolding oldQuestion1
+old-long old e = let l = eqb-true (length old) 8 (both-true (eqb (length old) 8) (eqb (oldSpareOf old) 0) e .0) in omega arith

@@ -9,7 +9,7 @@ use Rattle.answers.specs.declared.Answer.the-variants.{Done, No}
 
 -- with m = 8 and N = 10
 abbrev edge : ℕ → ℕ → ℕ → Fields
-edge step size markers = record { rate = 1; bits = 8; rows = 10; step = step; size = size; markers = markers; frames = 2 }
+edge step size markers = record { rate = 1; bits = 8; rows = 10; step = step; size = size; markers = markers; frames = 2; copies = 1 }
 
 -- B = 21 passes, 20 gets 5; F = 0 gets 6; W = 32 passes, 33 gets 7
 pub step-21 : fieldsSay (edge 21 223 32) ≡ Done
@@ -30,7 +30,7 @@ markers-33 = refl
 
 -- the ends of the ranges: a run of one frame of one byte, with one field changed
 abbrev ranged : ℕ → ℕ → ℕ → ℕ → ℕ → ℕ → ℕ → Fields
-ranged rate bits rows step size markers frames = record { rate = rate; bits = bits; rows = rows; step = step; size = size; markers = markers; frames = frames }
+ranged rate bits rows step size markers frames = record { rate = rate; bits = bits; rows = rows; step = step; size = size; markers = markers; frames = frames; copies = 1 }
 
 pub ranges-passed : (fieldsSay (ranged 0 2 1 1 1 1 1) ≡ Done) × (fieldsSay (ranged 2 8 1 256 2048 32 64) ≡ Done)
 unfolding fieldsSay question2 question3 question4 question5 question6 question7 spread symbolsPerWord

@@ -1,23 +1,23 @@
--- A header whose questions are all answered yes: its fields are valid, and fields that are valid make such a header.
-use mathlib.Core.Path.{_≡_, refl, ap, _∙_}
-use mathlib.Core.Bool.{true, false}
+-- What a header is known to be whose questions are all answered yes.
+use mathlib.Core.Path.{_≡_, refl, sym, ap, _∙_}
+use mathlib.Core.Bool.{Bool, true, false}
 use mathlib.Core.List.{List}
-use Prim.Native.Nat.{ℕ, _*_, _%_, _≤_}
+use mathlib.Core.Logic.{⊎-elim}
+use Prim.Native.Nat.{ℕ, _*_, _%_, _≤_, _<_}
 use native.Mathlib.Omega.{arith}
 use native.Mathlib.Nat.{zero-mod, mod-eq-of-lt}
 use lib.Dec.{leb, eqb}
 use lib.ListN.{length}
 use borrow.Author.Tests.{ltb-true, leb-true, eqb-true, lt-ltb, le-leb, eq-eqb, ne-eqb}
-use Rattle.bits.specs.Pack.{Bytes}
+use Rattle.bits.specs.Choice.{bool, lt-or-le}
 use Rattle.bits.specs.Table.{both-true}
-use Rattle.header.specs.Header.{fieldsOf, spareOf, headerOf, Widths}
-use Rattle.header.specs.Layout.{length-header, made-spare, read-made, made-read}
+use Rattle.header.specs.Header.{fieldsOf, spareOf, oldSpareOf}
 use Rattle.header.specs.declared.Fields.{Fields}
 use Rattle.quantities.specs.Quantities.{symbolsPerWord, spread}
-use Rattle.quantities.specs.Valid.{Shaped, Valid, valid-widths}
+use Rattle.quantities.specs.Valid.{Shaped, Valid}
 use Rattle.quantities.specs.Shape.{symbols-least}
-use Rattle.questions.specs.Questions.{within, question1, question2, question3, question4, question5, question6, question7, fieldsSay, headerSays}
-use Rattle.answers.specs.Answer.{ask, then-done, ask-done, Fits, fits-ask, fits-then}
+use Rattle.questions.specs.Questions.{within, question1, oldQuestion1, question2, question3, question4, question5, question6, question7, copiesGood, question20, fieldsSay, formSays, headerSays, oldSays}
+use Rattle.answers.specs.Answer.{ask, then, then-done, ask-done, Fits, fits-ask, fits-then}
 use Rattle.answers.specs.declared.Answer.the-variants.{Done}
 
 -- a range, from its test and to it
@@ -90,40 +90,100 @@ valid-fields f v =
 
 -- ---- of a header
 
-pub record GoodHeader (header : List ℕ) : Type 0 where
-  pub long : length header ≡ 8
+pub record GoodForm (header : List ℕ) : Type 0 where
+  pub long : length header ≡ 10
   pub spare : spareOf header ≡ 0
   pub valid : Valid (fieldsOf header)
 
-pub header-good : (header : List ℕ) → headerSays header ≡ Done → GoodHeader header
-unfolding headerSays question1
-header-good header e =
+pub form-good : (header : List ℕ) → formSays header ≡ Done → GoodForm header
+unfolding formSays question1
+form-good header e =
     let r = then-done (ask (question1 header) 1 0) (fieldsSay (fieldsOf header)) e in
-    let t = both-true (eqb (length header) 8) (eqb (spareOf header) 0) (ask-done (question1 header) 1 0 (r .0)) in
+    let t = both-true (eqb (length header) 10) (eqb (spareOf header) 0) (ask-done (question1 header) 1 0 (r .0)) in
     record {
-      long = eqb-true (length header) 8 (t .0);
+      long = eqb-true (length header) 10 (t .0);
       spare = eqb-true (spareOf header) 0 (t .1);
       valid = fields-valid (fieldsOf header) (r .1);
     }
 
+pub good-form : (header : List ℕ) → GoodForm header → formSays header ≡ Done
+unfolding formSays question1
+good-form header g =
+    rw (eq-eqb (length header) 10 (g .long), eq-eqb (spareOf header) 0 (g .spare)) (valid-fields (fieldsOf header) (g .valid))
+
+-- and its factor is one of the seven
+pub record GoodHeader (header : List ℕ) : Type 0 where
+  pub long : length header ≡ 10
+  pub spare : spareOf header ≡ 0
+  pub valid : Valid (fieldsOf header)
+  pub copies : copiesGood (fieldsOf header .copies) ≡ true
+
+pub header-good : (header : List ℕ) → headerSays header ≡ Done → GoodHeader header
+unfolding headerSays
+header-good header e =
+    let r = then-done (formSays header) (ask (question20 (fieldsOf header)) 20 0) e in
+    let g = form-good header (r .0) in
+    record { long = g .long; spare = g .spare; valid = g .valid; copies = ask-done (question20 (fieldsOf header)) 20 0 (r .1) }
+
 pub good-header : (header : List ℕ) → GoodHeader header → headerSays header ≡ Done
-unfolding headerSays question1
+unfolding headerSays
 good-header header g =
-    rw (eq-eqb (length header) 8 (g .long), eq-eqb (spareOf header) 0 (g .spare)) (valid-fields (fieldsOf header) (g .valid))
+    rw (good-form header (record { long = g .long; spare = g .spare; valid = g .valid }), g .copies) refl
 
--- valid fields make a good header
-pub made-good : (f : Fields) → Valid f → headerSays (headerOf f) ≡ Done
-made-good f v =
-    let w : Widths f = valid-widths f v in
-    good-header (headerOf f) (record {
-      long = length-header f;
-      spare = made-spare f w;
-      valid = rw (read-made f w) v;
-    })
+-- an archived header
+pub record GoodOld (old : List ℕ) : Type 0 where
+  pub long : length old ≡ 8
+  pub spare : oldSpareOf old ≡ 0
+  pub valid : Valid (fieldsOf old)
 
--- a good header is the one that its fields make
-pub good-made : (header : List ℕ) → Bytes header → headerSays header ≡ Done → headerOf (fieldsOf header) ≡ header
-good-made header b e = let g = header-good header e in made-read header (g .long) b (g .spare)
+pub old-good : (old : List ℕ) → oldSays old ≡ Done → GoodOld old
+unfolding oldSays oldQuestion1
+old-good old e =
+    let r = then-done (ask (oldQuestion1 old) 1 0) (fieldsSay (fieldsOf old)) e in
+    let t = both-true (eqb (length old) 8) (eqb (oldSpareOf old) 0) (ask-done (oldQuestion1 old) 1 0 (r .0)) in
+    record {
+      long = eqb-true (length old) 8 (t .0);
+      spare = eqb-true (oldSpareOf old) 0 (t .1);
+      valid = fields-valid (fieldsOf old) (r .1);
+    }
+
+pub good-old : (old : List ℕ) → GoodOld old → oldSays old ≡ Done
+unfolding oldSays oldQuestion1
+good-old old g =
+    rw (eq-eqb (length old) 8 (g .long), eq-eqb (oldSpareOf old) 0 (g .spare)) (valid-fields (fieldsOf old) (g .valid))
+
+-- ---- question 20
+
+-- the factors are 1 to 32
+pub copies-range : (copies : ℕ) → copiesGood copies ≡ true → (1 ≤ copies) × (copies ≤ 32)
+unfolding copiesGood
+copies-range copies e = (
+  ⊎-elim (λ (l : copies < 1). let z : copies ≡ 0 = omega arith in absurd (no (sym (rw z refl) ∙ e))) (λ (l : 1 ≤ copies). l) (lt-or-le copies 1),
+  ⊎-elim
+      (λ (l : copies < 33). let m : copies ≤ 32 = omega arith in m)
+      (λ (l : 33 ≤ copies).
+      let other : (k : ℕ) → k < 33 → eqb copies k ≡ false = λ k h. ne-eqb copies k (λ q. omega arith) in
+      absurd (no (sym (rw (
+        other 1 (omega arith),
+        other 2 (omega arith),
+        other 3 (omega arith),
+        other 4 (omega arith),
+        other 8 (omega arith),
+        other 16 (omega arith),
+        other 32 (omega arith),
+      )
+      refl)
+      ∙ e)))
+      (lt-or-le copies 33),
+)
+  where
+    no : false ≡ true → ⊥
+    no z = let y : _≡_ {A = ℕ} 0 1 = ap bool z in omega arith
+
+-- 1 is a factor
+pub once-good : (copies : ℕ) → copies ≡ 1 → copiesGood copies ≡ true
+unfolding copiesGood
+once-good copies e = rw e refl
 
 -- ---- the answers fit the number that C gets
 
@@ -137,10 +197,22 @@ fields-fit f =
     (λ d. fits-then (ask (question6 f) 6 0) (ask (question7 f) 7 0) (fits-ask (question6 f) 6 0 (omega arith) (omega arith) (λ z. omega arith))
     (λ e. fits-ask (question7 f) 7 0 (omega arith) (omega arith) (λ z. omega arith))))))
 
+after-1 : (t : Bool) (f : Fields) → Fits (then (ask t 1 0) (fieldsSay f))
+after-1 t f = fits-then (ask t 1 0) (fieldsSay f) (fits-ask t 1 0 (omega arith) (omega arith) (λ z. omega arith)) (λ e. fields-fit f)
+
+pub form-fits : (header : List ℕ) → Fits (formSays header)
+unfolding formSays
+form-fits header = after-1 (question1 header) (fieldsOf header)
+
 pub header-fits : (header : List ℕ) → Fits (headerSays header)
 unfolding headerSays
 header-fits header =
-    fits-then (ask (question1 header) 1 0) (fieldsSay (fieldsOf header)) (fits-ask (question1 header) 1 0 (omega arith) (omega arith) (λ z. omega arith)) (λ e. fields-fit (fieldsOf header))
+    fits-then (formSays header) (ask (question20 (fieldsOf header)) 20 0) (form-fits header)
+    (λ e. fits-ask (question20 (fieldsOf header)) 20 0 (omega arith) (omega arith) (λ z. omega arith))
+
+pub old-fits : (old : List ℕ) → Fits (oldSays old)
+unfolding oldSays
+old-fits old = after-1 (oldQuestion1 old) (fieldsOf old)
 
 -- ---- question 5
 

@@ -1,23 +1,28 @@
--- Questions 1 to 7, in order; the first no gives the answer. `headerSays` puts those that `runsheet` puts, and everything else builds on it.
+-- Questions 1 to 7 and 20, in order; the first no gives the answer. `headerSays` puts those that `runsheet` puts, and everything else builds on it.
 use mathlib.Core.Bool.{Bool}
-use mathlib.Core.List.{List}
+use mathlib.Core.List.{List, [], _∷_}
 use Prim.Native.Nat.{ℕ, _%_}
 use lib.Dec.{ltb, leb, eqb}
 use lib.ListN.{length}
 use Rattle.bits.specs.Table.{both}
-use Rattle.header.specs.Header.{fieldsOf, spareOf}
+use Rattle.header.specs.Header.{fieldsOf, spareOf, oldSpareOf}
 use Rattle.quantities.specs.Quantities.{symbolsPerWord, spread}
 use Rattle.header.specs.declared.Fields.{Fields}
 use Rattle.answers.specs.declared.Answer.{Answer}
 use Rattle.answers.specs.Answer.{ask, then}
+use Rattle.answers.specs.Numbers.{among}
 
 -- x is one of the numbers least to most
 abbrev pub within : ℕ → ℕ → ℕ → Bool
 within least x most = both (leb least x) (leb x most)
 
--- 1: is the header 8 bytes, its last 16 bits zero?
+-- 1: is the header 10 bytes, its last 26 bits zero?
 unfoldable pub question1 : List ℕ → Bool
-question1 header = both (eqb (length header) 8) (eqb (spareOf header) 0)
+question1 header = both (eqb (length header) 10) (eqb (spareOf header) 0)
+
+-- 1 of an archived header: is it 8 bytes, its last 16 bits zero?
+unfoldable pub oldQuestion1 : List ℕ → Bool
+oldQuestion1 old = both (eqb (length old) 8) (eqb (oldSpareOf old) 0)
 
 -- 2: is the rate 0, 1 or 2?
 unfoldable pub question2 : Fields → Bool
@@ -43,7 +48,14 @@ question6 f = both (within 1 (f .size) 2048) (within 1 (f .frames) 64)
 unfoldable pub question7 : Fields → Bool
 question7 f = within 1 (f .markers) 32
 
--- the questions put to the fields
+-- 20: is the factor one of these?
+unfoldable pub copiesGood : ℕ → Bool
+copiesGood copies = among (1 ∷ 2 ∷ 3 ∷ 4 ∷ 8 ∷ 16 ∷ 32 ∷ []) copies
+
+abbrev pub question20 : Fields → Bool
+question20 f = copiesGood (f .copies)
+
+-- 2 to 7, put to the fields
 unfoldable pub fieldsSay : Fields → Answer
 fieldsSay f =
     then (ask (question2 f) 2 0)
@@ -53,6 +65,14 @@ fieldsSay f =
     (then (ask (question6 f) 6 0)
     (ask (question7 f) 7 0)))))
 
--- the questions put to a header
+-- 1 to 7, put to a header; the marker symbols that are lent beside it have their turn before 20
+unfoldable pub formSays : List ℕ → Answer
+formSays header = then (ask (question1 header) 1 0) (fieldsSay (fieldsOf header))
+
+-- all that are put to a header alone
 unfoldable pub headerSays : List ℕ → Answer
-headerSays header = then (ask (question1 header) 1 0) (fieldsSay (fieldsOf header))
+headerSays header = then (formSays header) (ask (question20 (fieldsOf header)) 20 0)
+
+-- those put to an archived header, which has no factor
+unfoldable pub oldSays : List ℕ → Answer
+oldSays old = then (ask (oldQuestion1 old) 1 0) (fieldsSay (fieldsOf old))

@@ -1,10 +1,10 @@
-// Questions 1 to 7, in order; the first no gives the answer. `header_says` puts those that `runsheet` puts.
+// Questions 1 to 7 and 20, in order; the first no gives the answer. `header_says` puts those that `runsheet` puts.
 use answers::Answer;
 use header::Fields;
 use header::layout;
 ghost use mathlib.Core.Path.{_≡_};
 ghost use Rattle.questions.specs.Questions as asked;
-ghost use Rattle.questions.specs.Questions.{fieldsSay, headerSays};
+ghost use Rattle.questions.specs.Questions.{fieldsSay, formSays, headerSays, oldSays};
 ghost use Rattle.quantities.specs.Valid.{Shaped};
 
 // Whether x is one of the numbers least to most.
@@ -20,10 +20,19 @@ fn within(least: usize, x: usize, most: usize) -> bool
 fn question1(header: &[u8]) -> bool
     ensures { λ r. ⌜ r ≡ asked.question1 (now (header .entry)) ⌝ }
 {
-    if header.len() != 8 {
+    if header.len() != 10 {
         return false;
     }
     layout::spare(header) == 0
+}
+
+fn old_question1(old: &[u8]) -> bool
+    ensures { λ r. ⌜ r ≡ asked.oldQuestion1 (now (old .entry)) ⌝ }
+{
+    if old.len() != 8 {
+        return false;
+    }
+    layout::old_spare(old) == 0
 }
 
 fn question2(f: Fields) -> bool
@@ -69,8 +78,27 @@ fn question7(f: Fields) -> bool
     within(1, f.markers, 32)
 }
 
-// The questions put to the fields.
-pub fn fields_say(f: Fields) -> Answer
+pub fn question20(f: Fields) -> bool
+    ensures { λ r. ⌜ r ≡ asked.question20 f ⌝ }
+{
+    let copies = f.copies;
+    if copies == 0 {
+        return false;
+    }
+    if copies < 5 {
+        return true;
+    }
+    if copies == 8 {
+        return true;
+    }
+    if copies == 16 {
+        return true;
+    }
+    copies == 32
+}
+
+// 2 to 7, put to the fields.
+fn fields_say(f: Fields) -> Answer
     ensures { λ r. ⌜ r ≡ fieldsSay f ⌝ }
 {
     if !question2(f) {
@@ -94,12 +122,36 @@ pub fn fields_say(f: Fields) -> Answer
     Answer::Done
 }
 
-// The questions put to a header.
-pub fn header_says(header: &[u8]) -> Answer
-    ensures { λ r. ⌜ r ≡ headerSays (now (header .entry)) ⌝ }
+// 1 to 7, put to a header.
+pub fn form_says(header: &[u8]) -> Answer
+    ensures { λ r. ⌜ r ≡ formSays (now (header .entry)) ⌝ }
 {
     if !question1(header) {
         return Answer::No(1, 0);
     }
     fields_say(layout::read(header))
+}
+
+// All that are put to a header alone.
+pub fn header_says(header: &[u8]) -> Answer
+    ensures { λ r. ⌜ r ≡ headerSays (now (header .entry)) ⌝ }
+{
+    let form = form_says(header);
+    let Answer::Done = form else {
+        return form;
+    };
+    if !question20(layout::read(header)) {
+        return Answer::No(20, 0);
+    }
+    form
+}
+
+// Those put to an archived header.
+pub fn old_says(old: &[u8]) -> Answer
+    ensures { λ r. ⌜ r ≡ oldSays (now (old .entry)) ⌝ }
+{
+    if !old_question1(old) {
+        return Answer::No(1, 0);
+    }
+    fields_say(layout::read(old))
 }

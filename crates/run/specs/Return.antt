@@ -86,9 +86,9 @@ module _ (f : Fields) (v : Valid f) (frames : List ℕ) (long : length frames �
         frames-back (f .size) (f .frames) (quantities.blockCount f * infoBits (f .rate)) (v .size-least) (fit f v) frames (streamIn f word) stream-agrees long bytes
 
 -- the words of a header's plan
-words-are : (copies : ℕ) (header marker : List ℕ) → planIn copies header marker .words ≡ quantities.blockCount (fieldsOf header)
+words-are : (header marker : List ℕ) → planIn header marker .words ≡ quantities.blockCount (fieldsOf header)
 unfolding parametersOf
-words-are copies header marker = plan-words copies (parametersOf (fieldsOf header) marker)
+words-are header marker = plan-words (parametersOf (fieldsOf header) marker)
 
 -- ---- what is read was written
 
@@ -115,86 +115,86 @@ module _ (f : Fields) (v : Valid f) (word : ℕ → List ℕ) (bytes : (j : ℕ)
       ∙ q .1
 
 -- A slot buffer whose pooled symbols are those of the run of some frames, with no spare bit set, is accepted, and gives those frames.
-pub pooled-read : (copies : ℕ) (header marker frames slots : List ℕ) → Bytes frames → writeSays copies header marker frames (length slots) ≡ Done
-    → spareEmpty (planIn copies header marker) slots ≡ true → PoolsTo copies header marker slots frames
-    → (readSays copies header marker slots (length frames) ≡ Done) × (framesRead copies header marker slots ≡ frames)
+pub pooled-read : (header marker frames slots : List ℕ) → Bytes frames → writeSays header marker frames (length slots) ≡ Done
+    → spareEmpty (planIn header marker) slots ≡ true → PoolsTo header marker slots frames
+    → (readSays header marker slots (length frames) ≡ Done) × (framesRead header marker slots ≡ frames)
 unfolding writeSays readSays bufferSays framesRead wordAt
-pooled-read copies header marker frames slots b e spare same =
+pooled-read header marker frames slots b e spare same =
     let f : Fields = fieldsOf header in
-    let p : Plan = planIn copies header marker in
-    let r : Ready copies header marker (length frames) (length slots) = ready copies header marker (length frames) (length slots) e in
+    let p : Plan = planIn header marker in
+    let r : Ready header marker (length frames) (length slots) = ready header marker (length frames) (length slots) e in
     let c =
     pooled-good p (wordAt f frames) slots (r .fine)
     (λ j l. word-length (f .rate) (blockAt (f .rate) (streamOf f frames) j)) (λ j l. word-bytes (f .rate) (blockAt (f .rate) (streamOf f frames) j)) spare same in
     let word : ℕ → List ℕ = wordOut p slots in
-    let agree : (j : ℕ) → j < quantities.blockCount f → word j ≡ wordAt f frames j = λ j l. c .1 j (omega (arith, words-are copies header marker)) in
+    let agree : (j : ℕ) → j < quantities.blockCount f → word j ≡ wordAt f frames j = λ j l. c .1 j (omega (arith, words-are header marker)) in
     let w : wordsSay f word ≡ Done = words-pass f (r .valid) frames (r .frames-are) b word agree in
     let t = frames-pass f (r .valid) frames (r .frames-are) b word agree in
     (rw (e, c .0, w) (t .0), t .1)
 
 -- If frames are written to a slot buffer, the reader accepts that buffer and returns those frames.
-pub written-read : (copies : ℕ) (header marker frames : List ℕ) (n : ℕ) → Bytes frames → writeSays copies header marker frames n ≡ Done
-    → (readSays copies header marker (runOf copies header marker frames) (length frames) ≡ Done) × (framesRead copies header marker (runOf copies header marker frames) ≡ frames)
+pub written-read : (header marker frames : List ℕ) (n : ℕ) → Bytes frames → writeSays header marker frames n ≡ Done
+    → (readSays header marker (runOf header marker frames) (length frames) ≡ Done) × (framesRead header marker (runOf header marker frames) ≡ frames)
 unfolding writeSays runOf
-written-read copies header marker frames n b e =
+written-read header marker frames n b e =
     let f : Fields = fieldsOf header in
-    let p : Plan = planIn copies header marker in
-    let r : Ready copies header marker (length frames) n = ready copies header marker (length frames) n e in
+    let p : Plan = planIn header marker in
+    let r : Ready header marker (length frames) n = ready header marker (length frames) n e in
     let word : ℕ → List ℕ = wordAt f frames in
-    pooled-read copies header marker frames (slotsOf p word) b
-    (let-in copies header marker (length frames) n (length frames) (length (slotsOf p word)) e (r .frames-are) (length-slots p word))
+    pooled-read header marker frames (slotsOf p word) b
+    (let-in header marker (length frames) n (length frames) (length (slotsOf p word)) e (r .frames-are) (length-slots p word))
     (pass-spare p (r .fine) word) (read-slots p (r .fine) word)
 
 -- If the reader accepts a slot buffer with some frames, the writer accepts those frames, the buffer's pooled symbols are those of their run, and no spare
 -- bit is set.
-pub read-pooled : (copies : ℕ) (header marker slots : List ℕ) (n : ℕ) → readSays copies header marker slots n ≡ Done
-    → (writeSays copies header marker (framesRead copies header marker slots) (length slots) ≡ Done)
-    × (spareEmpty (planIn copies header marker) slots ≡ true)
-    × PoolsTo copies header marker slots (framesRead copies header marker slots)
+pub read-pooled : (header marker slots : List ℕ) (n : ℕ) → readSays header marker slots n ≡ Done
+    → (writeSays header marker (framesRead header marker slots) (length slots) ≡ Done)
+    × (spareEmpty (planIn header marker) slots ≡ true)
+    × PoolsTo header marker slots (framesRead header marker slots)
 unfolding writeSays readSays bufferSays framesRead
-read-pooled copies header marker slots n e =
+read-pooled header marker slots n e =
     let f : Fields = fieldsOf header in
-    let p : Plan = planIn copies header marker in
+    let p : Plan = planIn header marker in
     let word : ℕ → List ℕ = wordOut p slots in
-    let d1 = then-done (callSays copies header marker n (length slots)) (bufferSays f p slots) e in
+    let d1 = then-done (callSays header marker n (length slots)) (bufferSays f p slots) e in
     let d9 = then-done (slotsSay p slots) _ (d1 .1) in
     let d13 = then-done (wordsSay f word) (streamSays f word) (d9 .1) in
-    let r : Ready copies header marker n (length slots) = ready copies header marker n (length slots) (d1 .0) in
+    let r : Ready header marker n (length slots) = ready header marker n (length slots) (d1 .0) in
     let c = good-pooled p slots (r .fine) (d9 .0) in
     let again : (j : ℕ) → j < p .words → wordAt f (framesOf f word) j ≡ word j = λ j l.
-    word-again f (r .valid) word (word-out-bytes p slots) (d13 .0) (d13 .1) j (omega (arith, words-are copies header marker)) in (
-      let-in copies header marker n (length slots) (length (framesOf f word)) (length slots) (d1 .0) (frames-long f word) (r .slots-are),
+    word-again f (r .valid) word (word-out-bytes p slots) (d13 .0) (d13 .1) j (omega (arith, words-are header marker)) in (
+      let-in header marker n (length slots) (length (framesOf f word)) (length slots) (d1 .0) (frames-long f word) (r .slots-are),
       c .0,
       λ s l. c .1 s l ∙ sym (symbol-same p (wordAt f (framesOf f word)) word again s),
     )
 
 -- If the reader accepts a slot buffer in which each symbol is sent once, the writer writes that very buffer for the frames that it gives.
-pub read-written : (copies : ℕ) → copies ≡ 1 → (header marker slots : List ℕ) (n : ℕ) → Bytes slots → readSays copies header marker slots n ≡ Done
-    → (writeSays copies header marker (framesRead copies header marker slots) (length slots) ≡ Done) × (runOf copies header marker (framesRead copies header marker slots) ≡ slots)
-unfolding readSays bufferSays runOf framesRead planOf
-read-written copies one header marker slots n b e =
+pub read-written : (header marker slots : List ℕ) (n : ℕ) → fieldsOf header .copies ≡ 1 → Bytes slots → readSays header marker slots n ≡ Done
+    → (writeSays header marker (framesRead header marker slots) (length slots) ≡ Done) × (runOf header marker (framesRead header marker slots) ≡ slots)
+unfolding readSays bufferSays runOf framesRead planOf parametersOf
+read-written header marker slots n one b e =
     let f : Fields = fieldsOf header in
-    let p : Plan = planIn copies header marker in
+    let p : Plan = planIn header marker in
     let word : ℕ → List ℕ = wordOut p slots in
-    let d1 = then-done (callSays copies header marker n (length slots)) (bufferSays f p slots) e in
+    let d1 = then-done (callSays header marker n (length slots)) (bufferSays f p slots) e in
     let d9 = then-done (slotsSay p slots) _ (d1 .1) in
     let d13 = then-done (wordsSay f word) (streamSays f word) (d9 .1) in
-    let r : Ready copies header marker n (length slots) = ready copies header marker n (length slots) (d1 .0) in (
-      read-pooled copies header marker slots n e .0,
+    let r : Ready header marker n (length slots) = ready header marker n (length slots) (d1 .0) in (
+      read-pooled header marker slots n e .0,
       slots-same p (wordAt f (framesOf f word)) word (λ j l.
-          word-again f (r .valid) word (word-out-bytes p slots) (d13 .0) (d13 .1) j (omega (arith, words-are copies header marker)))
+          word-again f (r .valid) word (word-out-bytes p slots) (d13 .0) (d13 .1) j (omega (arith, words-are header marker)))
           ∙ good-captured p slots (r .fine) one (r .slots-are) b (d9 .0),
     )
 
 -- The first symbol that its copies do not decide is the place of question 10.
-pub undecided-place : (copies : ℕ) (header marker slots : List ℕ) (n s : ℕ) → callSays copies header marker n (length slots) ≡ Done
-    → spareEmpty (planIn copies header marker) slots ≡ true → s < symbolCount (planIn copies header marker)
-    → ((i : ℕ) → i < s → pooledIn (planIn copies header marker) slots i < planIn copies header marker .order)
-    → planIn copies header marker .order ≤ pooledIn (planIn copies header marker) slots s
-    → readSays copies header marker slots n ≡ No 10 s
+pub undecided-place : (header marker slots : List ℕ) (n s : ℕ) → callSays header marker n (length slots) ≡ Done
+    → spareEmpty (planIn header marker) slots ≡ true → s < symbolCount (planIn header marker)
+    → ((i : ℕ) → i < s → pooledIn (planIn header marker) slots i < planIn header marker .order)
+    → planIn header marker .order ≤ pooledIn (planIn header marker) slots s
+    → readSays header marker slots n ≡ No 10 s
 unfolding readSays bufferSays firstUndecided
-undecided-place copies header marker slots n s e spare l before bad =
-    let p : Plan = planIn copies header marker in
+undecided-place header marker slots n s e spare l before bad =
+    let p : Plan = planIn header marker in
     let first : firstBadGroup p slots ≡ s =
     found-at (decidedIn p slots) 0 (symbolCount p) s (omega arith) l (λ i a k. lt-ltb (pooledIn p slots i) (p .order) (before i k)) (le-ltb (pooledIn p slots s) (p .order) bad) in
     let said : No 10 s ≡ slotsSay p slots = say-group p slots spare s (sym first) (λ q. omega arith) in
@@ -202,9 +202,9 @@ undecided-place copies header marker slots n s e spare l before bad =
 
 -- ---- the answers fit the number that C gets
 
-pub write-fits : (copies : ℕ) (header marker frames : List ℕ) (n : ℕ) → Fits (writeSays copies header marker frames n)
+pub write-fits : (header marker frames : List ℕ) (n : ℕ) → Fits (writeSays header marker frames n)
 unfolding writeSays
-write-fits copies header marker frames n = call-fits copies header marker (length frames) n
+write-fits header marker frames n = call-fits header marker (length frames) n
 
 buffer-fits : (f : Fields) (p : Plan) (slots : List ℕ) → Valid f → Fine p → Fits (bufferSays f p slots)
 unfolding bufferSays wordsSay wordSays streamSays
@@ -216,8 +216,8 @@ buffer-fits f p slots v fine =
     (λ e. fits-then (wordsSay f word) (streamSays f word) (fits-order (quantities.blockCount f) (wordSays f word) (omega arith) (λ j. word-fits (f .rate) (word j) (blockBytes (f .rate))))
     (λ g. frames-fit (f .size) (f .frames) (quantities.blockCount f * infoBits (f .rate)) (streamIn f word) (omega arith)))
 
-pub read-fits : (copies : ℕ) (header marker slots : List ℕ) (n : ℕ) → Fits (readSays copies header marker slots n)
+pub read-fits : (header marker slots : List ℕ) (n : ℕ) → Fits (readSays header marker slots n)
 unfolding readSays
-read-fits copies header marker slots n =
-    fits-then (callSays copies header marker n (length slots)) (bufferSays (fieldsOf header) (planIn copies header marker) slots) (call-fits copies header marker n (length slots))
-    (λ e. let r = ready copies header marker n (length slots) e in buffer-fits (fieldsOf header) (planIn copies header marker) slots (r .valid) (r .fine))
+read-fits header marker slots n =
+    fits-then (callSays header marker n (length slots)) (bufferSays (fieldsOf header) (planIn header marker) slots) (call-fits header marker n (length slots))
+    (λ e. let r = ready header marker n (length slots) e in buffer-fits (fieldsOf header) (planIn header marker) slots (r .valid) (r .fine))

@@ -1,4 +1,4 @@
--- Runs: the slots of frames under a factor, a header and its marker symbols, the way back, and the questions in the specification's order (docs/SPECIFICATION.md).
+-- Runs: the slots of frames under a header and its marker symbols, the way back, and the questions in the specification's order (docs/SPECIFICATION.md).
 -- Words are known by the names of crate `word` alone: its definitions are not opened here.
 use mathlib.Core.Path.{_≡_}
 use mathlib.Core.List.{List}
@@ -32,8 +32,8 @@ unfoldable pub wordAt : Fields → List ℕ → ℕ → List ℕ
 wordAt f frames j = wordOf (f .rate) (blockAt (f .rate) (streamOf f frames) j)
 
 -- steps 8 to 10: the slots
-unfoldable pub runOf : ℕ → List ℕ → List ℕ → List ℕ → List ℕ
-runOf copies header marker frames = slotsOf (planIn copies header marker) (wordAt (fieldsOf header) frames)
+unfoldable pub runOf : List ℕ → List ℕ → List ℕ → List ℕ
+runOf header marker frames = slotsOf (planIn header marker) (wordAt (fieldsOf header) frames)
 
 -- ---- and back
 
@@ -44,13 +44,13 @@ streamIn f word = joined (f .rate) (λ j. blockIn (f .rate) (word j))
 unfoldable pub framesOf : Fields → (ℕ → List ℕ) → List ℕ
 framesOf f word = framesIn (f .size) (f .frames) (streamIn f word)
 
-unfoldable pub framesRead : ℕ → List ℕ → List ℕ → List ℕ → List ℕ
-framesRead copies header marker slots = framesOf (fieldsOf header) (wordOut (planIn copies header marker) slots)
+unfoldable pub framesRead : List ℕ → List ℕ → List ℕ → List ℕ
+framesRead header marker slots = framesOf (fieldsOf header) (wordOut (planIn header marker) slots)
 
 -- the pooled symbols in slots are those of the run of these frames
-abbrev pub PoolsTo : ℕ → List ℕ → List ℕ → List ℕ → List ℕ → Type 0
-PoolsTo copies header marker slots frames =
-    (s : ℕ) → s < symbolCount (planIn copies header marker) → pooledIn (planIn copies header marker) slots s ≡ symbolAt (planIn copies header marker) (wordAt (fieldsOf header) frames) s
+abbrev pub PoolsTo : List ℕ → List ℕ → List ℕ → List ℕ → Type 0
+PoolsTo header marker slots frames =
+    (s : ℕ) → s < symbolCount (planIn header marker) → pooledIn (planIn header marker) slots s ≡ symbolAt (planIn header marker) (wordAt (fieldsOf header) frames) s
 
 -- ---- the questions
 
@@ -70,9 +70,9 @@ unfoldable pub bufferSays : Fields → Plan → List ℕ → Answer
 bufferSays f p slots = then (slotsSay p slots) (then (wordsSay f (wordOut p slots)) (streamSays f (wordOut p slots)))
 
 -- the two calls: 1 to 7, 20 and 8, and the reader's own
-unfoldable pub writeSays : ℕ → List ℕ → List ℕ → List ℕ → ℕ → Answer
-writeSays copies header marker frames slotsLength = callSays copies header marker (length frames) slotsLength
+unfoldable pub writeSays : List ℕ → List ℕ → List ℕ → ℕ → Answer
+writeSays header marker frames slotsLength = callSays header marker (length frames) slotsLength
 
-unfoldable pub readSays : ℕ → List ℕ → List ℕ → List ℕ → ℕ → Answer
-readSays copies header marker slots framesLength =
-    then (callSays copies header marker framesLength (length slots)) (bufferSays (fieldsOf header) (planIn copies header marker) slots)
+unfoldable pub readSays : List ℕ → List ℕ → List ℕ → ℕ → Answer
+readSays header marker slots framesLength =
+    then (callSays header marker framesLength (length slots)) (bufferSays (fieldsOf header) (planIn header marker) slots)

@@ -1,4 +1,4 @@
--- The run's steps and questions under one roof, in the specification's order (docs/SPECIFICATION.md). Each is the definition of the crate that has it, for a factor, a header and its marker symbols; the laws say how each is made of the one before, and that a run and the reader's answer are made of these and nothing else.
+-- The run's steps and questions under one roof, in the specification's order (docs/SPECIFICATION.md). Each is the definition of the crate that has it, for a header and its marker symbols; the laws say how each is made of the one before, and that a run and the reader's answer are made of these and nothing else.
 use mathlib.Core.Path.{_≡_, refl, sym, ap, _∙_}
 use mathlib.Core.List.{List}
 use Prim.Native.Nat.{ℕ, _+_, _*_, _/_, _%_, _≤_, _<_}
@@ -16,10 +16,10 @@ use Rattle.word.specs.Word.{wordOf}
 use Rattle.header.specs.Header.{fieldsOf}
 use Rattle.quantities.specs.Quantities as quantities
 use Rattle.header.specs.declared.Fields.{Fields}
-use Rattle.questions.specs.Questions.{question1, question2, question3, question4, question5, question6, question7, fieldsSay, headerSays}
-use Rattle.parameters.specs.Marks.{marksGood, runSays}
+use Rattle.questions.specs.Questions.{question1, question2, question3, question4, question5, question6, question7, question20, fieldsSay, formSays}
+use Rattle.parameters.specs.Marks.{marksGood, runSays, parametersOf}
 use Rattle.plan.specs.declared.Plan.{Plan}
-use Rattle.plan.specs.Lengths.{copiesGood, lengthsRight, callSays}
+use Rattle.plan.specs.Lengths.{lengthsRight, callSays}
 use Rattle.plan.specs.Plan.{planOf, planIn, unit, total, symbolCount, sent, slotBytes}
 use Rattle.stream.specs.Stream.{streamBit, blockAt}
 use Rattle.stream.specs.Laws.{stream-bits, block-bit}
@@ -34,7 +34,7 @@ use Rattle.capture.specs.Capture.{spareEmpty, firstBadGroup, firstBadMark, firs
 use Rattle.capture.specs.Answer.{slotsSay}
 use Rattle.run.specs.Run.{streamOf, wordAt, runOf, streamIn, wordsSay, streamSays, bufferSays}
 
-module _ (copies : ℕ) (header marker frames : List ℕ) where
+module _ (header marker frames : List ℕ) where
   -- step 1: bit x of the marked frames and the fill behind them; block j, packed
   abbrev pub step1 : ℕ → ℕ
   step1 x = streamBit (fieldsOf header .size) (fieldsOf header .frames) frames x
@@ -48,27 +48,27 @@ module _ (copies : ℕ) (header marker frames : List ℕ) where
 
   -- step 8: symbol t of all words
   abbrev pub step8 : ℕ → ℕ
-  step8 t = dataAt (planIn copies header marker) word t
+  step8 t = dataAt (planIn header marker) word t
 
   -- step 9: the place of symbol t, the symbol that hits a place, and what stands there
   abbrev pub step9 : ℕ → ℕ
-  step9 t = place (planIn copies header marker) t
+  step9 t = place (planIn header marker) t
 
   abbrev pub hit : ℕ → ℕ
-  hit x = hitBy (planIn copies header marker) x
+  hit x = hitBy (planIn header marker) x
 
   abbrev pub standing : ℕ → ℕ
-  standing x = placed (planIn copies header marker) word x
+  standing x = placed (planIn header marker) word x
 
   -- step 10: symbol s with markers counted, and slot x
   abbrev pub step10 : ℕ → ℕ
-  step10 s = symbolAt (planIn copies header marker) word s
+  step10 s = symbolAt (planIn header marker) word s
 
   abbrev pub slot : ℕ → ℕ
-  slot x = slotBit (planIn copies header marker) word x
+  slot x = slotBit (planIn header marker) word x
 
   -- a run is these slots, packed
-  pub run-is : runOf copies header marker frames ≡ bytesOf (slotBytes (planIn copies header marker)) slot
+  pub run-is : runOf header marker frames ≡ bytesOf (slotBytes (planIn header marker)) slot
   unfolding runOf slotsOf pulses.slotsOf wordAt streamOf
   run-is = refl
 
@@ -80,48 +80,48 @@ module _ (copies : ℕ) (header marker frames : List ℕ) where
 
   -- symbol t is m bits of word t / S, the first bit highest
   pub symbol-is : (t : ℕ)
-      → step8 t ≡ val (λ i. bitAt (word (t / planIn copies header marker .symbols)) (planIn copies header marker .bits * (t % planIn copies header marker .symbols) + i)) (planIn copies header marker .bits)
+      → step8 t ≡ val (λ i. bitAt (word (t / planIn header marker .symbols)) (planIn header marker .bits * (t % planIn header marker .symbols) + i)) (planIn header marker .bits)
   unfolding channel.dataAt
   symbol-is t = refl
 
   -- symbol t stands at its place, and 0 where no symbol's place is
-  pub standing-is : (t : ℕ) → t < total (planIn copies header marker) → standing (step9 t) ≡ step8 t
+  pub standing-is : (t : ℕ) → t < total (planIn header marker) → standing (step9 t) ≡ step8 t
   standing-is t l =
-      let p : Plan = planIn copies header marker in
+      let p : Plan = planIn header marker in
       let e : hit (step9 t) ≡ t = hit-place (p .rows) (p .step) (total p) t l in
       placed-hit (p .rows) (p .step) (total p) step8 (step9 t) (rw e l) ∙ ap step8 e
 
-  pub standing-none : (x : ℕ) → ((t : ℕ) → t < total (planIn copies header marker) → step9 t ≡ x → ⊥) → standing x ≡ 0
+  pub standing-none : (x : ℕ) → ((t : ℕ) → t < total (planIn header marker) → step9 t ≡ x → ⊥) → standing x ≡ 0
   standing-none x none =
-      let p : Plan = planIn copies header marker in
+      let p : Plan = planIn header marker in
       let e : hit x ≡ total p = hit-none (p .rows) (p .step) (total p) x none in
       placed-rest (p .rows) (p .step) (total p) step8 x (rw e (le-refl (total p)))
 
   -- of every W + S symbols the first W are the marker symbols, and the others stand at S places in a row
-  pub marker-is : (line w : ℕ) → w < planIn copies header marker .markers → step10 (line * unit (planIn copies header marker) + w) ≡ getD (planIn copies header marker .marks) w 0
-  marker-is line w l = let p : Plan = planIn copies header marker in line-mark (p .symbols) (p .markers) (p .marks) standing line w l
+  pub marker-is : (line w : ℕ) → w < planIn header marker .markers → step10 (line * unit (planIn header marker) + w) ≡ getD (planIn header marker .marks) w 0
+  marker-is line w l = let p : Plan = planIn header marker in line-mark (p .symbols) (p .markers) (p .marks) standing line w l
 
-  pub place-is : (line k : ℕ) → k < planIn copies header marker .symbols → step10 (line * unit (planIn copies header marker) + (planIn copies header marker .markers + k)) ≡ standing (line * planIn copies header marker .symbols + k)
-  place-is line k l = let p : Plan = planIn copies header marker in line-place (p .symbols) (p .markers) (p .marks) standing line k l
+  pub place-is : (line k : ℕ) → k < planIn header marker .symbols → step10 (line * unit (planIn header marker) + (planIn header marker .markers + k)) ≡ standing (line * planIn header marker .symbols + k)
+  place-is line k l = let p : Plan = planIn header marker in line-place (p .symbols) (p .markers) (p .marks) standing line k l
 
-  copies-are : planIn copies header marker .copies ≡ copies
-  unfolding planOf
+  copies-are : planIn header marker .copies ≡ fieldsOf header .copies
+  unfolding planOf parametersOf
   copies-are = refl
 
   -- slot r of copy c of symbol s has a pulse if it is the symbol, and there is none behind the last copy
-  pub slot-is : (s c r : ℕ) → s < symbolCount (planIn copies header marker) → c < copies → r < planIn copies header marker .group
-      → slot ((s * copies + c) * planIn copies header marker .group + r) ≡ bool (eqb r (step10 s))
+  pub slot-is : (s c r : ℕ) → s < symbolCount (planIn header marker) → c < fieldsOf header .copies → r < planIn header marker .group
+      → slot ((s * fieldsOf header .copies + c) * planIn header marker .group + r) ≡ bool (eqb r (step10 s))
   slot-is s c r h k l =
-      let p : Plan = planIn copies header marker in
+      let p : Plan = planIn header marker in
       let k' : c < p .copies = let e = copies-are in omega arith in
       ap (λ (n : ℕ). slot ((s * n + c) * p .group + r)) (sym copies-are)
       ∙ slot-in (p .group) (sent p) (sentAt p word) (s * p .copies + c) r l (digits-lt h k')
       ∙ ap (λ (u : ℕ). bool (eqb r (step10 u))) (digits-div s k')
 
-  pub slot-none : (x : ℕ) → symbolCount (planIn copies header marker) * copies ≤ x / planIn copies header marker .group → slot x ≡ 0
+  pub slot-none : (x : ℕ) → symbolCount (planIn header marker) * fieldsOf header .copies ≤ x / planIn header marker .group → slot x ≡ 0
   slot-none x h =
-      let p : Plan = planIn copies header marker in
-      let e : sent p ≡ symbolCount p * copies = ap (λ (n : ℕ). symbolCount p * n) copies-are in
+      let p : Plan = planIn header marker in
+      let e : sent p ≡ symbolCount p * fieldsOf header .copies = ap (λ (n : ℕ). symbolCount p * n) copies-are in
       slot-past (p .group) (sent p) (sentAt p word) x (omega arith)
 
 -- the reader's questions about slots of the right length, one after another; the first no is the answer
@@ -145,8 +145,8 @@ asked-in-order f p b =
         ∙ ap (then k) (then-then l (then m n) rest ∙ ap (then l) (then-then m n rest))
 
 -- questions 1 to 7, 20 and 8, which both calls put first: 7 is asked of W, and then of the marker symbols
-pub called-in-order : (copies : ℕ) (header marker : List ℕ) (n s : ℕ)
-    → callSays copies header marker n s
+pub called-in-order : (header marker : List ℕ) (n s : ℕ)
+    → callSays header marker n s
     ≡ then (ask (question1 header) 1 0)
     (then (ask (question2 (fieldsOf header)) 2 0)
     (then (ask (question3 (fieldsOf header)) 3 0)
@@ -155,20 +155,20 @@ pub called-in-order : (copies : ℕ) (header marker : List ℕ) (n s : ℕ)
     (then (ask (question6 (fieldsOf header)) 6 0)
     (then (ask (question7 (fieldsOf header)) 7 0)
     (then (ask (marksGood (fieldsOf header) marker) 7 0)
-    (then (ask (copiesGood copies) 20 0)
-    (ask (lengthsRight copies (fieldsOf header) (length marker) n s) 8 0)))))))))
-unfolding callSays runSays headerSays fieldsSay
-called-in-order copies header marker n s =
+    (then (ask (question20 (fieldsOf header)) 20 0)
+    (ask (lengthsRight (fieldsOf header) (length marker) n s) 8 0)))))))))
+unfolding callSays runSays formSays fieldsSay
+called-in-order header marker n s =
     let f : Fields = fieldsOf header in
     flat (ask (question1 header) 1 0) (ask (question2 f) 2 0) (ask (question3 f) 3 0) (ask (question4 f) 4 0) (ask (question5 f) 5 0) (ask (question6 f) 6 0) (ask (question7 f) 7 0)
-    (ask (marksGood f marker) 7 0) (then (ask (copiesGood copies) 20 0) (ask (lengthsRight copies f (length marker) n s) 8 0))
+    (ask (marksGood f marker) 7 0) (ask (question20 f) 20 0) (ask (lengthsRight f (length marker) n s) 8 0)
   where
-    flat : (a b c d e f g h rest : Answer)
-        → then (then (then a (then b (then c (then d (then e (then f g)))))) h) rest ≡ then a (then b (then c (then d (then e (then f (then g (then h rest)))))))
-    flat a b c d e f g h rest =
+    flat : (a b c d e f g h k rest : Answer)
+        → then (then (then a (then b (then c (then d (then e (then f g)))))) (then h k)) rest ≡ then a (then b (then c (then d (then e (then f (then g (then h (then k rest))))))))
+    flat a b c d e f g h k rest =
         let r1 : Answer = then b (then c (then d (then e (then f g)))) in
         let r2 : Answer = then c (then d (then e (then f g))) in
         let r3 : Answer = then d (then e (then f g)) in
-        let last : Answer = then h rest in
-        then-then (then a r1) h rest ∙ then-then a r1 last
+        let last : Answer = then h (then k rest) in
+        then-then (then a r1) (then h k) rest ∙ ap (then (then a r1)) (then-then h k rest) ∙ then-then a r1 last
         ∙ ap (then a) (then-then b r2 last ∙ ap (then b) (then-then c r3 last ∙ ap (then c) (then-then d (then e (then f g)) last ∙ ap (then d) (then-then e (then f g) last ∙ ap (then e) (then-then f g last)))))

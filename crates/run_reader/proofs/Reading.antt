@@ -90,12 +90,12 @@ words-same f word other h =
     order-same (blockCount f) (wordSays f word) (wordSays f other) (λ j l. ap (λ (x : List ℕ). wordReads (f .rate) x (blockBytes (f .rate))) (h j l))
 
 -- a plan that is the header's
-module _ (copies : ℕ) (q : Parameters) (p : Plan) (ep : p ≡ planOf copies q) (slots : List ℕ) where
-  pub plan-captured : {n : ℕ} → Entered copies q n (length slots) → Captured p slots
+module _ (q : Parameters) (p : Plan) (ep : p ≡ planOf q) (slots : List ℕ) where
+  pub plan-captured : {n : ℕ} → Entered q n (length slots) → Captured p slots
   plan-captured r = rw ep (record { fine = r .fine; long = r .slots-are })
 
   plan-count : p .words ≡ blockCount (q .fields)
-  plan-count = ap (λ (x : Plan). x .words) ep ∙ plan-words copies q
+  plan-count = ap (λ (x : Plan). x .words) ep ∙ plan-words q
 
   pub plan-cleared : (words : List ℕ) → blockCount (q .fields) * wordBytes < length words → ((k : ℕ) → getD words k 0 ≡ 0) → Cleared p words
   plan-cleared words fits empty = record { room = let e = plan-count in omega arith; empty = empty }
@@ -105,28 +105,28 @@ module _ (copies : ℕ) (q : Parameters) (p : Plan) (ep : p ≡ planOf copies q)
   plan-taken words h j l = h j (let e = plan-count in omega arith)
 
   -- a refusal by questions 9 to 12
-  pub buffer-slots : (a : Answer) → a ≡ slotsSay p slots → Refusal a → a ≡ bufferSays (q .fields) (planOf copies q) slots
+  pub buffer-slots : (a : Answer) → a ≡ slotsSay p slots → Refusal a → a ≡ bufferSays (q .fields) (planOf q) slots
   unfolding bufferSays
   buffer-slots a ea t =
-      let rest : Answer = then (wordsSay (q .fields) (wordOut (planOf copies q) slots)) (streamSays (q .fields) (wordOut (planOf copies q) slots)) in
+      let rest : Answer = then (wordsSay (q .fields) (wordOut (planOf q) slots)) (streamSays (q .fields) (wordOut (planOf q) slots)) in
       stands a rest t ∙ ap (λ (x : Answer). then x rest) (ea ∙ ap (λ (x : Plan). slotsSay x slots) ep)
 
   module _ (good : slotsSay p slots ≡ Done) where
-    good-plan : slotsSay (planOf copies q) slots ≡ Done
+    good-plan : slotsSay (planOf q) slots ≡ Done
     good-plan = ap (λ (x : Plan). slotsSay x slots) (sym ep) ∙ good
 
     -- by 13 to 15
-    pub buffer-words : (w : Answer) → w ≡ wordsSay (q .fields) (wordOut p slots) → Refusal w → w ≡ bufferSays (q .fields) (planOf copies q) slots
+    pub buffer-words : (w : Answer) → w ≡ wordsSay (q .fields) (wordOut p slots) → Refusal w → w ≡ bufferSays (q .fields) (planOf q) slots
     unfolding bufferSays
     buffer-words w ew t =
-        let rest : Answer = streamSays (q .fields) (wordOut (planOf copies q) slots) in
+        let rest : Answer = streamSays (q .fields) (wordOut (planOf q) slots) in
         stands w rest t ∙ ap (λ (x : Answer). then x rest) (ew ∙ ap (λ (x : Plan). wordsSay (q .fields) (wordOut x slots)) ep)
         ∙ sym (rw good-plan refl)
 
     -- the blocks that were read
     module _ (v : Valid (q .fields)) (said : wordsSay (q .fields) (wordOut p slots) ≡ Done) (blocks : List ℕ)
         (are : (j : ℕ) → j < blockCount (q .fields) → piece (blockBytes (q .fields .rate)) blocks j ≡ blockIn (q .fields .rate) (wordOut p slots j)) where
-      agree : (x : ℕ) → x < blockCount (q .fields) * infoBits (q .fields .rate) → joined (q .fields .rate) (piece (blockBytes (q .fields .rate)) blocks) x ≡ streamIn (q .fields) (wordOut (planOf copies q) slots) x
+      agree : (x : ℕ) → x < blockCount (q .fields) * infoBits (q .fields .rate) → joined (q .fields .rate) (piece (blockBytes (q .fields .rate)) blocks) x ≡ streamIn (q .fields) (wordOut (planOf q) slots) x
       unfolding streamIn
       agree x l =
           joined-same (q .fields .rate) (blockCount (q .fields)) (piece (blockBytes (q .fields .rate)) blocks) (λ j. blockIn (q .fields .rate) (wordOut p slots j)) are x l
@@ -135,13 +135,13 @@ module _ (copies : ℕ) (q : Parameters) (p : Plan) (ep : p ≡ planOf copies q)
       -- by 16 and 18, or accepted
       pub buffer-frames : (r : Answer)
           → r ≡ framesSay (q .fields .size) (q .fields .frames) (blockCount (q .fields) * infoBits (q .fields .rate)) (joined (q .fields .rate) (piece (blockBytes (q .fields .rate)) blocks))
-          → r ≡ bufferSays (q .fields) (planOf copies q) slots
+          → r ≡ bufferSays (q .fields) (planOf q) slots
       unfolding bufferSays streamSays
       buffer-frames r e =
-          let words : wordsSay (q .fields) (wordOut (planOf copies q) slots) ≡ Done = ap (λ (x : Plan). wordsSay (q .fields) (wordOut x slots)) (sym ep) ∙ said in
+          let words : wordsSay (q .fields) (wordOut (planOf q) slots) ≡ Done = ap (λ (x : Plan). wordsSay (q .fields) (wordOut x slots)) (sym ep) ∙ said in
           e ∙ say-same (q .fields .size) (q .fields .frames) (blockCount (q .fields) * infoBits (q .fields .rate)) (v .size-least) (fit (q .fields) v) _ _ agree
           ∙ sym (rw (good-plan, words) refl)
 
-      pub frames-out : framesIn (q .fields .size) (q .fields .frames) (joined (q .fields .rate) (piece (blockBytes (q .fields .rate)) blocks)) ≡ framesOf (q .fields) (wordOut (planOf copies q) slots)
+      pub frames-out : framesIn (q .fields .size) (q .fields .frames) (joined (q .fields .rate) (piece (blockBytes (q .fields .rate)) blocks)) ≡ framesOf (q .fields) (wordOut (planOf q) slots)
       unfolding framesOf
       frames-out = in-same (q .fields .size) (q .fields .frames) (blockCount (q .fields) * infoBits (q .fields .rate)) (v .size-least) (fit (q .fields) v) _ _ agree

@@ -24,8 +24,8 @@ pub record ReadsWords (f : Fields) (words blocks : List ℕ) : Type 0 where
   pub blocks-fit : blockCount f * blockBytes (f .rate) ≤ length blocks
 
 -- reading the frames of a call that passed questions 1 to 7, 20 and 8, with room for the words that holds nothing yet
-pub record Reads (copies : ℕ) (q : Parameters) (slots words blocks frames : List ℕ) : Type 0 where
-  pub entered : Entered copies q (length frames) (length slots)
+pub record Reads (q : Parameters) (slots words blocks frames : List ℕ) : Type 0 where
+  pub entered : Entered q (length frames) (length slots)
   pub words-fit : blockCount (q .fields) * wordBytes < length words
   pub empty : (k : ℕ) → getD words k 0 ≡ 0
   pub blocks-fit : blockCount (q .fields) * blockBytes (q .fields .rate) ≤ length blocks

@@ -74,19 +74,18 @@ fn finish(f: Fields, blocks: &[u8], frames: &mut [u8]) -> Answer
 // The questions put to slots of the right length, and the frames. `words` and `blocks` are room for
 // all words and for all blocks.
 fn read_in(
-    copies: usize,
     q: Parameters,
     slots: &[u8],
     words: &mut [u8],
     blocks: &mut [u8],
     frames: &mut [u8],
 ) -> Answer
-    requires { ⌜ Reads copies q (now slots) (now words) (now blocks) (now frames) ⌝ }
-    ensures { λ r. ⌜ r ≡ bufferSays (q .fields) (planOf copies q) (now (slots .entry)) ⌝ }
-    ensures { λ r. ⌜ now (frames .exit) ≡ after r (framesOf (q .fields) (wordOut (planOf copies q) (now (slots .entry)))) (now (frames .entry)) ⌝ }
+    requires { ⌜ Reads q (now slots) (now words) (now blocks) (now frames) ⌝ }
+    ensures { λ r. ⌜ r ≡ bufferSays (q .fields) (planOf q) (now (slots .entry)) ⌝ }
+    ensures { λ r. ⌜ now (frames .exit) ≡ after r (framesOf (q .fields) (wordOut (planOf q) (now (slots .entry)))) (now (frames .entry)) ⌝ }
 {
     let f = q.fields;
-    let found = capture::judge(plan::plan_of(copies, q), slots, words);
+    let found = capture::judge(plan::plan_of(q), slots, words);
     let Answer::Done = found else {
         return found;
     };
@@ -98,49 +97,49 @@ fn read_in(
 }
 
 // With room for as many words and blocks as a run can have.
-fn read_many(copies: usize, q: Parameters, slots: &[u8], frames: &mut [u8]) -> Answer
-    requires { ⌜ Entered copies q (length (now frames)) (length (now slots)) ⌝ }
-    ensures { λ r. ⌜ r ≡ bufferSays (q .fields) (planOf copies q) (now (slots .entry)) ⌝ }
-    ensures { λ r. ⌜ now (frames .exit) ≡ after r (framesOf (q .fields) (wordOut (planOf copies q) (now (slots .entry)))) (now (frames .entry)) ⌝ }
+fn read_many(q: Parameters, slots: &[u8], frames: &mut [u8]) -> Answer
+    requires { ⌜ Entered q (length (now frames)) (length (now slots)) ⌝ }
+    ensures { λ r. ⌜ r ≡ bufferSays (q .fields) (planOf q) (now (slots .entry)) ⌝ }
+    ensures { λ r. ⌜ now (frames .exit) ≡ after r (framesOf (q .fields) (wordOut (planOf q) (now (slots .entry)))) (now (frames .entry)) ⌝ }
 {
     let mut words = [0u8; 396901];
     let mut blocks = [0u8; 131880];
-    read_in(copies, q, slots, &mut words, &mut blocks, frames)
+    read_in(q, slots, &mut words, &mut blocks, frames)
 }
 
 // With room for sixteen, of which little has to be cleared.
-fn read_few(copies: usize, q: Parameters, slots: &[u8], frames: &mut [u8]) -> Answer
-    requires { ⌜ Entered copies q (length (now frames)) (length (now slots)) × (blockCount (q .fields) ≤ 16) ⌝ }
-    ensures { λ r. ⌜ r ≡ bufferSays (q .fields) (planOf copies q) (now (slots .entry)) ⌝ }
-    ensures { λ r. ⌜ now (frames .exit) ≡ after r (framesOf (q .fields) (wordOut (planOf copies q) (now (slots .entry)))) (now (frames .entry)) ⌝ }
+fn read_few(q: Parameters, slots: &[u8], frames: &mut [u8]) -> Answer
+    requires { ⌜ Entered q (length (now frames)) (length (now slots)) × (blockCount (q .fields) ≤ 16) ⌝ }
+    ensures { λ r. ⌜ r ≡ bufferSays (q .fields) (planOf q) (now (slots .entry)) ⌝ }
+    ensures { λ r. ⌜ now (frames .exit) ≡ after r (framesOf (q .fields) (wordOut (planOf q) (now (slots .entry)))) (now (frames .entry)) ⌝ }
 {
     let mut words = [0u8; 30241];
     let mut blocks = [0u8; 20096];
-    read_in(copies, q, slots, &mut words, &mut blocks, frames)
+    read_in(q, slots, &mut words, &mut blocks, frames)
 }
 
 // With room for the words and the blocks.
-fn read_with(copies: usize, q: Parameters, slots: &[u8], frames: &mut [u8]) -> Answer
-    requires { ⌜ Entered copies q (length (now frames)) (length (now slots)) ⌝ }
-    ensures { λ r. ⌜ r ≡ bufferSays (q .fields) (planOf copies q) (now (slots .entry)) ⌝ }
-    ensures { λ r. ⌜ now (frames .exit) ≡ after r (framesOf (q .fields) (wordOut (planOf copies q) (now (slots .entry)))) (now (frames .entry)) ⌝ }
+fn read_with(q: Parameters, slots: &[u8], frames: &mut [u8]) -> Answer
+    requires { ⌜ Entered q (length (now frames)) (length (now slots)) ⌝ }
+    ensures { λ r. ⌜ r ≡ bufferSays (q .fields) (planOf q) (now (slots .entry)) ⌝ }
+    ensures { λ r. ⌜ now (frames .exit) ≡ after r (framesOf (q .fields) (wordOut (planOf q) (now (slots .entry)))) (now (frames .entry)) ⌝ }
 {
     let f = q.fields;
     if quantities::block_count(f) <= 16 {
-        return read_few(copies, q, slots, frames);
+        return read_few(q, slots, frames);
     }
-    read_many(copies, q, slots, frames)
+    read_many(q, slots, frames)
 }
 
 // Reads the frames of slots.
-pub fn read(copies: usize, header: &[u8], marker: &[u8], slots: &[u8], frames: &mut [u8]) -> Answer
-    ensures { λ r. ⌜ r ≡ readSays copies (now (header .entry)) (now (marker .entry)) (now (slots .entry)) (length (now (frames .entry))) ⌝ }
-    ensures { λ r. ⌜ now (frames .exit) ≡ after r (framesRead copies (now (header .entry)) (now (marker .entry)) (now (slots .entry))) (now (frames .entry)) ⌝ }
+pub fn read(header: &[u8], marker: &[u8], slots: &[u8], frames: &mut [u8]) -> Answer
+    ensures { λ r. ⌜ r ≡ readSays (now (header .entry)) (now (marker .entry)) (now (slots .entry)) (length (now (frames .entry))) ⌝ }
+    ensures { λ r. ⌜ now (frames .exit) ≡ after r (framesRead (now (header .entry)) (now (marker .entry)) (now (slots .entry))) (now (frames .entry)) ⌝ }
 {
-    let checked = plan::check(copies, header, marker, frames.len(), slots.len());
+    let checked = plan::check(header, marker, frames.len(), slots.len());
     let answer = checked.answer;
     let Answer::Done = answer else {
         return answer;
     };
-    read_with(copies, checked.parameters, slots, frames)
+    read_with(checked.parameters, slots, frames)
 }

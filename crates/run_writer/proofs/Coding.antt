@@ -46,14 +46,14 @@ frames-lent f v frames e =
     record { size1 = v .size-least; size2 = v .size-most; count1 = v .frames-least; count2 = v .frames-most; long = e }
 
 -- the plan, as steps 8 to 10 ask for it
-pub plan-lent : (copies : ℕ) (q : Parameters) (p : Plan) (words slots : List ℕ) → p ≡ planOf copies q → Fine (planOf copies q) → blockCount (q .fields) * wordBytes ≤ length words → length slots ≡ slotBytes (planOf copies q) → Lent p words slots
-plan-lent copies q p words slots e fine lw ls =
-    let enough : planOf copies q .words * wordBytes ≤ length words = omega (arith, plan-words copies q) in
+pub plan-lent : (q : Parameters) (p : Plan) (words slots : List ℕ) → p ≡ planOf q → Fine (planOf q) → blockCount (q .fields) * wordBytes ≤ length words → length slots ≡ slotBytes (planOf q) → Lent p words slots
+plan-lent q p words slots e fine lw ls =
+    let enough : planOf q .words * wordBytes ≤ length words = omega (arith, plan-words q) in
     rw e (record { given = record { fine = fine; long = enough }; room = ls })
 
 -- the slots of words that stand back to back
-pub slots-coded : (copies : ℕ) (q : Parameters) (p : Plan) (words frames slots : List ℕ) → p ≡ planOf copies q → ((j : ℕ) → j < blockCount (q .fields) → piece wordBytes words j ≡ wordAt (q .fields) frames j)
-    → slots ≡ slotsOf p (piece wordBytes words) → slots ≡ slotsOf (planOf copies q) (wordAt (q .fields) frames)
-slots-coded copies q p words frames slots e h s =
+pub slots-coded : (q : Parameters) (p : Plan) (words frames slots : List ℕ) → p ≡ planOf q → ((j : ℕ) → j < blockCount (q .fields) → piece wordBytes words j ≡ wordAt (q .fields) frames j)
+    → slots ≡ slotsOf p (piece wordBytes words) → slots ≡ slotsOf (planOf q) (wordAt (q .fields) frames)
+slots-coded q p words frames slots e h s =
     s ∙ ap (λ (x : Plan). slotsOf x (piece wordBytes words)) e
-    ∙ slots-same (planOf copies q) (piece wordBytes words) (wordAt (q .fields) frames) (λ j l. h j (omega (arith, plan-words copies q)))
+    ∙ slots-same (planOf q) (piece wordBytes words) (wordAt (q .fields) frames) (λ j l. h j (omega (arith, plan-words q)))

@@ -26,7 +26,7 @@ pub record CodesAll (f : Fields) (frames space words : List ℕ) : Type 0 where
   pub words-fit : blockCount f * wordBytes ≤ length words
 
 -- writing the slots of a call that passed questions 1 to 7, 20 and 8, with room for the words
-pub record Writes (copies : ℕ) (q : Parameters) (frames space words slots : List ℕ) : Type 0 where
-  pub entered : Entered copies q (length frames) (length slots)
+pub record Writes (q : Parameters) (frames space words slots : List ℕ) : Type 0 where
+  pub entered : Entered q (length frames) (length slots)
   pub space-is : length space ≡ 1256
   pub words-fit : blockCount (q .fields) * wordBytes ≤ length words

@@ -43,65 +43,58 @@ fn code_words(f: Fields, frames: &[u8], space: &mut [u8], words: &mut [u8])
     }
 }
 
-fn write_in(
-    copies: usize,
-    q: Parameters,
-    frames: &[u8],
-    space: &mut [u8],
-    words: &mut [u8],
-    slots: &mut [u8],
-)
-    requires { ⌜ Writes copies q (now frames) (now space) (now words) (now slots) ⌝ }
-    ensures { λ _. ⌜ now (slots .exit) ≡ slotsOf (planOf copies q) (wordAt (q .fields) (now (frames .entry))) ⌝ }
+fn write_in(q: Parameters, frames: &[u8], space: &mut [u8], words: &mut [u8], slots: &mut [u8])
+    requires { ⌜ Writes q (now frames) (now space) (now words) (now slots) ⌝ }
+    ensures { λ _. ⌜ now (slots .exit) ≡ slotsOf (planOf q) (wordAt (q .fields) (now (frames .entry))) ⌝ }
 {
     let f = q.fields;
     code_words(f, frames, space, words);
-    slots::write(plan::plan_of(copies, q), words, slots);
+    slots::write(plan::plan_of(q), words, slots);
 }
 
 // With room for as many words as a run can have.
-fn write_many(copies: usize, q: Parameters, frames: &[u8], slots: &mut [u8])
-    requires { ⌜ Entered copies q (length (now frames)) (length (now slots)) ⌝ }
-    ensures { λ _. ⌜ now (slots .exit) ≡ slotsOf (planOf copies q) (wordAt (q .fields) (now (frames .entry))) ⌝ }
+fn write_many(q: Parameters, frames: &[u8], slots: &mut [u8])
+    requires { ⌜ Entered q (length (now frames)) (length (now slots)) ⌝ }
+    ensures { λ _. ⌜ now (slots .exit) ≡ slotsOf (planOf q) (wordAt (q .fields) (now (frames .entry))) ⌝ }
 {
     let mut space = [0u8; 1256];
     let mut words = [0u8; 396900];
-    write_in(copies, q, frames, &mut space, &mut words, slots)
+    write_in(q, frames, &mut space, &mut words, slots)
 }
 
 // With room for sixteen words, of which little has to be cleared.
-fn write_few(copies: usize, q: Parameters, frames: &[u8], slots: &mut [u8])
-    requires { ⌜ Entered copies q (length (now frames)) (length (now slots)) × (blockCount (q .fields) ≤ 16) ⌝ }
-    ensures { λ _. ⌜ now (slots .exit) ≡ slotsOf (planOf copies q) (wordAt (q .fields) (now (frames .entry))) ⌝ }
+fn write_few(q: Parameters, frames: &[u8], slots: &mut [u8])
+    requires { ⌜ Entered q (length (now frames)) (length (now slots)) × (blockCount (q .fields) ≤ 16) ⌝ }
+    ensures { λ _. ⌜ now (slots .exit) ≡ slotsOf (planOf q) (wordAt (q .fields) (now (frames .entry))) ⌝ }
 {
     let mut space = [0u8; 1256];
     let mut words = [0u8; 30240];
-    write_in(copies, q, frames, &mut space, &mut words, slots)
+    write_in(q, frames, &mut space, &mut words, slots)
 }
 
 // The slots of the frames, with room for their words.
-fn write_with(copies: usize, q: Parameters, frames: &[u8], slots: &mut [u8])
-    requires { ⌜ Entered copies q (length (now frames)) (length (now slots)) ⌝ }
-    ensures { λ _. ⌜ now (slots .exit) ≡ slotsOf (planOf copies q) (wordAt (q .fields) (now (frames .entry))) ⌝ }
+fn write_with(q: Parameters, frames: &[u8], slots: &mut [u8])
+    requires { ⌜ Entered q (length (now frames)) (length (now slots)) ⌝ }
+    ensures { λ _. ⌜ now (slots .exit) ≡ slotsOf (planOf q) (wordAt (q .fields) (now (frames .entry))) ⌝ }
 {
     let f = q.fields;
     if quantities::block_count(f) <= 16 {
-        write_few(copies, q, frames, slots);
+        write_few(q, frames, slots);
     } else {
-        write_many(copies, q, frames, slots);
+        write_many(q, frames, slots);
     }
 }
 
 // Writes the slots of frames.
-pub fn write(copies: usize, header: &[u8], marker: &[u8], frames: &[u8], slots: &mut [u8]) -> Answer
-    ensures { λ r. ⌜ r ≡ writeSays copies (now (header .entry)) (now (marker .entry)) (now (frames .entry)) (length (now (slots .entry))) ⌝ }
-    ensures { λ r. ⌜ now (slots .exit) ≡ after r (runOf copies (now (header .entry)) (now (marker .entry)) (now (frames .entry))) (now (slots .entry)) ⌝ }
+pub fn write(header: &[u8], marker: &[u8], frames: &[u8], slots: &mut [u8]) -> Answer
+    ensures { λ r. ⌜ r ≡ writeSays (now (header .entry)) (now (marker .entry)) (now (frames .entry)) (length (now (slots .entry))) ⌝ }
+    ensures { λ r. ⌜ now (slots .exit) ≡ after r (runOf (now (header .entry)) (now (marker .entry)) (now (frames .entry))) (now (slots .entry)) ⌝ }
 {
-    let checked = plan::check(copies, header, marker, frames.len(), slots.len());
+    let checked = plan::check(header, marker, frames.len(), slots.len());
     let answer = checked.answer;
     let Answer::Done = answer else {
         return answer;
     };
-    write_with(copies, checked.parameters, frames, slots);
+    write_with(checked.parameters, frames, slots);
     answer
 }

@@ -3,8 +3,8 @@ use libc::STDIN_FILENO;
 use libc::STDOUT_FILENO;
 
 fn main() {
-    // one byte more than a header, so that nine bytes are seen
-    let mut header = [0u8; 9];
+    // one byte more than a header, so that eleven bytes are seen
+    let mut header = [0u8; 11];
     let n = io::read_full(STDIN_FILENO, &mut header);
     let mut text = [0u8; 256];
     let k = sheet::line(&header[..n], &mut text);

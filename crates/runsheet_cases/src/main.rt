@@ -2,7 +2,7 @@
 use libc::STDOUT_FILENO;
 
 fn print_line(fd: i32) {
-    let mut header = [0u8; 9];
+    let mut header = [0u8; 11];
     let n = io::read_full(fd, &mut header);
     let mut text = [0u8; 256];
     let k = sheet::line(&header[..n], &mut text);

@@ -21,7 +21,6 @@ use Rattle.parameters.specs.Marks.{runSays, parametersOf}
 use Rattle.parameters.specs.Accepted.{run-good, run-fits, lent-all, carries-marks}
 use Rattle.plan.specs.declared.Plan.{Plan}
 use Rattle.plan.specs.Plan.{planIn, Fine}
-use Rattle.plan.specs.Lengths.{copiesGood}
 use Rattle.plan.specs.Accepted.{plan-fine}
 use Rattle.pulses.specs.Needs.{Sizes, sizes}
 use Rattle.starts.specs.Starts.{starts}
@@ -48,9 +47,9 @@ slot-no p b l = ask-no (ltb (firstFit p b) (starts (markerSlots p) b)) 19 0 (le-
 pub record Found (header marker b : List ℕ) : Type 0 where
   pub header-is : runSays header marker ≡ Done
   pub marker-is : length marker ≡ markerBytes (fieldsOf header)
-  pub fine : Fine (planIn 1 header marker)
+  pub fine : Fine (planIn header marker)
   pub most : length b ≤ captureMost
-  pub there : firstFit (planIn 1 header marker) b < starts (markerSlots (planIn 1 header marker)) b
+  pub there : firstFit (planIn header marker) b < starts (markerSlots (planIn header marker)) b
 
 pub lengths-are : (f : Fields) (m n : ℕ) → lengthsRight f m n ≡ true → (m ≡ markerBytes f) × (n ≤ captureMost)
 unfolding lengthsRight
@@ -64,18 +63,19 @@ are-lengths f m n em hn = rw (eq-eqb m (markerBytes f) em, le-leb n captureMost 
 
 -- a header, its marker symbols and a marker of the right length make a plan that steps 8 to 10 can follow
 pub marker-fine : (header marker : List ℕ) → runSays header marker ≡ Done → length marker ≡ markerBytes (fieldsOf header)
-    → Valid (fieldsOf header) × Fine (planIn 1 header marker)
-unfolding parametersOf copiesGood
+    → Valid (fieldsOf header) × Fine (planIn header marker)
+unfolding parametersOf
 marker-fine header marker e m =
     let f : Fields = fieldsOf header in
     let g = run-good header marker e in
-    let v : Valid f = header-good header (g .0) .valid in
-    (v, plan-fine 1 refl f marker (parametersOf f marker) v (carries-marks f v marker (g .1)) (lent-all f marker m))
+    let h = header-good header (g .0) in
+    let v : Valid f = h .valid in
+    (v, plan-fine f marker (parametersOf f marker) v (h .copies) (carries-marks f v marker (g .1)) (lent-all f marker m))
 
 pub find-accepted : (header marker b : List ℕ) → findSays header marker b ≡ Done → Found header marker b
 unfolding findSays slotSays
 find-accepted header marker b e =
-    let p : Plan = planIn 1 header marker in
+    let p : Plan = planIn header marker in
     let q7 = then-done (runSays header marker) _ e in
     let q8 = then-done (ask (lengthsRight (fieldsOf header) (length marker) (length b)) 8 0) (slotSays p b) (q7 .1) in
     let t : Bool = lengthsRight (fieldsOf header) (length marker) (length b) in
@@ -93,7 +93,7 @@ find-accepted header marker b e =
 pub find-fits : (header marker b : List ℕ) → Fits (findSays header marker b)
 unfolding findSays slotSays
 find-fits header marker b =
-    let p : Plan = planIn 1 header marker in
+    let p : Plan = planIn header marker in
     let t : Bool = lengthsRight (fieldsOf header) (length marker) (length b) in
     let s : Bool = ltb (firstFit p b) (starts (markerSlots p) b) in
     fits-then (runSays header marker) _ (run-fits header marker)
@@ -120,10 +120,10 @@ slots-least p fine =
 pub slots-most : (p : Plan) → Fine p → markerSlots p ≤ 32 * 320
 slots-most p fine = mul-le-mul (fine .markers-most) (marker-sizes p fine .group-most)
 
-pub slot-small : (header marker b : List ℕ) → findSays header marker b ≡ Done → firstFit (planIn 1 header marker) b < 2 ^ 56
+pub slot-small : (header marker b : List ℕ) → findSays header marker b ≡ Done → firstFit (planIn header marker) b < 2 ^ 56
 slot-small header marker b e =
     let f = find-accepted header marker b e in
-    omega (arith, slots-least (planIn 1 header marker) (f .fine), f .there, f .most)
+    omega (arith, slots-least (planIn header marker) (f .fine), f .there, f .most)
 
 -- what C gets goes by the answer, and by the slot of an acceptance
 pub code-same : (a b : Answer) (s t : ℕ) → a ≡ b → (a ≡ Done → s ≡ t) → codeAt a s ≡ codeAt b t

@@ -46,12 +46,12 @@ lengthsRight f markerLength captureLength = both (eqb markerLength (markerBytes 
 unfoldable pub slotSays : Plan → List ℕ → Answer
 slotSays p b = ask (ltb (firstFit p b) (starts (markerSlots p) b)) 19 0
 
--- all questions: 1 to 8, and 19
+-- all questions: 1 to 7, 20, 8 and 19
 unfoldable pub findSays : List ℕ → List ℕ → List ℕ → Answer
 findSays header marker b =
     then (runSays header marker)
     (then (ask (lengthsRight (fieldsOf header) (length marker) (length b)) 8 0)
-    (slotSays (planIn 1 header marker) b))
+    (slotSays (planIn header marker) b))
 
 -- to C an acceptance goes with its slot as the place
 abbrev pub codeAt : Answer → ℕ → ℕ
@@ -59,4 +59,4 @@ codeAt Done slot = slot * 256
 codeAt (No number place) slot = codeOf (No number place)
 
 abbrev pub findCode : List ℕ → List ℕ → List ℕ → ℕ
-findCode header marker b = codeAt (findSays header marker b) (firstFit (planIn 1 header marker) b)
+findCode header marker b = codeAt (findSays header marker b) (firstFit (planIn header marker) b)

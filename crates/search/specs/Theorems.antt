@@ -19,7 +19,7 @@ use Rattle.header.specs.declared.Fields.{Fields}
 use Rattle.quantities.specs.Quantities.{pulseOrder, slotsPerSymbol, markerBytes}
 use Rattle.quantities.specs.Valid.{Valid}
 use Rattle.quantities.specs.Shape.{group-least}
-use Rattle.questions.specs.Questions.{question1, question2, question3, question4, question5, question6, question7, fieldsSay, headerSays}
+use Rattle.questions.specs.Questions.{question1, question2, question3, question4, question5, question6, question7, question20, fieldsSay, formSays}
 use Rattle.parameters.specs.Marks.{marksGood, runSays, lentMarks, parametersOf}
 use Rattle.parameters.specs.Accepted.{run-good, lent-all, carries-marks}
 use Rattle.plan.specs.declared.Plan.{Plan}
@@ -39,9 +39,9 @@ pub record MarkerAt (header marker b : List ℕ) (x : ℕ) : Type 0 where
 -- ---- the marker of the plan is that of the header
 
 pub record Lent (header marker : List ℕ) : Type 0 where
-  pub group-is : planIn 1 header marker .group ≡ slotsPerSymbol (fieldsOf header)
-  pub markers-are : planIn 1 header marker .markers ≡ fieldsOf header .markers
-  pub marks-are : (w : ℕ) → w < fieldsOf header .markers → getD (planIn 1 header marker .marks) w 0 ≡ getD marker w 0
+  pub group-is : planIn header marker .group ≡ slotsPerSymbol (fieldsOf header)
+  pub markers-are : planIn header marker .markers ≡ fieldsOf header .markers
+  pub marks-are : (w : ℕ) → w < fieldsOf header .markers → getD (planIn header marker .marks) w 0 ≡ getD marker w 0
   pub marks-below : (w : ℕ) → w < fieldsOf header .markers → getD marker w 0 < pulseOrder (fieldsOf header)
   pub group-some : 1 ≤ slotsPerSymbol (fieldsOf header)
 
@@ -64,23 +64,23 @@ module _ (header marker : List ℕ) (e : runSays header marker ≡ Done) (m : le
 
   -- slot r of symbol w
   slot-due : (w r : ℕ) → w < fieldsOf header .markers → r < slotsPerSymbol (fieldsOf header)
-      → markerSlot (planIn 1 header marker) (w * slotsPerSymbol (fieldsOf header) + r) ≡ bool (eqb r (getD marker w 0))
+      → markerSlot (planIn header marker) (w * slotsPerSymbol (fieldsOf header) + r) ≡ bool (eqb r (getD marker w 0))
   slot-due w r lw lr =
-      let p : Plan = planIn 1 header marker in
+      let p : Plan = planIn header marker in
       let k = lent in
       let g : p .group ≡ slotsPerSymbol (fieldsOf header) = k .group-is in
       ap (λ (n : ℕ). markerSlot p (w * n + r)) (sym g)
       ∙ slot-in (p .group) (p .markers) (λ w. getD (p .marks) w 0) w r (rw g lr) (rw (k .markers-are) lw)
       ∙ ap (λ (q : ℕ). bool (eqb r q)) (k .marks-are w lw)
 
-  size-is : markerSlots (planIn 1 header marker) ≡ fieldsOf header .markers * slotsPerSymbol (fieldsOf header)
+  size-is : markerSlots (planIn header marker) ≡ fieldsOf header .markers * slotsPerSymbol (fieldsOf header)
   size-is = let k = lent in rw (k .group-is, k .markers-are) refl
 
   -- what is found stands there
-  pub fits-marker : (b : List ℕ) (x : ℕ) → x < starts (markerSlots (planIn 1 header marker)) b → fits (planIn 1 header marker) b x ≡ true
+  pub fits-marker : (b : List ℕ) (x : ℕ) → x < starts (markerSlots (planIn header marker)) b → fits (planIn header marker) b x ≡ true
       → MarkerAt header marker b x
   fits-marker b x l t =
-      let p : Plan = planIn 1 header marker in
+      let p : Plan = planIn header marker in
       let n = size-is in
       record {
         inside = omega arith;
@@ -92,9 +92,9 @@ module _ (header marker : List ℕ) (e : runSays header marker ≡ Done) (m : le
 
   -- and what stands there is found
   pub marker-fits : (b : List ℕ) (x : ℕ) → MarkerAt header marker b x
-      → (x < starts (markerSlots (planIn 1 header marker)) b) × (fits (planIn 1 header marker) b x ≡ true)
+      → (x < starts (markerSlots (planIn header marker)) b) × (fits (planIn header marker) b x ≡ true)
   marker-fits b x at =
-      let p : Plan = planIn 1 header marker in
+      let p : Plan = planIn header marker in
       let g : ℕ = slotsPerSymbol (fieldsOf header) in
       let n = size-is in
       let some : 0 < g = lent .group-some in
@@ -111,10 +111,10 @@ module _ (header marker : List ℕ) (e : runSays header marker ≡ Done) (m : le
 
 -- The slot of an acceptance is the earliest at which the whole marker stands.
 pub earliest-slot : (header marker b : List ℕ) → findSays header marker b ≡ Done
-    → MarkerAt header marker b (firstFit (planIn 1 header marker) b)
-    × ((x : ℕ) → x < firstFit (planIn 1 header marker) b → MarkerAt header marker b x → ⊥)
+    → MarkerAt header marker b (firstFit (planIn header marker) b)
+    × ((x : ℕ) → x < firstFit (planIn header marker) b → MarkerAt header marker b x → ⊥)
 earliest-slot header marker b e =
-    let p : Plan = planIn 1 header marker in
+    let p : Plan = planIn header marker in
     let f = find-accepted header marker b e in (
       fits-marker header marker (f .header-is) (f .marker-is) b (firstFit p b) (f .there)
           (earliest-stands (markerSlot p) (markerSlots p) b (f .there)),
@@ -128,10 +128,10 @@ earliest-slot header marker b e =
 pub earliest-found : (header marker b : List ℕ) → runSays header marker ≡ Done → length marker ≡ markerBytes (fieldsOf header)
     → length b ≤ captureMost
     → (s : ℕ) → MarkerAt header marker b s → ((x : ℕ) → x < s → MarkerAt header marker b x → ⊥)
-    → (findSays header marker b ≡ Done) × (firstFit (planIn 1 header marker) b ≡ s)
+    → (findSays header marker b ≡ Done) × (firstFit (planIn header marker) b ≡ s)
 unfolding findSays
 earliest-found header marker b e m h s at none =
-    let p : Plan = planIn 1 header marker in
+    let p : Plan = planIn header marker in
     let here = marker-fits header marker e m b s at in
     let found : firstFit p b ≡ s = found-earliest (markerSlot p) (markerSlots p) b s (here .0) (here .1) (λ x l.
     other (fits p b x) refl (λ t. none x l (fits-marker header marker e m b x (omega (arith, here .0)) t))) in
@@ -154,10 +154,10 @@ never-ask true number place f e = omega arith
 never-ask false number place f e = f e
 
 header-never : (header marker : List ℕ) → numberOf (runSays header marker) ≡ 19 → ⊥
-unfolding runSays headerSays fieldsSay
+unfolding runSays formSays fieldsSay
 header-never header marker =
     let f : Fields = fieldsOf header in
-    never-then (headerSays header) (ask (marksGood f marker) 7 0)
+    never-then (formSays header) _
     (never-then (ask (question1 header) 1 0) _ (never-ask (question1 header) 1 0 (λ z. omega arith))
     (never-then (ask (question2 f) 2 0) _ (never-ask (question2 f) 2 0 (λ z. omega arith))
     (never-then (ask (question3 f) 3 0) _ (never-ask (question3 f) 3 0 (λ z. omega arith))
@@ -165,7 +165,8 @@ header-never header marker =
     (never-then (ask (question5 f) 5 0) _ (never-ask (question5 f) 5 0 (λ z. omega arith))
     (never-then (ask (question6 f) 6 0) (ask (question7 f) 7 0) (never-ask (question6 f) 6 0 (λ z. omega arith))
     (never-ask (question7 f) 7 0 (λ z. omega arith))))))))
-    (never-ask (marksGood f marker) 7 0 (λ z. omega arith))
+    (never-then (ask (marksGood f marker) 7 0) (ask (question20 f) 20 0) (never-ask (marksGood f marker) 7 0 (λ z. omega arith))
+    (never-ask (question20 f) 20 0 (λ z. omega arith)))
 
 -- so those before it are answered yes
 after-yes : (a rest : Answer) → (numberOf a ≡ 19 → ⊥) → then a rest ≡ No 19 0 → (a ≡ Done) × (rest ≡ No 19 0)
@@ -176,7 +177,7 @@ after-yes (No number place) rest f e = absurd (f (ap numberOf e))
 pub no-slot : (header marker b : List ℕ) → findSays header marker b ≡ No 19 0 → (x : ℕ) → MarkerAt header marker b x → ⊥
 unfolding findSays
 no-slot header marker b e x at =
-    let p : Plan = planIn 1 header marker in
+    let p : Plan = planIn header marker in
     let lengths : Bool = lengthsRight (fieldsOf header) (length marker) (length b) in
     let q7 = after-yes (runSays header marker) _ (header-never header marker) e in
     let q8 = after-yes (ask lengths 8 0) (slotSays p b) (never-ask lengths 8 0 (λ z. omega arith)) (q7 .1) in
@@ -195,7 +196,7 @@ pub no-slot-19 : (header marker b : List ℕ) → runSays header marker ≡ Done
     → ((x : ℕ) → MarkerAt header marker b x → ⊥) → findSays header marker b ≡ No 19 0
 unfolding findSays
 no-slot-19 header marker b e m h none =
-    let p : Plan = planIn 1 header marker in
+    let p : Plan = planIn header marker in
     let no : slotSays p b ≡ No 19 0 =
     ⊎-elim
     (λ (l : firstFit p b < starts (markerSlots p) b).

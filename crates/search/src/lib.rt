@@ -58,10 +58,10 @@ fn seek(p: Plan, b: &[u8]) -> Start
     }
 }
 
-// Questions 1 to 8 and 19; where all are answered yes, the earliest slot at which the marker stands.
+// Questions 1 to 7, 20, 8 and 19; where all are answered yes, the earliest slot at which the marker stands.
 pub fn find(header: &[u8], marker: &[u8], capture: &[u8]) -> Start
     ensures { λ r. ⌜ r .answer ≡ findSays (now (header .entry)) (now (marker .entry)) (now (capture .entry)) ⌝ }
-    ensures { λ r. ⌜ (r .answer ≡ Done → r .slot ≡ firstFit (planIn 1 (now (header .entry)) (now (marker .entry))) (now (capture .entry))) ⌝ }
+    ensures { λ r. ⌜ (r .answer ≡ Done → r .slot ≡ firstFit (planIn (now (header .entry)) (now (marker .entry))) (now (capture .entry))) ⌝ }
 {
     let checked = parameters::check(header, marker);
     let answer = checked.answer;
@@ -76,7 +76,7 @@ pub fn find(header: &[u8], marker: &[u8], capture: &[u8]) -> Start
             slot: 0,
         };
     }
-    seek(plan::plan_of(1, parameters), capture)
+    seek(plan::plan_of(parameters), capture)
 }
 
 // As C gets it: the slot is the place of an acceptance.

@@ -5,7 +5,7 @@ use Prim.Native.Nat.{ℕ}
 use lib.ListN.{length, take}
 use Rattle.sizes.specs.Rate.{inputsPer, codedPer}
 use Rattle.header.specs.Header.{fieldsOf}
-use Rattle.quantities.specs.Quantities.{pulseOrder, blockCount, symbolCount, slotCount}
+use Rattle.quantities.specs.Quantities.{pulseOrder, blockCount, sentSymbols, slotCount}
 use Rattle.questions.specs.Questions.{headerSays}
 use Rattle.header.specs.declared.Fields.{Fields}
 use Rattle.answers.specs.declared.Answer.{Answer}
@@ -16,9 +16,10 @@ use Rattle.sheet.specs.Text.{digit, items}
 unfoldable pub rateText : ℕ → List ℕ
 rateText rate = digit (inputsPer rate) ∷ 47 ∷ digit (codedPer rate) ∷ []
 
--- M, N, B, F, W, A, C, the symbols with markers, the slots
+-- M, N, B, F, W, A, C, the symbols with markers and the slots, both with copies counted, and the factor
 unfoldable pub runNumbers : Fields → List ℕ
-runNumbers f = pulseOrder f ∷ f .rows ∷ f .step ∷ f .size ∷ f .markers ∷ f .frames ∷ blockCount f ∷ symbolCount f ∷ slotCount f ∷ []
+runNumbers f =
+    pulseOrder f ∷ f .rows ∷ f .step ∷ f .size ∷ f .markers ∷ f .frames ∷ blockCount f ∷ sentSymbols f ∷ slotCount f ∷ f .copies ∷ []
 
 unfoldable pub runLine : Fields → List ℕ
 runLine f = rateText (f .rate) ++ items (runNumbers f)

@@ -24,14 +24,14 @@ fn rate_text(rate: u64) -> [u8; 3]
     }
 }
 
-// M, N, B, F, W, A, C, the symbols with markers, the slots.
-fn run_numbers(f: Fields) -> [u64; 9]
-    requires { ⌜ Valid f ⌝ }
+// M, N, B, F, W, A, C, the symbols with markers and the slots, both with copies counted, and the factor.
+fn run_numbers(f: Fields) -> [u64; 10]
+    requires { ⌜ Valid f × (f .copies ≤ 32) ⌝ }
     ensures { λ r. ⌜ r ≡ runNumbers f ⌝ }
 {
     let order = quantities::pulse_order(f) as u64;
     let blocks = quantities::block_count(f) as u64;
-    let symbols = quantities::symbol_count(f) as u64;
+    let symbols = quantities::sent_symbols(f) as u64;
     let slots = quantities::slot_count(f) as u64;
     [
         order,
@@ -43,12 +43,13 @@ fn run_numbers(f: Fields) -> [u64; 9]
         blocks,
         symbols,
         slots,
+        f.copies as u64,
     ]
 }
 
 // The line of a header that is accepted.
 fn put_run(f: Fields, out: &mut [u8]) -> usize
-    requires { ⌜ Valid f ⌝ }
+    requires { ⌜ Valid f × (f .copies ≤ 32) ⌝ }
     requires { ⌜ 256 ≤ length (now out) ⌝ }
     ensures { λ r. ⌜ Put (now (out .entry)) 0 (runLine f) (now (out .exit)) r ⌝ }
 {

@@ -6,7 +6,6 @@ use crate::{library, run};
 
 /// Arguments of a call; the slice to be written is a length alone.
 pub(super) struct Arguments<'a> {
-    pub(super) copies: u64,
     pub(super) header: &'a [u8],
     pub(super) marker: &'a [u8],
     pub(super) input: &'a [u8],
@@ -23,15 +22,14 @@ pub(super) fn compare(
     what: &str,
 ) {
     let Arguments {
-        copies,
         header,
         marker,
         input,
         output_len,
     } = arguments;
     let expected = match way {
-        Way::Write => run::write(copies, header, marker, input, output_len),
-        Way::Read => run::read(copies, header, marker, input, output_len),
+        Way::Write => run::write(header, marker, input, output_len),
+        Way::Read => run::read(header, marker, input, output_len),
     };
     let call = way.of_runs();
     let case = Case {
@@ -41,21 +39,17 @@ pub(super) fn compare(
         expected,
         place: 0,
         numbers,
-        what: &format!(
-            "{}, {what}, {copies} copies, header {header:02X?}",
-            call.name()
-        ),
+        what: &format!("{}, {what}, header {header:02X?}", call.name()),
     };
     tally.compare(rng, case, |inputs, output| match way {
-        Way::Write => library::run_write(copies, inputs[0], inputs[1], inputs[2], output),
-        Way::Read => library::run_read(copies, inputs[0], inputs[1], inputs[2], output),
+        Way::Write => library::run_write(inputs[0], inputs[1], inputs[2], output),
+        Way::Read => library::run_read(inputs[0], inputs[1], inputs[2], output),
     });
 }
 
 /// Writes the sample, which both accept.
 pub(super) fn compare_write(tally: &mut Tally, rng: &mut Rng, sample: &Sample, what: &str) {
     let arguments = Arguments {
-        copies: sample.header.copies,
         header: &sample.header.pack(),
         marker: &sample.marker,
         input: &sample.frames,
@@ -74,7 +68,6 @@ pub(super) fn compare_read(
     what: &str,
 ) {
     let arguments = Arguments {
-        copies: sample.header.copies,
         header: &sample.header.pack(),
         marker: &sample.marker,
         input: slots,

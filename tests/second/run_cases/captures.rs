@@ -6,7 +6,7 @@
 
 use super::calls::compare_read;
 use super::headers::{some_header, Sizes};
-use super::refusals::{broken, wrong_len};
+use super::refusals::{broken, wrong_len, REFUSED_ORDER};
 use super::sample::Sample;
 use crate::compare::{Call, Case, Rng, Tally};
 use crate::find::{self, marker_len, marker_slots};
@@ -358,7 +358,13 @@ fn compare_find(
     found
 }
 
-fn put_find(tally: &mut Tally, rng: &mut Rng, lent: [&[u8]; 3], numbers: &[u8], what: &str) {
+pub(super) fn put_find(
+    tally: &mut Tally,
+    rng: &mut Rng,
+    lent: [&[u8]; 3],
+    numbers: &[u8],
+    what: &str,
+) {
     let [header, marker, capture] = lent;
     let found = find::find(header, marker, capture);
     let case = Case {
@@ -376,7 +382,7 @@ fn put_find(tally: &mut Tally, rng: &mut Rng, lent: [&[u8]; 3], numbers: &[u8], 
 }
 
 /// Cuts with both.
-fn put_cut(
+pub(super) fn put_cut(
     tally: &mut Tally,
     rng: &mut Rng,
     lent: [&[u8]; 2],
@@ -415,6 +421,11 @@ fn compare_run_in(tally: &mut Tally, rng: &mut Rng, sample: &Sample, what: &str)
         (random, Known::NotBehind(at)),
         (run_like, Known::NotBehind(at)),
     ]);
+    // the search looks for symbols that are sent once
+    let known = match run.copies() {
+        1 => known,
+        _ => Known::Anything,
+    };
     let mut bits = around(rng, sample, len);
     put(&mut bits, at, &word::unpack(&slots)[..run.slots()]);
     let what = format!("{what}, the run at slot {at}");
@@ -455,7 +466,7 @@ fn compare_cut(tally: &mut Tally, rng: &mut Rng, sample: &Sample, what: &str) {
     put_cut(tally, rng, lent, any, wrong, &[8], what);
 }
 
-/// Calls that fail a question from 1 to 8 first.
+/// Calls that fail this question first.
 fn refused_calls(
     tally: &mut Tally,
     rng: &mut Rng,
@@ -464,7 +475,7 @@ fn refused_calls(
     first: u8,
     what: &str,
 ) {
-    if first < 8 {
+    if first != 8 {
         let wrong = broken(rng, sample, first, true);
         let lent = [&wrong.header[..], &wrong.marker, capture];
         put_find(tally, rng, lent, &[first], what);
@@ -485,15 +496,13 @@ const MOST_SLOTS: usize = 1 << 22;
 
 /// The capture of this index, the calls beside it, and in turn a run at some slot or a cut.
 pub fn compare_capture(tally: &mut Tally, rng: &mut Rng, sizes: &Sizes, index: u64) {
-    let header = Header {
-        copies: 1,
-        ..some_header(rng, sizes, index)
-    };
+    let header = some_header(rng, sizes, index);
     let mut sample = Sample::new(rng, header);
     if sample.run.slots() > MOST_SLOTS {
         let small = Header {
             rows: 1,
             frames: 1,
+            copies: 1,
             ..header
         };
         sample = Sample::new(rng, small);
@@ -504,7 +513,8 @@ pub fn compare_capture(tally: &mut Tally, rng: &mut Rng, sizes: &Sizes, index: u
     let slots = (kind.slots)(rng, &sample);
     let capture = word::pack(&slots.bits);
     compare_find(tally, rng, &sample, &capture, slots.known, &what);
-    refused_calls(tally, rng, &sample, &capture, 1 + (index % 8) as u8, &what);
+    let first = REFUSED_ORDER[index as usize % REFUSED_ORDER.len()];
+    refused_calls(tally, rng, &sample, &capture, first, &what);
     match turn % 4 {
         0 => compare_run_in(tally, rng, &sample, &what),
         1 => compare_cut(tally, rng, &sample, &what),

@@ -217,7 +217,7 @@ pub fn edges(tally: &mut Tally, rng: &mut Rng) {
         (Header { spare: 1, ..header }, vec![0; 4], 1),
         (
             Header {
-                spare: 1 << 15,
+                spare: 1 << 25,
                 ..header
             },
             vec![0; 4],
@@ -227,7 +227,6 @@ pub fn edges(tally: &mut Tally, rng: &mut Rng) {
     for (header, marker, number) in cases {
         for way in [Way::Write, Way::Read] {
             let arguments = Arguments {
-                copies: header.copies,
                 header: &header.pack(),
                 marker: &marker,
                 input: &[],

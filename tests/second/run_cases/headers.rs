@@ -138,9 +138,9 @@ pub(super) fn any_header(rng: &mut Rng, sizes: &Sizes) -> Header {
         marker: any_field(rng, 1..=32, 6),
         frames: any_field(rng, 1..=64, 7),
         copies: match rng.below(64) {
-            0 => rng.next() >> rng.below(64),
+            0 => rng.next() >> 58,
             _ => rng.pick(&FACTORS),
         },
-        spare: any_field(rng, 0..=0, 16),
+        spare: any_field(rng, 0..=0, 26),
     }
 }

@@ -3,7 +3,8 @@
 use super::calls::{compare, Arguments};
 use super::sample::Sample;
 use crate::compare::{Rng, Tally, Way};
-use crate::run::{FACTORS, HEADER_BYTES, MARKER_MOST};
+use crate::run::{Header, FACTORS, HEADER_BYTES, MARKER_MOST};
+use crate::word::WORD_BITS;
 
 /// The questions that such a call can fail, in the order in which they are put.
 pub(super) const REFUSED_ORDER: [u8; 9] = [1, 2, 3, 4, 5, 6, 7, 20, 8];
@@ -28,7 +29,6 @@ pub(super) fn wrong_len(rng: &mut Rng, right: usize) -> usize {
 
 /// Header and marker, and the lengths of frames and slots, with something wrong in them.
 pub(super) struct Broken {
-    pub(super) copies: u64,
     pub(super) header: Vec<u8>,
     pub(super) marker: Vec<u8>,
     pub(super) frames_len: usize,
@@ -37,27 +37,44 @@ pub(super) struct Broken {
 
 /// A factor that there is not.
 fn wrong_factor(rng: &mut Rng) -> u64 {
-    let any = rng.next() >> rng.below(64);
-    let factor = rng.pick(&[
-        0,
-        5,
-        6,
-        7,
-        9,
-        12,
-        31,
-        33,
-        63,
-        64,
-        1 << 32 | 1,
-        u64::MAX,
-        any,
-    ]);
+    let any = rng.next() >> 58;
+    let factor = rng.pick(&[0, 5, 6, 7, 9, 12, 31, 33, 48, 63, any]);
     if FACTORS.contains(&factor) {
         5
     } else {
         factor
     }
+}
+
+/// Breaks a header of fields that are good, so that it fails this question; of 7 W's range alone.
+pub(super) fn break_header(rng: &mut Rng, header: &mut Header, number: u8) {
+    match number {
+        20 => header.copies = wrong_factor(rng),
+        7 => header.marker = wrong_field(rng, 0, MARKER_MOST as u64 + 1..=63),
+        6 if rng.below(2) == 0 => header.frame_bytes = wrong_field(rng, 0, 2049..=4095),
+        6 => header.frames = wrong_field(rng, 0, 65..=127),
+        5 => {
+            let symbols = WORD_BITS as u64 / header.bits;
+            header.rows = 2 + rng.next() % 127;
+            header.step = 1 + rng.next() % 256;
+            if header.rows * (header.rows - 1) * header.step % symbols == 0 {
+                header.rows = 2; // never passes
+            }
+        }
+        4 if rng.below(2) == 0 => header.rows = wrong_field(rng, 0, 129..=255),
+        4 => header.step = wrong_field(rng, 0, 257..=511),
+        3 => header.bits = wrong_field(rng, 1, 9..=15),
+        2 => header.rate = 3,
+        _ => panic!("question {number} is about no field"),
+    }
+}
+
+/// The questions behind one that is failed first, some of which are failed too, from the last on:
+/// so what an earlier one breaks stays broken. The first comes last.
+pub(super) fn failed_too(rng: &mut Rng, order: &[u8], first: u8) -> Vec<u8> {
+    let later = order.iter().rev().take_while(|&&number| number != first);
+    let also = later.filter(|_| rng.below(3) == 0);
+    also.chain([&first]).copied().collect()
 }
 
 /// What fails one of these questions first and, by chance, some of those after it. Question 7 is about
@@ -69,13 +86,7 @@ pub(super) fn broken(rng: &mut Rng, sample: &Sample, first: u8, marker_lent: boo
     let mut slots_len = sample.run.slots_len();
     let mut header_len = HEADER_BYTES;
 
-    // From the last question on, so that what an earlier one breaks stays broken.
-    let later = REFUSED_ORDER
-        .into_iter()
-        .skip_while(|&number| number != first)
-        .skip(1);
-    let also: Vec<u8> = later.filter(|_| rng.below(3) == 0).collect();
-    for number in also.into_iter().rev().chain([first]) {
+    for number in failed_too(rng, &REFUSED_ORDER, first) {
         match number {
             8 => {
                 let wrong = 1 + rng.below(7);
@@ -90,41 +101,26 @@ pub(super) fn broken(rng: &mut Rng, sample: &Sample, first: u8, marker_lent: boo
                     slots_len = wrong_len(rng, slots_len);
                 }
             }
-            20 => header.copies = wrong_factor(rng),
             7 => {
                 let looked_at = marker.len().min(header.marker as usize);
                 let symbols = marker_lent && sample.run.order() < 256 && looked_at > 0;
                 if rng.below(2) == 0 || !symbols {
-                    header.marker = wrong_field(rng, 0, MARKER_MOST as u64 + 1..=63);
+                    break_header(rng, &mut header, 7);
                 } else {
                     let any = sample.run.order() + rng.below(256 - sample.run.order());
                     let wrong = rng.pick(&[sample.run.order(), any, 255]);
                     marker[rng.below(looked_at)] = wrong as u8;
                 }
             }
-            6 if rng.below(2) == 0 => header.frame_bytes = wrong_field(rng, 0, 2049..=4095),
-            6 => header.frames = wrong_field(rng, 0, 65..=127),
-            5 => {
-                let symbols = sample.run.word_symbols() as u64;
-                header.rows = 2 + rng.next() % 127;
-                header.step = 1 + rng.next() % 256;
-                if header.rows * (header.rows - 1) * header.step % symbols == 0 {
-                    header.rows = 2; // never passes
-                }
-            }
-            4 if rng.below(2) == 0 => header.rows = wrong_field(rng, 0, 129..=255),
-            4 => header.step = wrong_field(rng, 0, 257..=511),
-            3 => header.bits = wrong_field(rng, 1, 9..=15),
-            2 => header.rate = 3,
-            _ if rng.below(2) == 0 => header.spare = 1 << rng.below(16),
-            _ => header_len = rng.pick(&[0, 1, 7, 9, 16]),
+            1 if rng.below(2) == 0 => header.spare = 1 << rng.below(26),
+            1 => header_len = rng.pick(&[0, 1, 7, 8, 9, 11, 16]),
+            _ => break_header(rng, &mut header, number),
         }
     }
 
     let mut packed = header.pack().to_vec();
     packed.resize(header_len, 0);
     Broken {
-        copies: header.copies,
         header: packed,
         marker,
         frames_len,
@@ -150,7 +146,6 @@ pub(super) fn refused_call(
     let mut input = input.to_vec();
     input.resize(len, 0);
     let arguments = Arguments {
-        copies: broken.copies,
         header: &broken.header,
         marker: &broken.marker,
         input: &input,

@@ -23,7 +23,7 @@ returns c =
     let a = c .before .before .before .before .before .args in
     let r = c .before .find in
     c .code .ensures ∙ code-same (r .result .answer) (findSays (a .header .now) (a .marker .now) (a .capture .now)) (r .result .slot)
-    (firstFit (planIn 1 (a .header .now) (a .marker .now)) (a .capture .now)) (r .ensures .0) (r .ensures .1)
+    (firstFit (planIn (a .header .now) (a .marker .now)) (a .capture .now)) (r .ensures .0) (r .ensures .1)
 
 pub run-find-spec : {M : Type 1} → statement M
 run-find-spec = tie.close (tie.spec find-requires code-requires returns)

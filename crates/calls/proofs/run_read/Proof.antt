@@ -15,7 +15,7 @@ read-requires c κs = search needs
 code-requires : tie.Need-code-requires
 code-requires c κs =
     let a = c .before .before .before .before .before .before .before .before .args in
-    rw (c .before .before .read .ensures .0) (read-fits (a .copies) (a .header .now) (a .marker .now) (a .slots .now) (length (a .frames .now)))
+    rw (c .before .before .read .ensures .0) (read-fits (a .header .now) (a .marker .now) (a .slots .now) (length (a .frames .now)))
 
 same-length : tie.Need-same-length
 same-length c = search needs
@@ -25,7 +25,7 @@ returns c =
     let a = c .before .before .before .before .before .before .before .before .before .args in
     let r = c .before .before .before .read in (
       c .code .ensures ∙ ap codeOf (r .ensures .0),
-      r .ensures .1 ∙ ap (λ (x : Answer). after x (framesRead (a .copies) (a .header .now) (a .marker .now) (a .slots .now)) (a .frames .now)) (r .ensures .0),
+      r .ensures .1 ∙ ap (λ (x : Answer). after x (framesRead (a .header .now) (a .marker .now) (a .slots .now)) (a .frames .now)) (r .ensures .0),
     )
 
 pub run-read-spec : {M : Type 1} → statement M

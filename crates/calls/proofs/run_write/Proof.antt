@@ -15,7 +15,7 @@ write-requires c κs = search needs
 code-requires : tie.Need-code-requires
 code-requires c κs =
     let a = c .before .before .before .before .before .before .before .before .args in
-    rw (c .before .before .write .ensures .0) (write-fits (a .copies) (a .header .now) (a .marker .now) (a .frames .now) (length (a .slots .now)))
+    rw (c .before .before .write .ensures .0) (write-fits (a .header .now) (a .marker .now) (a .frames .now) (length (a .slots .now)))
 
 same-length : tie.Need-same-length
 same-length c = search needs
@@ -25,7 +25,7 @@ returns c =
     let a = c .before .before .before .before .before .before .before .before .before .args in
     let r = c .before .before .before .write in (
       c .code .ensures ∙ ap codeOf (r .ensures .0),
-      r .ensures .1 ∙ ap (λ (x : Answer). after x (runOf (a .copies) (a .header .now) (a .marker .now) (a .frames .now)) (a .slots .now)) (r .ensures .0),
+      r .ensures .1 ∙ ap (λ (x : Answer). after x (runOf (a .header .now) (a .marker .now) (a .frames .now)) (a .slots .now)) (r .ensures .0),
     )
 
 pub run-write-spec : {M : Type 1} → statement M

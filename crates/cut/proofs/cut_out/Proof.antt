@@ -1,4 +1,4 @@
--- Questions 1 to 7 of the header, then 8, then the slots.
+-- Questions 1 to 7 and 20 of the header, then 8, then the slots.
 use mathlib.Core.Path.{_≡_, refl, sym, ap, ap₂, _∙_}
 use mathlib.Core.Bool.{Bool, true}
 use mathlib.Core.List.{List}
@@ -16,7 +16,7 @@ use Rattle.header.specs.declared.Fields.{Fields}
 use Rattle.quantities.specs.Quantities.{slotCount, slotBytes}
 use Rattle.quantities.specs.Valid.{Valid}
 use Rattle.questions.specs.Questions.{headerSays}
-use Rattle.questions.specs.Good.{header-good}
+use Rattle.questions.specs.Good.{header-good, copies-range}
 use Rattle.cut.specs.Cut.{cutOf, lengthsRight, cutSays}
 use Rattle.cut.specs.Laws.{slots-some, lengths-are}
 use Rattle.cut.specs.Needs.{Lies}
@@ -35,14 +35,21 @@ asked : (header : List ℕ) (n s m : ℕ) → headerSays header ≡ Done → (f 
 unfolding cutSays
 asked header n s m e f ef t et = rw e (ap (λ (x : Bool). ask x 8 0) (ap (λ (g : Fields). lengthsRight g n s m) (sym ef) ∙ sym et))
 
+-- what was asked of the header
+good : (header : List ℕ) → headerSays header ≡ Done → (f : Fields) → f ≡ fieldsOf header → (Valid f × (f .copies ≤ 32)) × (1 ≤ f .copies)
+good header e f ef =
+    let g = header-good header e in
+    let k = copies-range (fieldsOf header .copies) (g .copies) in
+    rw ef ((g .valid, k .1), k .0)
+
 -- what the lengths say
-lies : (f : Fields) (b : List ℕ) (s m count : ℕ) → Valid f → lengthsRight f (length b) s m ≡ true → count ≡ slotCount f → Lies b s count m
+lies : (f : Fields) (b : List ℕ) (s m count : ℕ) → Valid f → 1 ≤ f .copies → lengthsRight f (length b) s m ≡ true → count ≡ slotCount f → Lies b s count m
 unfolding slotBytes
-lies f b s m count v t e =
+lies f b s m count v k t e =
     let r = lengths-are f (length b) s m t in
     record {
       most = r .most;
-      some = let z = slots-some f v in omega arith;
+      some = let z = slots-some f v k in omega arith;
       inside = let i = r .inside in omega arith;
       room = r .slots-are ∙ ap (λ (n : ℕ). (n + 7) / 8) (sym e);
     }
@@ -77,13 +84,13 @@ read-requires : tie.Need-read-requires
 read-requires c κs =
     let a = (c .before .before .before .before .before .before) .args in
     let h = (c .before .before) .header-says in
-    header-good (a .header .now) (sym (h .ensures) ∙ c .enum-told .given .1) .long
+    let l = header-good (a .header .now) (sym (h .ensures) ∙ c .enum-told .given .1) .long in omega arith
 
 lengths-right-requires : tie.Need-lengths-right-requires
 lengths-right-requires c κs =
     let a = (c .before .before .before .before .before .before .before) .args in
     let h = (c .before .before .before) .header-says in
-    rw (c .read .ensures) (header-good (a .header .now) (sym (h .ensures) ∙ c .before .enum-told .given .1) .valid)
+    good (a .header .now) (sym (h .ensures) ∙ c .before .enum-told .given .1) (c .read .result) (c .read .ensures) .0
 
 returns-2 : tie.Need-returns-2
 returns-2 c =
@@ -102,7 +109,8 @@ slot-count-requires c κs =
     let a = (c .before .before .before .before .before .before .before .before .before) .args in
     let h = (c .before .before .before .before .before) .header-says in
     let done = (c .before .before .before) .enum-told .given .1 in
-    rw ((c .before .before) .read .ensures) (header-good (a .header .now) (sym (h .ensures) ∙ done) .valid)
+    let f = (c .before .before) .read in
+    good (a .header .now) (sym (h .ensures) ∙ done) (f .result) (f .ensures) .0
 
 take-requires : tie.Need-take-requires
 take-requires c κs =
@@ -110,8 +118,8 @@ take-requires c κs =
     let h = (c .before .before .before .before .before .before .before) .header-says in
     let l = (c .before .before .before) .lengths-right in
     let f = (c .before .before .before .before) .read in
-    let v = header-good (a .header .now) (sym (h .ensures) ∙ (c .before .before .before .before .before) .enum-told .given .1) .valid in
-    lies (f .result) (a .capture .now) (a .slot) (length (a .slots .now)) ((c .before) .slot-count .result) (rw (f .ensures) v)
+    let g = good (a .header .now) (sym (h .ensures) ∙ (c .before .before .before .before .before) .enum-told .given .1) (f .result) (f .ensures) in
+    lies (f .result) (a .capture .now) (a .slot) (length (a .slots .now)) ((c .before) .slot-count .result) (g .0 .0) (g .1)
     (sym (l .ensures) ∙ not-false (l .result) ((c .before .before) .if1 .left)) ((c .before) .slot-count .ensures)
 
 same-length : tie.Need-same-length

@@ -1,24 +1,23 @@
--- Questions 1 to 7 by the header's check, then 20 and 8.
+-- Questions 1 to 7 and 20 by the header's check, then 8.
 use mathlib.Core.Path.{_≡_, refl, sym, ap, _∙_}
-use mathlib.Core.Bool.{Bool, true, false}
+use mathlib.Core.Bool.{Bool}
 use mathlib.Core.List.{List}
-use Prim.Native.Nat.{ℕ}
+use Prim.Native.Nat.{ℕ, _≤_}
 use lib.ListN.{length}
 use borrow.Author.Tests.{not-true, not-false}
 use Rattle.answers.specs.Answer.{ask, then, no-done}
 use Rattle.answers.specs.declared.Answer.{Answer}
-use Rattle.answers.specs.declared.Answer.the-variants.{Done, No}
+use Rattle.answers.specs.declared.Answer.the-variants.{Done}
 use Rattle.answers.proofs.Refused.{not-done, stands}
 use Rattle.header.specs.Header.{fieldsOf}
 use Rattle.parameters.specs.Marks.{runSays, parametersOf, checked}
 use Rattle.quantities.specs.Valid.{Valid}
-use Rattle.questions.specs.Good.{header-good}
+use Rattle.questions.specs.Good.{header-good, copies-range}
 use Rattle.parameters.specs.Accepted.{run-good, check-answer, check-parameters}
 use Rattle.header.specs.declared.Fields.{Fields}
 use Rattle.parameters.specs.declared.Parameters.{Parameters}
 use Rattle.parameters.specs.declared.Checked.{Checked}
-use Rattle.plan.specs.Accepted.{copies-range}
-use Rattle.plan.specs.Lengths.{copiesGood, lengthsRight, callSays}
+use Rattle.plan.specs.Lengths.{lengthsRight, callSays}
 use borrow.Author.Needs.{needs}
 use Rattle.plan.proofs.check.Statement.{statement}
 use Rattle.plan.proofs.check.Tie as tie
@@ -28,10 +27,10 @@ module _ (header marker : List ℕ) (c : Checked) (e : c ≡ checked header mark
   said : c .answer ≡ runSays header marker
   said = ap (λ (x : Checked). x .answer) e ∙ check-answer header marker
 
-  refused : (k n s : ℕ) → ((rest : Answer) → c .answer ≡ then (c .answer) rest) → c .answer ≡ callSays k header marker n s
+  refused : (n s : ℕ) → ((rest : Answer) → c .answer ≡ then (c .answer) rest) → c .answer ≡ callSays header marker n s
   unfolding callSays
-  refused k n s stand =
-      let rest : Answer = then (ask (copiesGood k) 20 0) (ask (lengthsRight k (fieldsOf header) (length marker) n s) 8 0) in
+  refused n s stand =
+      let rest : Answer = ask (lengthsRight (fieldsOf header) (length marker) n s) 8 0 in
       stand rest ∙ ap (λ (a : Answer). then a rest) said
 
   module _ (g : c .answer ≡ Done) where
@@ -39,17 +38,15 @@ module _ (header marker : List ℕ) (c : Checked) (e : c ≡ checked header mark
     unfolding parametersOf
     fields-are = ap (λ (q : Parameters). q .fields) (check-parameters header marker c e g)
 
-    fields-valid : Valid (c .parameters .fields)
-    fields-valid = rw fields-are (header-good header (run-good header marker (sym said ∙ g) .0) .valid)
+    fields-valid : Valid (c .parameters .fields) × (c .parameters .fields .copies ≤ 32)
+    fields-valid =
+        let h = header-good header (run-good header marker (sym said ∙ g) .0) in
+        rw fields-are (h .valid, copies-range (fieldsOf header .copies) (h .copies) .1)
 
-    asked-20 : (k n s : ℕ) → copiesGood k ≡ false → No 20 0 ≡ callSays k header marker n s
+    asked : (n s : ℕ) (b : Bool) → b ≡ lengthsRight (c .parameters .fields) (length marker) n s → callSays header marker n s ≡ ask b 8 0
     unfolding callSays
-    asked-20 k n s e = sym (rw (sym said ∙ g, e) refl)
-
-    asked : (k n s : ℕ) (b : Bool) → copiesGood k ≡ true → b ≡ lengthsRight k (c .parameters .fields) (length marker) n s → callSays k header marker n s ≡ ask b 8 0
-    unfolding callSays
-    asked k n s b e l =
-        rw (sym said ∙ g, e) (ap (λ (t : Bool). ask t 8 0) (ap (λ (f : Fields). lengthsRight k f (length marker) n s) (sym fields-are) ∙ sym l))
+    asked n s b l =
+        rw (sym said ∙ g) (ap (λ (t : Bool). ask t 8 0) (ap (λ (f : Fields). lengthsRight f (length marker) n s) (sym fields-are) ∙ sym l))
 
 check-requires : tie.Need-check-requires
 check-requires c κs = search needs
@@ -65,53 +62,34 @@ returns c =
     let a = c .before .before .before .before .before .args in
     let k = c .before .before .check in
     let keys = c .before .match .keys2 in (
-      refused (a .header .now) (a .marker .now) (k .result) (k .ensures) (a .copies) (a .frames-length) (a .slots-length) (λ rest. stands (k .result .answer) rest keys),
+      refused (a .header .now) (a .marker .now) (k .result) (k .ensures) (a .frames-length) (a .slots-length) (λ rest. stands (k .result .answer) rest keys),
       λ d. absurd (not-done (k .result .answer) keys d),
     )
 
-copies-good-requires : tie.Need-copies-good-requires
-copies-good-requires c κs = search needs
+lengths-right-requires : tie.Need-lengths-right-requires
+lengths-right-requires c κs =
+    let a = c .before .before .before .before .before .before .before .args in
+    let k = c .before .before .before .before .check in
+    fields-valid (a .header .now) (a .marker .now) (k .result) (k .ensures) (c .before .before .enum-told .given .1)
 
 returns-2 : tie.Need-returns-2
 returns-2 c =
     let a = c .before .before .before .before .before .before .before .before .before .args in
     let k = c .before .before .before .before .before .before .check in
-    let o = c .before .copies-good in (
-      asked-20 (a .header .now) (a .marker .now) (k .result) (k .ensures) (c .before .before .before .before .enum-told .given .1) (a .copies) (a .frames-length) (a .slots-length)
-          (sym (o .ensures) ∙ not-true (o .result) (c .if1 .taken)),
+    let l = c .before .lengths-right in
+    let e = asked (a .header .now) (a .marker .now) (k .result) (k .ensures) (c .before .before .before .before .enum-told .given .1) (a .frames-length) (a .slots-length) (l .result) (l .ensures) in (
+      sym (e ∙ ap (λ (t : Bool). ask t 8 0) (not-true (l .result) (c .if1 .taken))),
       λ d. absurd (no-done d),
-    )
-
--- past question 20
-good : (c : tie.Else1) → copiesGood (c .before .before .before .before .before .before .before .before .before .args .copies) ≡ true
-good c = let o = c .before .copies-good in sym (o .ensures) ∙ not-false (o .result) (c .if1 .left)
-
-lengths-right-requires : tie.Need-lengths-right-requires
-lengths-right-requires c κs =
-    let a = c .before .before .before .before .before .before .before .before .before .args in
-    let k = c .before .before .before .before .before .before .check in (
-      fields-valid (a .header .now) (a .marker .now) (k .result) (k .ensures) (c .before .before .before .before .enum-told .given .1),
-      copies-range (a .copies) (good c) .1,
     )
 
 returns-3 : tie.Need-returns-3
 returns-3 c =
-    let a = c .before .before .before .before .before .before .before .before .before .before .before .args in
-    let k = c .before .before .before .before .before .before .before .before .check in
+    let a = c .before .before .before .before .before .before .before .before .before .args in
+    let k = c .before .before .before .before .before .before .check in
     let l = c .before .lengths-right in
-    let e = asked (a .header .now) (a .marker .now) (k .result) (k .ensures) (c .before .before .before .before .before .before .enum-told .given .1) (a .copies) (a .frames-length) (a .slots-length) (l .result) (good (c .before .before)) (l .ensures) in (
-      sym (e ∙ ap (λ (t : Bool). ask t 8 0) (not-true (l .result) (c .if2 .taken))),
-      λ d. absurd (no-done d),
-    )
-
-returns-4 : tie.Need-returns-4
-returns-4 c =
-    let a = c .before .before .before .before .before .before .before .before .before .before .before .args in
-    let k = c .before .before .before .before .before .before .before .before .check in
-    let l = c .before .lengths-right in
-    let done = c .before .before .before .before .before .before .enum-told .given .1 in
-    let e = asked (a .header .now) (a .marker .now) (k .result) (k .ensures) done (a .copies) (a .frames-length) (a .slots-length) (l .result) (good (c .before .before)) (l .ensures) in (
-      done ∙ sym (e ∙ ap (λ (t : Bool). ask t 8 0) (not-false (l .result) (c .if2 .left))),
+    let done = c .before .before .before .before .enum-told .given .1 in
+    let e = asked (a .header .now) (a .marker .now) (k .result) (k .ensures) done (a .frames-length) (a .slots-length) (l .result) (l .ensures) in (
+      done ∙ sym (e ∙ ap (λ (t : Bool). ask t 8 0) (not-false (l .result) (c .if1 .left))),
       λ d. check-parameters (a .header .now) (a .marker .now) (k .result) (k .ensures) d,
     )
 
@@ -123,8 +101,6 @@ check-spec =
     enum-told
     enum-told-2
     returns
-    copies-good-requires
-    returns-2
     lengths-right-requires
-    returns-3
-    returns-4)
+    returns-2
+    returns-3)

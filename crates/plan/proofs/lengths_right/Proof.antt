@@ -27,8 +27,8 @@ returns-2 c =
     let m : a .marker-length ≡ markerBytes (a .f) = c .before .before .if1 .left ∙ c .before .before .before .marker-bytes .ensures in
     sym (rw (eq-eqb (a .marker-length) (markerBytes (a .f)) m, ne-eqb (a .frames-length) (frameBytes (a .f)) (λ e. c .if2 .taken (e ∙ sym (c .before .frame-bytes .ensures)))) refl)
 
-sent-bytes-requires : tie.Need-sent-bytes-requires
-sent-bytes-requires c κs = search needs
+slot-bytes-requires : tie.Need-slot-bytes-requires
+slot-bytes-requires c κs = search needs
 
 returns-3 : tie.Need-returns-3
 unfolding lengthsRight
@@ -36,7 +36,7 @@ returns-3 c =
     let a = c .before .before .before .before .before .args in
     let m : a .marker-length ≡ markerBytes (a .f) = c .before .before .before .if1 .left ∙ c .before .before .before .before .marker-bytes .ensures in
     let n : a .frames-length ≡ frameBytes (a .f) = c .before .if2 .left ∙ c .before .before .frame-bytes .ensures in
-    ap (eqb (a .slots-length)) (c .sent-bytes .ensures)
+    ap (eqb (a .slots-length)) (c .slot-bytes .ensures)
     ∙ sym (rw (eq-eqb (a .marker-length) (markerBytes (a .f)) m, eq-eqb (a .frames-length) (frameBytes (a .f)) n) refl)
 
 pub lengths-right-spec : {M : Type 1} → statement M
@@ -47,5 +47,5 @@ lengths-right-spec =
     returns
     frame-bytes-requires
     returns-2
-    sent-bytes-requires
+    slot-bytes-requires
     returns-3)

@@ -24,7 +24,7 @@ unfolding planOf
 returns c =
     let q = c .before .before .before .before .before .before .before .args .q in
     λ i. record {
-      copies = c .before .before .before .before .before .before .before .args .copies;
+      copies = q .fields .copies;
       bits = q .fields .bits;
       order = c .before .before .before .before .pulse-order .ensures i;
       group = c .before .before .before .slots-per-symbol .ensures i;

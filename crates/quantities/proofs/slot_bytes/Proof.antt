@@ -12,7 +12,7 @@ slot-count-requires : tie.Need-slot-count-requires
 slot-count-requires c κs = search needs
 
 add-result : tie.Need-add-result
-add-result c = omega (arith, slot-most (c .before .args .f) (c .before .pre))
+add-result c = omega (arith, slot-most (c .before .args .f) (c .before .pre .0) (c .before .pre .1))
 
 returns : tie.Need-returns
 unfolding slotBytes

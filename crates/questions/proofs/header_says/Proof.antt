@@ -1,28 +1,68 @@
--- Question 1 gives the eight bytes that the fields are read from.
-use mathlib.Core.Path.{sym, ap, _∙_}
-use Rattle.questions.specs.Questions.{fieldsSay}
-use Rattle.questions.proofs.Said.{passed, failed, say1, say-rest, question1-long}
+-- 1 to 7 first, and where they are answered yes the factor.
+use mathlib.Core.Path.{_≡_, refl, sym, ap, _∙_}
+use native.Mathlib.Omega.{arith}
+use borrow.Author.Tests.{not-true, not-false}
+use Rattle.answers.specs.Answer.{ask, then}
+use Rattle.answers.specs.declared.Answer.{Answer}
+use Rattle.answers.proofs.Refused.{stands}
+use Rattle.answers.specs.declared.Answer.the-variants.{Done}
+use Rattle.header.specs.Header.{fieldsOf}
+use Rattle.questions.specs.Questions.{question20, formSays, headerSays}
+use Rattle.questions.specs.Good.{form-good}
 use borrow.Author.Needs.{needs}
 use Rattle.questions.proofs.header_says.Statement.{statement}
 use Rattle.questions.proofs.header_says.Tie as tie
 
-question1-requires : tie.Need-question1-requires
-question1-requires c κs = search needs
+-- past the `let .. else`
+passed : (c : tie.After-enum-told) → formSays (c .before .before .before .before .args .header .now) ≡ Done
+passed c = sym (c .before .before .form-says .ensures) ∙ c .enum-told .given .1
+
+form-says-requires : tie.Need-form-says-requires
+form-says-requires c κs = search needs
+
+enum-told : tie.Need-enum-told
+enum-told c = search needs
+
+enum-told-2 : tie.Need-enum-told-2
+enum-told-2 c = search needs
 
 returns : tie.Need-returns
-returns c = sym (say1 (c .before .before .before .args .header .now) (search failed))
+unfolding headerSays
+returns c =
+    let header = c .before .before .before .before .args .header .now in
+    let rest : Answer = ask (question20 (fieldsOf header)) 20 0 in
+    let s = c .before .before .form-says in
+    stands (s .result) rest (c .before .match .keys2) ∙ ap (λ (a : Answer). then a rest) (s .ensures)
 
 read-requires : tie.Need-read-requires
-read-requires c κs = question1-long (c .before .before .before .args .header .now) (search passed)
+read-requires c κs = let l = form-good (c .before .before .before .before .args .header .now) (passed c) .long in omega arith
 
-fields-say-requires : tie.Need-fields-say-requires
-fields-say-requires c κs = search needs
+question20-requires : tie.Need-question20-requires
+question20-requires c κs = search needs
+
+-- what was found of the factor
+found : (c : tie.After-question20) → question20 (fieldsOf (c .before .before .before .before .before .before .args .header .now)) ≡ c .question20 .result
+found c = ap question20 (sym (c .before .read .ensures)) ∙ sym (c .question20 .ensures)
 
 returns-2 : tie.Need-returns-2
-returns-2 c =
-    c .fields-say .ensures ∙ ap fieldsSay (c .before .read .ensures)
-    ∙ sym (say-rest (c .before .before .before .before .before .args .header .now) (search passed))
+unfolding headerSays
+returns-2 c = sym (rw (passed (c .before .before .before), found (c .before) ∙ not-true _ (c .if1 .taken)) refl)
+
+returns-3 : tie.Need-returns-3
+unfolding headerSays
+returns-3 c =
+    c .before .before .before .enum-told .given .1
+    ∙ sym (rw (passed (c .before .before .before), found (c .before) ∙ not-false _ (c .if1 .left)) refl)
 
 pub header-says-spec : {M : Type 1} → statement M
 header-says-spec =
-    tie.close (tie.spec question1-requires returns read-requires fields-say-requires returns-2)
+    tie.close
+    (tie.spec
+    form-says-requires
+    enum-told
+    enum-told-2
+    returns
+    read-requires
+    question20-requires
+    returns-2
+    returns-3)

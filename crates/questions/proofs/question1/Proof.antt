@@ -1,4 +1,4 @@
--- Eight bytes are asked first, then the spare bits.
+-- Ten bytes are asked first, then the spare bits.
 use mathlib.Core.Path.{refl, sym, ap, _∙_}
 use Prim.Native.Nat.{ℕ}
 use lib.Dec.{eqb}
@@ -13,7 +13,7 @@ returns : tie.Need-returns
 unfolding question1
 returns c =
     let header = c .before .before .args .header .now in
-    sym (rw (ne-eqb (length header) 8 (c .if1 .taken)) refl)
+    sym (rw (ne-eqb (length header) 10 (c .if1 .taken)) refl)
 
 spare-requires : tie.Need-spare-requires
 spare-requires c κs = search needs
@@ -22,7 +22,7 @@ returns-2 : tie.Need-returns-2
 unfolding question1
 returns-2 c =
     let header = c .before .before .before .args .header .now in
-    ap (λ (s : ℕ). eqb s 0) (c .spare .ensures) ∙ sym (rw (eq-eqb (length header) 8 (c .before .if1 .left)) refl)
+    ap (λ (s : ℕ). eqb s 0) (c .spare .ensures) ∙ sym (rw (eq-eqb (length header) 10 (c .before .if1 .left)) refl)
 
 pub question1-spec : {M : Type 1} → statement M
 question1-spec = tie.close (tie.spec returns spare-requires returns-2)

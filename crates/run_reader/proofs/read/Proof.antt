@@ -20,14 +20,14 @@ use Rattle.run_reader.proofs.read.Statement.{statement}
 use Rattle.run_reader.proofs.read.Tie as tie
 
 -- what the checked parameters say, and give, is what the header does
-module _ (copies : ℕ) (header marker slots : List ℕ) (n : ℕ) (q : Parameters) (e : q ≡ parametersOf (fieldsOf header) marker) where
-  says : callSays copies header marker n (length slots) ≡ Done → bufferSays (q .fields) (planOf copies q) slots ≡ readSays copies header marker slots n
+module _ (header marker slots : List ℕ) (n : ℕ) (q : Parameters) (e : q ≡ parametersOf (fieldsOf header) marker) where
+  says : callSays header marker n (length slots) ≡ Done → bufferSays (q .fields) (planOf q) slots ≡ readSays header marker slots n
   unfolding readSays parametersOf
-  says d = ap (λ (x : Parameters). bufferSays (x .fields) (planOf copies x) slots) e ∙ sym (ap (λ (a : Answer). then a (bufferSays (fieldsOf header) (planIn copies header marker) slots)) d)
+  says d = ap (λ (x : Parameters). bufferSays (x .fields) (planOf x) slots) e ∙ sym (ap (λ (a : Answer). then a (bufferSays (fieldsOf header) (planIn header marker) slots)) d)
 
-  gives : framesOf (q .fields) (wordOut (planOf copies q) slots) ≡ framesRead copies header marker slots
+  gives : framesOf (q .fields) (wordOut (planOf q) slots) ≡ framesRead header marker slots
   unfolding framesRead parametersOf
-  gives = ap (λ (x : Parameters). framesOf (x .fields) (wordOut (planOf copies x) slots)) e
+  gives = ap (λ (x : Parameters). framesOf (x .fields) (wordOut (planOf x) slots)) e
 
 check-requires : tie.Need-check-requires
 check-requires c κs = search needs
@@ -44,7 +44,7 @@ returns c =
     let a = c .before .before .before .before .before .before .before .args in
     let k = c .before .before .check in
     let keys = c .before .match .keys2 in
-    let rest : Answer = bufferSays (fieldsOf (a .header .now)) (planIn (a .copies) (a .header .now) (a .marker .now)) (a .slots .now) in (
+    let rest : Answer = bufferSays (fieldsOf (a .header .now)) (planIn (a .header .now) (a .marker .now)) (a .slots .now) in (
       stands (k .result .answer) rest keys ∙ ap (λ (x : Answer). then x rest) (k .ensures .0),
       kept (k .result .answer) _ _ keys,
     )
@@ -54,7 +54,7 @@ read-with-requires c κs =
     let a = c .before .before .before .before .before .before .before .before .args in
     let k = c .before .before .before .check in
     let done = c .before .enum-told .given .1 in
-    entered (a .copies) (a .header .now) (a .marker .now) (length (a .frames .now)) (length (a .slots .now)) (k .result .parameters) (sym (k .ensures .0) ∙ done) (k .ensures .1 done)
+    entered (a .header .now) (a .marker .now) (length (a .frames .now)) (length (a .slots .now)) (k .result .parameters) (sym (k .ensures .0) ∙ done) (k .ensures .1 done)
 
 same-length : tie.Need-same-length
 same-length c = search needs
@@ -66,8 +66,8 @@ returns-2 c =
     let r = c .before .before .read-with in
     let done = c .before .before .before .before .enum-told .given .1 in
     let e = k .ensures .1 done in (
-      r .ensures .0 ∙ says (a .copies) (a .header .now) (a .marker .now) (a .slots .now) (length (a .frames .now)) (k .result .parameters) e (sym (k .ensures .0) ∙ done),
-      r .ensures .1 ∙ ap (λ (x : List ℕ). after (r .result) x (a .frames .now)) (gives (a .copies) (a .header .now) (a .marker .now) (a .slots .now) (length (a .frames .now)) (k .result .parameters) e),
+      r .ensures .0 ∙ says (a .header .now) (a .marker .now) (a .slots .now) (length (a .frames .now)) (k .result .parameters) e (sym (k .ensures .0) ∙ done),
+      r .ensures .1 ∙ ap (λ (x : List ℕ). after (r .result) x (a .frames .now)) (gives (a .header .now) (a .marker .now) (a .slots .now) (length (a .frames .now)) (k .result .parameters) e),
     )
 
 pub read-spec : {M : Type 1} → statement M

@@ -25,7 +25,7 @@ judge-requires : tie.Need-judge-requires
 judge-requires c κs =
     let s = c .before .before .before .before .before .before .before in
     let p = (c .before) .plan-of in
-    (reading.plan-captured (s .args .copies) (s .args .q) _ (p .ensures) _ (s .pre .entered), reading.plan-cleared (s .args .copies) (s .args .q) _ (p .ensures) (s .args .slots .now) _ (s .pre .words-fit) (s .pre .empty))
+    (reading.plan-captured (s .args .q) _ (p .ensures) _ (s .pre .entered), reading.plan-cleared (s .args .q) _ (p .ensures) (s .args .slots .now) _ (s .pre .words-fit) (s .pre .empty))
 
 enum-told : tie.Need-enum-told
 enum-told c = search needs
@@ -43,8 +43,8 @@ returns c =
     let p = (c .before .before .before .before .before .before) .plan-of in
     let j = (c .before .before .before .before) .judge in
     let keys = (c .before) .match .keys2 in (
-      reading.buffer-slots (s .args .copies) q _ (p .ensures) (s .args .slots .now) (j .result) (j .ensures .0) keys,
-      kept (j .result) (framesOf (q .fields) (wordOut (planOf (s .args .copies) q) (s .args .slots .now))) (s .args .frames .now) keys,
+      reading.buffer-slots q _ (p .ensures) (s .args .slots .now) (j .result) (j .ensures .0) keys,
+      kept (j .result) (framesOf (q .fields) (wordOut (planOf q) (s .args .slots .now))) (s .args .frames .now) keys,
     )
 
 read-words-requires : tie.Need-read-words-requires
@@ -78,11 +78,11 @@ returns-2 c =
     let w = (c .before .before .before .before) .read-words in
     let done = (c .before .before .before .before .before .before .before) .enum-told .given .1 in
     let good = sym (j .ensures .0) ∙ done in
-    let taken = reading.plan-taken (s .args .copies) q _ (p .ensures) (s .args .slots .now) (j .last .1 .1 .0) (j .ensures .1 done) in
+    let taken = reading.plan-taken q _ (p .ensures) (s .args .slots .now) (j .last .1 .1 .0) (j .ensures .1 done) in
     let said = w .ensures .0 ∙ reading.words-same (q .fields) (piece wordBytes (j .last .1 .1 .0)) (wordOut (p .result) (s .args .slots .now)) taken in
     let keys = (c .before) .match2 .keys2 in (
-      reading.buffer-words (s .args .copies) q _ (p .ensures) (s .args .slots .now) good (w .result) said keys,
-      kept (w .result) (framesOf (q .fields) (wordOut (planOf (s .args .copies) q) (s .args .slots .now))) (s .args .frames .now) keys,
+      reading.buffer-words q _ (p .ensures) (s .args .slots .now) good (w .result) said keys,
+      kept (w .result) (framesOf (q .fields) (wordOut (planOf q) (s .args .slots .now))) (s .args .frames .now) keys,
     )
 
 finish-requires : tie.Need-finish-requires
@@ -115,13 +115,13 @@ returns-3 c =
     let found = (c .before .before .before .before .before .before .before .before .before .before .before .before) .enum-told .given .1 in
     let good = sym (j .ensures .0) ∙ found in
     let done = (c .before .before .before .before .before) .enum-told3 .given .1 in
-    let taken = reading.plan-taken (s .args .copies) q _ (p .ensures) slots (j .last .1 .1 .0) (j .ensures .1 found) in
+    let taken = reading.plan-taken q _ (p .ensures) slots (j .last .1 .1 .0) (j .ensures .1 found) in
     let said = sym (w .ensures .0 ∙ reading.words-same (q .fields) (piece wordBytes (j .last .1 .1 .0)) (wordOut (p .result) slots) taken) ∙ done in
     let are : (i : ℕ) → i < blockCount (q .fields) → piece (blockBytes (q .fields .rate)) (w .last .1 .1 .0) i ≡ blockIn (q .fields .rate) (wordOut (p .result) slots i) =
     λ i l. w .ensures .1 done i l ∙ ap (blockIn (q .fields .rate)) (taken i l) in
     let e = (c .before .before) .finish .ensures in (
-      reading.buffer-frames (s .args .copies) q _ (p .ensures) slots good (s .pre .entered .valid) said _ are _ (e .0),
-      e .1 ∙ ap (λ (x : List ℕ). after ((c .before .before) .finish .result) x (s .args .frames .now)) (reading.frames-out (s .args .copies) q _ (p .ensures) slots good (s .pre .entered .valid) said _ are),
+      reading.buffer-frames q _ (p .ensures) slots good (s .pre .entered .valid) said _ are _ (e .0),
+      e .1 ∙ ap (λ (x : List ℕ). after ((c .before .before) .finish .result) x (s .args .frames .now)) (reading.frames-out q _ (p .ensures) slots good (s .pre .entered .valid) said _ are),
     )
 
 pub read-in-spec : {M : Type 1} → statement M

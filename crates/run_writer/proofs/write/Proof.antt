@@ -18,9 +18,9 @@ use Rattle.run_writer.proofs.write.Statement.{statement}
 use Rattle.run_writer.proofs.write.Tie as tie
 
 -- the slots of the checked parameters are the header's
-run-is : (copies : _) (header marker frames : List _) (q : Parameters) → q ≡ parametersOf (fieldsOf header) marker → slotsOf (planOf copies q) (wordAt (q .fields) frames) ≡ runOf copies header marker frames
+run-is : (header marker frames : List _) (q : Parameters) → q ≡ parametersOf (fieldsOf header) marker → slotsOf (planOf q) (wordAt (q .fields) frames) ≡ runOf header marker frames
 unfolding runOf parametersOf
-run-is copies header marker frames q e = ap (λ (x : Parameters). slotsOf (planOf copies x) (wordAt (x .fields) frames)) e
+run-is header marker frames q e = ap (λ (x : Parameters). slotsOf (planOf x) (wordAt (x .fields) frames)) e
 
 check-requires : tie.Need-check-requires
 check-requires c κs = search needs
@@ -42,7 +42,7 @@ write-with-requires c κs =
     let a = c .before .before .before .before .before .before .before .before .args in
     let k = c .before .before .before .check in
     let done = c .before .enum-told .given .1 in
-    entered (a .copies) (a .header .now) (a .marker .now) (length (a .frames .now)) (length (a .slots .now)) (k .result .parameters) (sym (k .ensures .0) ∙ done) (k .ensures .1 done)
+    entered (a .header .now) (a .marker .now) (length (a .frames .now)) (length (a .slots .now)) (k .result .parameters) (sym (k .ensures .0) ∙ done) (k .ensures .1 done)
 
 same-length : tie.Need-same-length
 same-length c = search needs
@@ -55,8 +55,8 @@ returns-2 c =
     let done = c .before .before .before .before .enum-told .given .1 in (
       k .ensures .0,
       c .before .before .write-with .ensures
-          ∙ run-is (a .copies) (a .header .now) (a .marker .now) (a .frames .now) (k .result .parameters) (k .ensures .1 done)
-          ∙ ap (λ (r : Answer). after r (runOf (a .copies) (a .header .now) (a .marker .now) (a .frames .now)) (a .slots .now)) (sym done),
+          ∙ run-is (a .header .now) (a .marker .now) (a .frames .now) (k .result .parameters) (k .ensures .1 done)
+          ∙ ap (λ (r : Answer). after r (runOf (a .header .now) (a .marker .now) (a .frames .now)) (a .slots .now)) (sym done),
     )
 
 pub write-spec : {M : Type 1} → statement M

@@ -15,7 +15,7 @@ write-requires : tie.Need-write-requires
 write-requires c κs =
     let s = c .before .before .before .before .before .before .before .before .before .before .before .before .before .before .before in
     let w = c .before .before .before .before .before .before .before .code-words in
-    plan-lent (s .args .copies) (s .args .q) _ _ _ (c .before .before .plan-of .ensures) (s .pre .entered .fine) (let k = w .kept .1 .1 .1 .0 in let h = s .pre .words-fit in omega arith) (s .pre .entered .slots-are)
+    plan-lent (s .args .q) _ _ _ (c .before .before .plan-of .ensures) (s .pre .entered .fine) (let k = w .kept .1 .1 .1 .0 in let h = s .pre .words-fit in omega arith) (s .pre .entered .slots-are)
 
 same-length : tie.Need-same-length
 same-length c = search needs
@@ -30,7 +30,7 @@ returns : tie.Need-returns
 returns c =
     let s = c .before .before .before .before .before .before .before .before .before .before .before .before .before .before .before .before .before .before in
     let w = c .before .before .before .before .before .before .before .before .before .before .code-words in
-    slots-coded (s .args .copies) (s .args .q) _ (w .last .1 .1 .1 .0) (s .args .frames .now) _ (c .before .before .before .before .before .plan-of .ensures) (w .ensures) (c .before .before .write .ensures)
+    slots-coded (s .args .q) _ (w .last .1 .1 .1 .0) (s .args .frames .now) _ (c .before .before .before .before .before .plan-of .ensures) (w .ensures) (c .before .before .write .ensures)
 
 pub write-in-spec : {M : Type 1} → statement M
 write-in-spec =

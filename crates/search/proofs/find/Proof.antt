@@ -1,4 +1,4 @@
--- Questions 1 to 7 by the header's check, then 8, then 19.
+-- Questions 1 to 7 and 20 by the header's check, then 8, then 19.
 use mathlib.Core.Path.{_≡_, refl, sym, ap, _∙_}
 use mathlib.Core.Bool.{Bool, true}
 use mathlib.Core.List.{List}
@@ -31,7 +31,7 @@ module _ (header marker b : List ℕ) (c : Checked) (e : c ≡ checked header ma
   refused : ((rest : Answer) → c .answer ≡ then (c .answer) rest) → c .answer ≡ findSays header marker b
   unfolding findSays
   refused stand =
-      let rest : Answer = then (ask (lengthsRight (fieldsOf header) (length marker) (length b)) 8 0) (slotSays (planIn 1 header marker) b) in
+      let rest : Answer = then (ask (lengthsRight (fieldsOf header) (length marker) (length b)) 8 0) (slotSays (planIn header marker) b) in
       stand rest ∙ ap (λ (a : Answer). then a rest) said
 
   module _ (g : c .answer ≡ Done) (t : Bool) (l : t ≡ lengthsRight (c .parameters .fields) (length marker) (length b)) where
@@ -39,11 +39,11 @@ module _ (header marker b : List ℕ) (c : Checked) (e : c ≡ checked header ma
     unfolding parametersOf
     lengths = l ∙ ap (λ (q : Parameters). lengthsRight (q .fields) (length marker) (length b)) (check-parameters header marker c e g)
 
-    asked : findSays header marker b ≡ then (ask t 8 0) (slotSays (planIn 1 header marker) b)
+    asked : findSays header marker b ≡ then (ask t 8 0) (slotSays (planIn header marker) b)
     unfolding findSays
-    asked = rw (sym said ∙ g) (ap (λ (x : Bool). then (ask x 8 0) (slotSays (planIn 1 header marker) b)) (sym lengths))
+    asked = rw (sym said ∙ g) (ap (λ (x : Bool). then (ask x 8 0) (slotSays (planIn header marker) b)) (sym lengths))
 
-    ready : t ≡ true → Valid (c .parameters .fields) × Fine (planOf 1 (c .parameters)) × (length b ≤ captureMost)
+    ready : t ≡ true → Valid (c .parameters .fields) × Fine (planOf (c .parameters)) × (length b ≤ captureMost)
     unfolding parametersOf
     ready lent =
         let r = lengths-are (fieldsOf header) (length marker) (length b) (sym lengths ∙ lent) in
@@ -78,7 +78,7 @@ returns-2 c =
     let l = c .before .lengths-right in
     let done = (c .before .before .before .before) .enum-told .given .1 in (
       sym (asked (a .header .now) (a .marker .now) (a .capture .now) (k .result) (k .ensures) done (l .result) (l .ensures)
-          ∙ ap (λ (t : Bool). then (ask t 8 0) (slotSays (planIn 1 (a .header .now) (a .marker .now)) (a .capture .now)))
+          ∙ ap (λ (t : Bool). then (ask t 8 0) (slotSays (planIn (a .header .now) (a .marker .now)) (a .capture .now)))
           (not-true (l .result) (c .if1 .taken))),
       λ d. absurd (no-done d),
     )
@@ -108,12 +108,12 @@ returns-3 c =
     let k = (c .before .before .before .before .before .before .before .before) .check in
     let l = (c .before .before .before) .lengths-right in
     let done = (c .before .before .before .before .before .before) .enum-told .given .1 in
-    let plan = c .before .plan-of .ensures ∙ ap (planOf 1) (check-parameters (a .header .now) (a .marker .now) (k .result) (k .ensures) done) in
+    let plan = c .before .plan-of .ensures ∙ ap planOf (check-parameters (a .header .now) (a .marker .now) (k .result) (k .ensures) done) in
     let o = c .seek .ensures in (
       o .0
           ∙ ap (λ (p : Plan). slotSays p (a .capture .now)) plan
           ∙ sym (asked (a .header .now) (a .marker .now) (a .capture .now) (k .result) (k .ensures) done (l .result) (l .ensures)
-          ∙ ap (λ (t : Bool). then (ask t 8 0) (slotSays (planIn 1 (a .header .now) (a .marker .now)) (a .capture .now)))
+          ∙ ap (λ (t : Bool). then (ask t 8 0) (slotSays (planIn (a .header .now) (a .marker .now)) (a .capture .now)))
           (not-false (l .result) (c .before .before .if1 .left))),
       λ d. o .1 ∙ ap (λ (p : Plan). firstFit p (a .capture .now)) plan,
     )

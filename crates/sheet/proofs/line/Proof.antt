@@ -1,9 +1,11 @@
 -- A refusal's line is `no` and its number; past it the header is good, and its fields are valid.
 use mathlib.Core.Path.{_≡_, sym, ap, _∙_}
+use native.Mathlib.Omega.{arith}
 use Rattle.answers.specs.declared.Answer.the-variants.{Done}
 use Rattle.answers.proofs.Refused.{not-done}
+use Rattle.header.specs.Header.{fieldsOf}
 use Rattle.questions.specs.Questions.{headerSays}
-use Rattle.questions.specs.Good.{header-good}
+use Rattle.questions.specs.Good.{header-good, copies-range}
 use Rattle.sheet.proofs.Pieces.{put-counts}
 use Rattle.sheet.specs.Line.{noLine, runLine}
 use Rattle.sheet.proofs.Pieces.{printed, line-no, line-run}
@@ -44,12 +46,14 @@ returns c =
     )
 
 read-requires : tie.Need-read-requires
-read-requires c κs = header-good (c .before .before .before .before .before .args .header .now) (good c) .long
+read-requires c κs = let l = header-good (c .before .before .before .before .before .args .header .now) (good c) .long in omega arith
 
 put-run-requires : tie.Need-put-run-requires
 put-run-requires c κs =
     let s = c .before .before .before .before .before .before .before in
-    (rw (c .before .read .ensures) (header-good (s .args .header .now) (good (c .before .before)) .valid), s .pre)
+    let header = s .args .header .now in
+    let g = header-good header (good (c .before .before)) in
+    (rw (c .before .read .ensures) (g .valid, copies-range (fieldsOf header .copies) (g .copies) .1), s .pre)
 
 same-length-2 : tie.Need-same-length-2
 same-length-2 c = search needs

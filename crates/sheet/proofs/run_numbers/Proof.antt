@@ -14,8 +14,8 @@ pulse-order-requires c κs = search needs
 block-count-requires : tie.Need-block-count-requires
 block-count-requires c κs = search needs
 
-symbol-count-requires : tie.Need-symbol-count-requires
-symbol-count-requires c κs = search needs
+sent-symbols-requires : tie.Need-sent-symbols-requires
+sent-symbols-requires c κs = search needs
 
 slot-count-requires : tie.Need-slot-count-requires
 slot-count-requires c κs = search needs
@@ -26,9 +26,9 @@ returns c =
     let f = c .before .before .before .before .args .f in
     let m = c .before .before .before .pulse-order in
     let b = c .before .before .block-count in
-    let s = c .before .symbol-count in
-    ap₂ (λ (x y : ℕ). x ∷ f .rows ∷ f .step ∷ f .size ∷ f .markers ∷ f .frames ∷ y ∷ s .result ∷ c .slot-count .result ∷ []) (m .ensures) (b .ensures)
-    ∙ ap₂ (λ (x y : ℕ). pulseOrder f ∷ f .rows ∷ f .step ∷ f .size ∷ f .markers ∷ f .frames ∷ blockCount f ∷ x ∷ y ∷ []) (s .ensures) (c .slot-count .ensures)
+    let s = c .before .sent-symbols in
+    ap₂ (λ (x y : ℕ). x ∷ f .rows ∷ f .step ∷ f .size ∷ f .markers ∷ f .frames ∷ y ∷ s .result ∷ c .slot-count .result ∷ f .copies ∷ []) (m .ensures) (b .ensures)
+    ∙ ap₂ (λ (x y : ℕ). pulseOrder f ∷ f .rows ∷ f .step ∷ f .size ∷ f .markers ∷ f .frames ∷ blockCount f ∷ x ∷ y ∷ f .copies ∷ []) (s .ensures) (c .slot-count .ensures)
 
 pub run-numbers-spec : {M : Type 1} → statement M
 run-numbers-spec =
@@ -36,6 +36,6 @@ run-numbers-spec =
     (tie.spec
     pulse-order-requires
     block-count-requires
-    symbol-count-requires
+    sent-symbols-requires
     slot-count-requires
     returns)

@@ -1,8 +1,8 @@
--- A mask leaves the lowest 16 of the 64 bits.
+-- A mask leaves the lowest 26 of the 64 bits.
 use mathlib.Core.Path.{ap, _∙_}
 use Prim.Native.Nat.{ℕ}
 use lib.Bits.{bitAnd}
-use Rattle.header.proofs.Cuts.{whole, spare-cut}
+use Rattle.header.proofs.Cuts.{spare-cut}
 use borrow.Author.Needs.{needs}
 use Rattle.header.proofs.layout.spare.Statement.{statement}
 use Rattle.header.proofs.layout.spare.Tie as tie
@@ -11,9 +11,7 @@ eight-requires : tie.Need-eight-requires
 eight-requires c κs = search needs
 
 returns : tie.Need-returns
-returns c =
-    let header = c .before .before .args .header .now in
-    ap (λ (v : ℕ). bitAnd v 65535) (c .eight .ensures ∙ whole header) ∙ spare-cut header
+returns c = ap (λ (v : ℕ). bitAnd v 67108863) (c .eight .ensures) ∙ spare-cut (c .before .before .args .header .now)
 
 pub spare-spec : {M : Type 1} → statement M
 spare-spec = tie.close (tie.spec eight-requires returns)

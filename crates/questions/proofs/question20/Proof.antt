@@ -7,9 +7,9 @@ use lib.Dec.{ltb, eqb, eqb→eq}
 use borrow.Author.Tests.{le-ltb, ne-eqb}
 use Rattle.bits.specs.Choice.{pick, bool, bool-true}
 use Rattle.bits.specs.Table.{below-all}
-use Rattle.plan.specs.Lengths.{copiesGood}
-use Rattle.plan.proofs.copies_good.Statement.{statement}
-use Rattle.plan.proofs.copies_good.Tie as tie
+use Rattle.questions.specs.Questions.{copiesGood}
+use Rattle.questions.proofs.question20.Statement.{statement}
+use Rattle.questions.proofs.question20.Tie as tie
 
 or-false : (b : Bool) → (b || false) ≡ b
 or-false true = refl
@@ -25,7 +25,7 @@ returns c = sym (rw (c .if1 .taken) refl)
 
 returns-2 : tie.Need-returns-2
 returns-2 c =
-    let k = c .before .before .args .copies in
+    let k = c .before .before .args .f .copies in
     let n = c .before .if1 .left in
     let some : 0 < k = let z : (k ≡ 0 → ⊥) = n in omega arith in
     sym (few k some (c .if2 .taken))
@@ -41,10 +41,10 @@ returns-4 c = sym (rw (c .if4 .taken) refl)
 returns-5 : tie.Need-returns-5
 unfolding copiesGood
 returns-5 c =
-    let k = c .before .before .before .before .args .copies in
+    let k = c .before .before .before .before .args .f .copies in
     let five = c .before .before .if2 .left in
     let other : (n : ℕ) → n < 5 → eqb k n ≡ false = λ n h. ne-eqb k n (λ q. omega arith) in
     sym (rw (other 1 (omega arith), other 2 (omega arith), other 3 (omega arith), other 4 (omega arith), ne-eqb k 8 (c .before .if3 .left), ne-eqb k 16 (c .if4 .left)) (or-false (eqb k 32)))
 
-pub copies-good-spec : {M : Type 1} → statement M
-copies-good-spec = tie.close (tie.spec returns returns-2 returns-3 returns-4 returns-5)
+pub question20-spec : {M : Type 1} → statement M
+question20-spec = tie.close (tie.spec returns returns-2 returns-3 returns-4 returns-5)

@@ -1,0 +1,3 @@
+pub mod Convert
+pub mod Needs
+pub mod Theorems
