@@ -62,12 +62,13 @@ PASSES ?=
 RUNS ?=
 CAPTURES ?=
 HEADERS ?=
+DELAYS ?=
 UPLINKS ?=
 
 help:
 	@echo 'make test       prove every crate (rt ci), then host-test; last line: N passed, 0 failed'
 	@echo 'make host-test  the tests outside the proofs alone; SEED=n, WORDS=n, PASSES=n, RUNS=n,'
-	@echo '                CAPTURES=n, HEADERS=n and UPLINKS=n choose what is compared'
+	@echo '                CAPTURES=n, HEADERS=n, DELAYS=n and UPLINKS=n choose what is compared'
 	@echo 'make demo       write a run, see its first symbols, read it back, damage it, look into it'
 	@echo 'make bench      times of the library beside plain C and beside memory'
 	@echo 'make lib        the static library and the shared one: $(LIBS)'
@@ -89,9 +90,9 @@ PYTHON_TEST = if ! command -v python3 >/dev/null; then \
     echo 'python: no python3 here; the module is not tried'; \
     else MAHYREI_LIBRARY=$(abspath $(SHARED)) tests/python/module $(PROGRAM) $(HOST)/slots; fi
 HOST_TESTS = $(SHARED) $(addprefix $(HOST)/,mahyrei_lying word_calls pass_calls spread_calls \
-    run_calls long_calls find_calls header_calls uplink_calls plain_calls sha256_vectors \
-    second_test compare_words compare_passes compare_spreads compare_runs compare_captures \
-    compare_headers compare_uplinks) $(COMMAND_TESTS)
+    run_calls long_calls find_calls header_calls delay_calls uplink_calls plain_calls \
+    sha256_vectors second_test compare_words compare_passes compare_spreads compare_runs \
+    compare_captures compare_headers compare_delays compare_uplinks) $(COMMAND_TESTS)
 host-test: $(HOST_TESTS)
 	@echo '#include "mahyrei_plain.h"' | $(CXX) -x c++ $(WARNINGS) -Iinclude -fsyntax-only -
 	@$(STACK) && ASAN_OPTIONS=detect_leaks=0 $(HOST)/word_calls
@@ -101,6 +102,7 @@ host-test: $(HOST_TESTS)
 	@$(STACK) && ASAN_OPTIONS=detect_leaks=0 $(HOST)/long_calls
 	@$(STACK) && ASAN_OPTIONS=detect_leaks=0 $(HOST)/find_calls
 	@$(STACK) && ASAN_OPTIONS=detect_leaks=0 $(HOST)/header_calls
+	@$(STACK) && ASAN_OPTIONS=detect_leaks=0 $(HOST)/delay_calls
 	@$(STACK) && ASAN_OPTIONS=detect_leaks=0 $(HOST)/uplink_calls
 	@$(STACK) && ASAN_OPTIONS=detect_leaks=0 $(HOST)/plain_calls
 	@ASAN_OPTIONS=detect_leaks=0 $(HOST)/sha256_vectors
@@ -111,6 +113,7 @@ host-test: $(HOST_TESTS)
 	@$(STACK) && SEED=$(SEED) RUNS=$(RUNS) $(HOST)/compare_runs
 	@$(STACK) && SEED=$(SEED) CAPTURES=$(CAPTURES) $(HOST)/compare_captures
 	@$(STACK) && SEED=$(SEED) HEADERS=$(HEADERS) $(HOST)/compare_headers
+	@$(STACK) && SEED=$(SEED) DELAYS=$(DELAYS) $(HOST)/compare_delays
 	@$(STACK) && SEED=$(SEED) UPLINKS=$(UPLINKS) $(HOST)/compare_uplinks
 	@$(STACK) && tests/command/run $(COMMAND_TESTS)
 	@$(PYTHON_TEST)
@@ -124,7 +127,7 @@ demo: $(PROGRAM) $(HOST)/slots
 picture: $(PROGRAM) $(HOST)/slots
 	@demo/run $^ docs/capture.svg >/dev/null
 
-bench: $(addprefix $(HOST)/bench_,words passes uplinks runs captures)
+bench: $(addprefix $(HOST)/bench_,words passes uplinks runs captures delays)
 	@$(HOST)/bench_words
 	@echo
 	@$(HOST)/bench_passes
@@ -134,6 +137,8 @@ bench: $(addprefix $(HOST)/bench_,words passes uplinks runs captures)
 	@$(HOST)/bench_runs
 	@echo
 	@$(HOST)/bench_captures
+	@echo
+	@$(HOST)/bench_delays
 
 lib: $(LIBS) $(SHARED)
 
@@ -196,7 +201,7 @@ $(HOST)/archives: FORCE
 # The calls in plain C.
 STANDIN = $(HOST)/standin
 PLAIN_SOURCES = $(addprefix bench/,plain_word.c plain_word.h plain_pass.c plain_pass.h \
-    plain_uplink.c plain_uplink.h) tests/c/plain_run.c
+    plain_delay.c plain_delay.h plain_uplink.c plain_uplink.h) tests/c/plain_run.c
 $(STANDIN)/libmahyrei.a: $(PLAIN_SOURCES) $(HEADER) $(PARTS)
 	@mkdir -p $(@D)
 	@$(COMPILE) $(PLAIN) -fPIC -c bench/plain_word.c -o $(STANDIN)/plain_word.o
@@ -204,11 +209,13 @@ $(STANDIN)/libmahyrei.a: $(PLAIN_SOURCES) $(HEADER) $(PARTS)
 	    -Dplain_bit_spread=bit_spread -c bench/plain_word.c -o $(STANDIN)/word.o
 	@$(COMPILE) $(PLAIN) -fPIC -Dplain_pass_write=pass_write -Dplain_pass_read=pass_read \
 	    -c bench/plain_pass.c -o $(STANDIN)/pass.o
+	@$(COMPILE) $(PLAIN) -fPIC -Dplain_delay_write=delay_write -Dplain_delay_read=delay_read \
+	    -Dplain_delay_step=standin_delay_step -c bench/plain_delay.c -o $(STANDIN)/delay.o
 	@$(COMPILE) $(PLAIN) -fPIC -Dplain_uplink_write=uplink_write -Dplain_uplink_read=uplink_read \
 	    -c bench/plain_uplink.c -o $(STANDIN)/uplink.o
 	@$(COMPILE) $(PLAIN) -fPIC -Ibench -c tests/c/plain_run.c -o $(STANDIN)/run.o
 	@rm -f $@
-	@ar rcs $@ $(addprefix $(STANDIN)/,plain_word.o word.o pass.o uplink.o run.o) $(PARTS)
+	@ar rcs $@ $(addprefix $(STANDIN)/,plain_word.o word.o pass.o delay.o uplink.o run.o) $(PARTS)
 
 HOST_SOURCES = $(wildcard host/*.c)
 HOST_FLAGS = -D_XOPEN_SOURCE=700 -DMAHYREI_VERSION='"$(VERSION)"' -pthread
@@ -233,10 +240,10 @@ $(HOST)/sha256_vectors: tests/c/sha256_vectors.c host/sha256.c host/sha256.h
 	@mkdir -p $(@D)
 	@$(COMPILE) $(SANITIZED) -Ihost $< host/sha256.c -o $@
 
-SECOND = $(addprefix tests/second/,lib.rs compare.rs convert.rs find.rs library.rs pass.rs run.rs \
-    spread.rs uplink.rs word.rs run_cases.rs $(addprefix run_cases/,calls.rs captures.rs convert.rs \
-    copies.rs damages.rs edges.rs headers.rs kinds.rs refusals.rs sample.rs) pass_cases.rs \
-    spread_cases.rs uplink_cases.rs word_cases.rs)
+SECOND = $(addprefix tests/second/,lib.rs compare.rs convert.rs delay.rs find.rs library.rs \
+    pass.rs run.rs spread.rs uplink.rs word.rs run_cases.rs $(addprefix run_cases/,calls.rs \
+    captures.rs convert.rs copies.rs damages.rs delays.rs edges.rs headers.rs kinds.rs refusals.rs \
+    sample.rs) pass_cases.rs spread_cases.rs uplink_cases.rs word_cases.rs)
 $(HOST)/second_test: $(SECOND)
 	@mkdir -p $(@D)
 	@$(RUSTC) $(RUSTFLAGS) --test $< -o $@
@@ -261,11 +268,15 @@ $(HOST)/plain_pass.o: bench/plain_pass.c bench/plain_pass.h bench/plain_word.h $
 	@mkdir -p $(@D)
 	@$(COMPILE) $(PLAIN) -c $< -o $@
 
+$(HOST)/plain_delay.o: bench/plain_delay.c bench/plain_delay.h $(HEADER)
+	@mkdir -p $(@D)
+	@$(COMPILE) $(PLAIN) -c $< -o $@
+
 $(HOST)/plain_uplink.o: bench/plain_uplink.c bench/plain_uplink.h $(HEADER)
 	@mkdir -p $(@D)
 	@$(COMPILE) $(PLAIN) -c $< -o $@
 
-$(addprefix $(HOST)/bench_,words passes uplinks runs): bench/timing.h
+$(addprefix $(HOST)/bench_,words passes uplinks runs delays): bench/timing.h
 
 $(HOST)/bench_words: bench/bench_words.c $(HOST)/plain_word.o bench/plain_word.h $(HEADER) $(LINKED)
 	@$(COMPILE) $< $(HOST)/plain_word.o $(LIBS) -o $@
@@ -283,6 +294,10 @@ $(HOST)/bench_runs: bench/bench_runs.c $(HOST)/plain_word.o $(HOST)/plain_run.o 
 
 $(HOST)/bench_captures: bench/bench_captures.c tests/c/runs.h $(HEADER) $(LINKED)
 	@$(COMPILE) -Itests/c $< $(LIBS) -o $@
+
+$(HOST)/bench_delays: bench/bench_delays.c $(HOST)/plain_delay.o bench/plain_delay.h $(HEADER) \
+    $(LINKED)
+	@$(COMPILE) $< $(HOST)/plain_delay.o $(LIBS) -o $@
 
 # Evidence beyond the tests (docs/EVIDENCE.md): for as long as one likes, on all cores.
 SECONDS ?= 60
@@ -313,8 +328,8 @@ evidence-test: $(HOST)/soak $(HOST)/fuzz_drive
 $(HOST)/soak: tests/second/soak.rs $(HOST)/libsecond.rlib $(LINKED)
 	@$(RUSTC) $(RUSTFLAGS) $< $(LINK_RUST) -o $@
 
-$(addprefix $(HOST)/,run_calls long_calls find_calls header_calls pass_calls spread_calls): \
-    tests/c/runs.h
+$(addprefix $(HOST)/,run_calls long_calls find_calls header_calls delay_calls pass_calls \
+    spread_calls): tests/c/runs.h
 
 # The fuzz target with a driver in place of libFuzzer, beside the run calls in plain C.
 $(HOST)/plain_run.o: tests/c/plain_run.c bench/plain_word.h $(HEADER)
@@ -324,7 +339,7 @@ $(HOST)/plain_run.o: tests/c/plain_run.c bench/plain_word.h $(HEADER)
 	    -Dheader_narrow=plain_header_narrow -c $< -o $@
 
 FUZZ_TARGET = tests/fuzz/drive.c tests/fuzz/calls.c \
-    $(addprefix $(HOST)/,plain_word.o plain_pass.o plain_run.o plain_uplink.o)
-$(HOST)/fuzz_drive: $(FUZZ_TARGET) bench/plain_pass.h bench/plain_run.h bench/plain_uplink.h \
-    tests/fuzz/calls.h tests/c/runs.h $(HEADER) $(LINKED)
+    $(addprefix $(HOST)/,plain_word.o plain_pass.o plain_run.o plain_delay.o plain_uplink.o)
+$(HOST)/fuzz_drive: $(FUZZ_TARGET) bench/plain_pass.h bench/plain_run.h bench/plain_delay.h \
+    bench/plain_uplink.h tests/fuzz/calls.h tests/c/runs.h $(HEADER) $(LINKED)
 	@$(COMPILE) $(SANITIZED) -Ibench $(FUZZ_TARGET) $(LIBS) -o $@

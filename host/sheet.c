@@ -41,7 +41,7 @@ struct row {
     const char *meaning;
 };
 
-enum { FIELD_ROWS = 7, ROWS = 19 };
+enum { FIELD_ROWS = 7, ROWS = 20 };
 
 /* The fields but the rate, which is no number to read; then what follows from them. */
 static void fill_rows(const struct sheet *sheet, struct row rows[ROWS]) {
@@ -67,6 +67,7 @@ static void fill_rows(const struct sheet *sheet, struct row rows[ROWS]) {
         {"marker_bytes", sizes->marker_bytes, "of MARKER"},
         {"frame_bytes", sizes->frame_bytes, "of FRAMES"},
         {"slot_bytes", sizes->slot_bytes, "of SLOTS"},
+        {"delay_bytes", sizes->delay_bytes, "of the area of a delay line"},
     };
     for (int i = 0; i < ROWS; i++) {
         rows[i] = all[i];

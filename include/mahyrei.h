@@ -15,7 +15,9 @@
  * frames make the slots, bit for bit. In a capture that begins on any slot, run_find finds the
  * first marker whose symbols are sent once, and run_cut packs the run that begins at a slot anew,
  * so that run_read can read it. The header says all of this; header_widen makes one of it from the
- * shorter header of earlier versions, and header_narrow goes back.
+ * shorter header of earlier versions, and header_narrow goes back. delay_write and delay_read are
+ * the channel interleaver and its way back a symbol at a time, over a lent area, for whoever has no
+ * room for its whole sequence.
  *
  * The uplink is apart from these: command frames of 64 bits, each a codeblock of 512 slots.
  * uplink_write makes the slots of the frames; uplink_read accepts slots only if some frames make
@@ -99,12 +101,15 @@ extern "C" {
  *                      46,624,952,320 for 32
  *   slot bytes         slots / 8, rounded up; spare bits at the end are zero
  *   frame bytes        A * F, at most 131,072
+ *   bytes of the area of a delay line
+ *                      B * N * (N - 1) / 2, at most 2,040,255
  */
 #define MAHYREI_HEADER_BYTES 10
 #define MAHYREI_OLD_HEADER_BYTES 8
 #define MAHYREI_MARKER_MAX 32
 #define MAHYREI_COPIES_MAX 32
 #define MAHYREI_FRAMES_BYTES_MAX 131072
+#define MAHYREI_DELAY_BYTES_MAX 2040255
 #define MAHYREI_SLOTS_BYTES_MAX UINT64_C(5828119040)
 
 /* The most bytes of a capture that is searched: each of its bits is a slot, and the place of a slot
@@ -113,9 +118,9 @@ extern "C" {
 
 /*
  * The number in an answer: 0, or the number of the first question whose answer is no. The
- * questions are put in the order of their numbers, but that 20 comes after 7, 19, 21 and 27 after
- * 8, and 28 and 29 after 9; a call skips those it has no input for. 9 to 19, 28 and 29 are about
- * the contents of what is read.
+ * questions are put in the order of their numbers, but that 20 comes after 7, 19, 21, 26 and 27
+ * after 8, and 28 and 29 after 9; a call skips those it has no input for. 9 to 19, 28 and 29 are
+ * about the contents of what is read.
  */
 enum mahyrei_number {
     /* Accepted: every byte of the written slice has been set. run_find writes nothing: its place is
@@ -187,6 +192,10 @@ enum mahyrei_number {
     /* header_narrow: the factor is not 1, so that no header of eight bytes says the same. */
     MAHYREI_NO_OLD_HEADER = 21,
 
+    /* delay_write and delay_read: the symbol is not below M. Nothing was taken, and the symbol
+     * given is 0. */
+    MAHYREI_BAD_SYMBOL = 26,
+
     /* bit_spread: a block has no bit of this number: it has 5006, 7526 or 10046, counted from 0,
      * and the two spare bits do not count. */
     MAHYREI_BAD_BIT = 27,
@@ -205,9 +214,14 @@ static inline unsigned answer_number(uint64_t answer) {
 }
 
 /* The place in an answer, counted from 0; 0 where the number has no place. Of the accepted answers
- * only those of run_find have one. */
+ * only those of run_find have one; those of delay_write and delay_read have a symbol there. */
 static inline uint64_t answer_place(uint64_t answer) {
     return answer >> 8;
+}
+
+/* The symbol that a step of a delay line gives, from its answer; 0 where the step was refused. */
+static inline unsigned delay_symbol(uint64_t answer) {
+    return (unsigned)(answer >> 8 & 255U);
 }
 
 /* Bytes of a packed block at this rate, or 0 where there is no such rate. */
@@ -368,6 +382,40 @@ uint64_t header_widen(const uint8_t *eight, size_t eight_len, uint8_t *ten, size
  * header_widen gives the ten bytes back from what it writes.
  */
 uint64_t header_narrow(const uint8_t *ten, size_t ten_len, uint8_t *eight, size_t eight_len);
+
+/*
+ * delay_write: one step of the channel interleaver: takes a symbol of the words and gives the next
+ * of the interleaved sequence, markers left out.
+ *
+ * Reads   header, MAHYREI_HEADER_BYTES bytes, of which N, B and m matter; the factor does not. step
+ *         is the number of the step, counted from 0; symbol is below M.
+ * Writes  area, B * N * (N - 1) / 2 bytes, one of them at most: where the symbol given was, the
+ *         symbol taken is then. All are zero before step 0, which is the caller's part, and hold
+ *         what earlier steps have left before every other. None on refusal.
+ * Returns symbol given * 256 on acceptance, which delay_symbol takes out; otherwise a number from 1
+ *         to 8, or 20 or 26, place 0 (so the answer is the number, and delay_symbol gives 0).
+ *
+ * The symbols given by steps 0, 1, 2 and so on are the sequence that run_write sends for the
+ * symbols taken. The C * S symbols of a run, and N * (N - 1) * B zeros behind them, give all of its
+ * places; but the line may run on for as long as step numbers last. Nothing is kept between steps
+ * but the area. A step of any other number, or on an area that holds anything else, is accepted
+ * too: row i = step % N has i * B bytes, the rows lie one after another from row 0, and the byte of
+ * the step is number step / N % (i * B) of its row. Row 0 has none and gives back what it takes.
+ * Where N is 1 the area is empty, and may be NULL.
+ */
+uint64_t delay_write(const uint8_t *header, size_t header_len, uint64_t step, uint64_t symbol,
+                     uint8_t *area, size_t area_len);
+
+/*
+ * delay_read: the same for the way back: takes a symbol of the interleaved sequence, markers left
+ * out, and gives one of the words.
+ *
+ * All is as in delay_write, but that row i has (N - 1 - i) * B bytes. The area is another, of as
+ * many bytes, zero before step 0. What delay_write gives in steps 0, 1, 2 and so on goes in, and
+ * what it took comes out, in order, behind N * (N - 1) * B zeros.
+ */
+uint64_t delay_read(const uint8_t *header, size_t header_len, uint64_t step, uint64_t symbol,
+                    uint8_t *area, size_t area_len);
 
 /*
  * uplink_write: makes the slots of command frames.

@@ -43,6 +43,7 @@ struct mahyrei_sizes {
     uint64_t symbols; /* the same with all copies, as runsheet counts: pooled * copies */
     uint64_t slots;   /* of the run: symbols * group */
     size_t marker_bytes, frame_bytes, slot_bytes; /* of the slices that the run calls are lent */
+    size_t delay_bytes;                           /* of the area that the delay calls are lent */
 };
 
 /* The names of the fields, in the order of the header, counted from 0; NULL behind the last. */

@@ -174,5 +174,6 @@ unsigned mahyrei_sizes(const uint8_t *header, size_t header_len, struct mahyrei_
     sizes->marker_bytes = (size_t)fields.W;
     sizes->frame_bytes = (size_t)(fields.A * fields.F);
     sizes->slot_bytes = (size_t)((sizes->slots + 7) / 8);
+    sizes->delay_bytes = (size_t)(fields.B * fields.N * (fields.N - 1) / 2);
     return number;
 }

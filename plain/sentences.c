@@ -4,7 +4,7 @@
  * A number that no call gives has none. */
 static const char *const SENTENCES[] = {
     [MAHYREI_ACCEPTED] = "All is well: the result has been written, every byte of it; in run_find "
-                         "the place is the slot.",
+                         "the place is the slot, in a delay line it is the symbol given.",
     [MAHYREI_BAD_HEADER] =
         "The header is not ten bytes long, or one of its last 26 bits is set; for header_widen it "
         "is eight bytes and 16 bits.",
@@ -47,6 +47,7 @@ static const char *const SENTENCES[] = {
     [MAHYREI_BAD_COPIES] = "There is no such factor; each symbol is sent 1, 2, 3, 4, 8, 16 or 32 "
                            "times.",
     [MAHYREI_NO_OLD_HEADER] = "The factor is not 1: no header of eight bytes says the same.",
+    [MAHYREI_BAD_SYMBOL] = "The symbol is not below the pulse order; nothing was taken.",
     [MAHYREI_BAD_BIT] = "There is no such block bit; a block has 5006, 7526 or 10046.",
     [MAHYREI_BAD_GROUP] = "Four slots are no bit: they do not hold exactly one pulse, or it stands "
                           "in a guard slot; the place is the group.",

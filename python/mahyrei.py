@@ -10,11 +10,12 @@
         print(refusal.number, refusal.place, refusal.sentence)
 
 Everything is `bytes`, in and out; other objects with a buffer, such as bytearray and memoryview,
-are taken too and copied first. A call gives its whole result or raises Refused. What a refusal says
-comes from the library: run_write, run_read, run_find, run_cut, header_widen, header_narrow,
-word_write, word_read, pass_write, pass_read, bit_spread, uplink_write and uplink_read are proved
-there; header, fields, sizes and sentence are plain C, and tested. This module adds nothing to their
-answers; it only lends them room.
+are taken too and copied first. The area of a delay line is a bytearray, which a step changes. A call
+gives its whole result or raises Refused. What a refusal says comes from the library: run_write,
+run_read, run_find, run_cut, header_widen, header_narrow, delay_write, delay_read, word_write,
+word_read, pass_write, pass_read, bit_spread, uplink_write and uplink_read are proved there; header,
+fields, sizes and sentence are plain C, and tested. This module adds nothing to their answers; it
+only lends them room.
 
 A call works in less than 1 MiB of stack, so a thread that makes one needs a stack above that (see
 threading.stack_size; 0, the default, is enough on Linux). Calls let other threads run meanwhile.
@@ -33,6 +34,9 @@ __all__ = [
     "Refused",
     "Sizes",
     "bit_spread",
+    "delay_area",
+    "delay_read",
+    "delay_write",
     "fields",
     "header",
     "header_narrow",
@@ -89,7 +93,7 @@ Fields.__doc__ = """The fields of a header, by the specification's letters; rate
 copies is the factor: how often each symbol is sent in a row."""
 
 Sizes = collections.namedtuple(
-    "Sizes", "k M group S C R pooled symbols slots marker_bytes frame_bytes slot_bytes"
+    "Sizes", "k M group S C R pooled symbols slots marker_bytes frame_bytes slot_bytes delay_bytes"
 )
 Sizes.__doc__ = """What follows from a header.
 
@@ -104,6 +108,7 @@ symbols       the same with all copies
 slots         of the run
 marker_bytes, frame_bytes, slot_bytes
               of what the run calls take and give
+delay_bytes   of the area of a delay line
 """
 
 
@@ -137,6 +142,8 @@ def _load():
         ("run_cut", u64, given * 2 + [u64] + room),
         ("header_widen", u64, given + room),
         ("header_narrow", u64, given + room),
+        ("delay_write", u64, given + [u64, u64] + room),
+        ("delay_read", u64, given + [u64, u64] + room),
         ("uplink_write", u64, given + room),
         ("uplink_read", u64, given + room),
         ("mahyrei_header_fields", number, given + [pointer(_CFields)]),
@@ -299,6 +306,37 @@ def header_narrow(ten):
     """The header of eight bytes that says the same as one of ten, whose factor is 1: header_widen
     undone. Refused with a number from 1 to 7, or 20, or with 21 for another factor."""
     return _written(_library.header_narrow, [_bytes(ten)], _OLD_HEADER_BYTES)
+
+
+def delay_area(header):
+    """The area of a delay line before step 0: a bytearray of B * N * (N - 1) / 2 zeros. Refused as
+    sizes does."""
+    return bytearray(sizes(header).delay_bytes)
+
+
+def delay_write(header, step, symbol, area):
+    """One step of the channel interleaver: takes a symbol of the words, below M, and gives the next
+    of the interleaved sequence, markers left out. Steps are told 0, 1, 2 and so on; the area, a
+    bytearray as delay_area makes it, is changed in place and is all that is kept between them.
+    Refused with a number from 1 to 8, or 20 or 26, and then nothing was taken."""
+    return _stepped(_library.delay_write, header, step, symbol, area)
+
+
+def delay_read(header, step, symbol, area):
+    """The same for the way back, over an area of its own: takes a symbol of the interleaved sequence
+    and gives one of the words, N * (N - 1) * B steps after delay_write took it, and 0 before."""
+    return _stepped(_library.delay_read, header, step, symbol, area)
+
+
+def _stepped(call, header, step, symbol, area):
+    """The symbol that a step gives. Every step number that the library can hold is accepted, so what
+    it could not hold is an OverflowError here."""
+    header, symbol, step = _bytes(header), _number(symbol), operator.index(step)
+    if not 0 <= step <= _U64_MOST:
+        raise OverflowError("a step number has 64 bits")
+    length = memoryview(area).nbytes
+    lent = (ctypes.c_char * length).from_buffer(area)
+    return _accepted(call(header, len(header), step, symbol, lent, length))
 
 
 def _lengths(header):

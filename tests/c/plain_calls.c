@@ -49,7 +49,7 @@ static unsigned proved(const uint8_t *header, size_t len) {
 
 static bool zero_sizes(const struct mahyrei_sizes *sizes) {
     return sizes->pooled == 0 && sizes->symbols == 0 && sizes->marker_bytes == 0 &&
-           sizes->frame_bytes == 0 && sizes->slot_bytes == 0;
+           sizes->frame_bytes == 0 && sizes->slot_bytes == 0 && sizes->delay_bytes == 0;
 }
 
 /* Any header: the number, the fields, and the way back. */
@@ -105,9 +105,18 @@ static void try_sizes(const uint8_t header[MAHYREI_HEADER_BYTES]) {
     if (marker == NULL || frames == NULL || slots == NULL) {
         exit(2);
     }
+    uint8_t *const area = calloc(sizes.delay_bytes + 1, 1);
+    if (area == NULL) {
+        exit(2);
+    }
     check(run_write(header, MAHYREI_HEADER_BYTES, marker, sizes.marker_bytes, frames,
                     sizes.frame_bytes, slots, sizes.slot_bytes) == MAHYREI_ACCEPTED,
           "a run of these sizes", header);
+    check(delay_write(header, MAHYREI_HEADER_BYTES, 0, 1, area, sizes.delay_bytes) == 256 &&
+              delay_write(header, MAHYREI_HEADER_BYTES, 0, 1, area, sizes.delay_bytes + 1) ==
+                  MAHYREI_BAD_LENGTH,
+          "a delay line of this size", header);
+    free(area);
     free(marker);
     free(frames);
     free(slots);
@@ -125,7 +134,7 @@ static void try_names(void) {
     check(mahyrei_sizes(example, 10, &sizes) == 0 && sizes.R == 333 && sizes.S == 2520 &&
               sizes.pooled == 844488 && sizes.symbols == 844488 && sizes.slots == 67559040 &&
               sizes.slot_bytes == 8444880 && sizes.frame_bytes == 446 && sizes.marker_bytes == 16 &&
-              sizes.group == 80,
+              sizes.group == 80 && sizes.delay_bytes == 418320,
           "its sizes", header);
     example[6] = 32 << 2;
     check(mahyrei_sizes(example, 10, &sizes) == 0 && sizes.pooled == 844488 &&
@@ -145,7 +154,7 @@ static void try_names(void) {
     check(mahyrei_fields_check(&fields, &wrong) == MAHYREI_BAD_FIT && strcmp(wrong, "N and B") == 0,
           "fields that do not fit", NULL);
     for (unsigned number = 0; number < 256; number++) {
-        const bool given = (number <= 21 && number != 17) || (number >= 27 && number <= 29);
+        const bool given = (number <= 21 && number != 17) || (number >= 26 && number <= 29);
         check((mahyrei_sentence(number) != NULL) == given, "sentences", NULL);
     }
     check(mahyrei_sentence(256) == NULL && mahyrei_sentence(UINT32_MAX) == NULL, "sentences", NULL);

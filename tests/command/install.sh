@@ -4,7 +4,7 @@
 # README, the man page, the C header and the sentences have the same numbers, and none has a 17.
 once_numbers() {
     local number sentences=''
-    same 'numbers of README' "$(seq -s ' ' 0 16) 18 19 20 21 27 28 29" "$(numbers | xargs)"
+    same 'numbers of README' "$(seq -s ' ' 0 16) 18 19 20 21 26 27 28 29" "$(numbers | xargs)"
     same 'numbers of the man page' "$(numbers | xargs)" \
         "$(sed -n 's/^\.IP \([0-9]*\) 4$/\1/p' "$root/host/mahyrei.1" | xargs)"
     same 'numbers of the header' "$(numbers | xargs)" \
@@ -57,9 +57,10 @@ once_install() {
         "$(cd "$prefix_folder" && find . ! -type d -printf '%P\n' | sort | xargs)"
     nm -g --defined-only "$prefix_folder/lib/libmahyrei.a" >"$said/out"
     same 'calls of the library' \
-        "bit_spread header_narrow header_widen pass_read pass_write run_cut run_find run_read \
-run_write uplink_read uplink_write word_read word_write" \
-        "$(grep -Eo ' T ((bit|header|pass|run|uplink|word)_[a-z]*)$' "$said/out" | cut -c 4- | sort | xargs)"
+        "bit_spread delay_read delay_write header_narrow header_widen pass_read pass_write run_cut \
+run_find run_read run_write uplink_read uplink_write word_read word_write" \
+        "$(grep -Eo ' T ((bit|delay|header|pass|run|uplink|word)_[a-z]*)$' "$said/out" | cut -c 4- |
+            sort | xargs)"
     awk '/^```c$/ { on = 1; next } /^```$/ { on = 0 } on' "$root/README.md" >program.c
     flags="'-I$prefix_folder/include' '-L$prefix_folder/lib' -lmahyrei"
     if command -v pkg-config >"$said/out"; then

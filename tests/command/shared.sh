@@ -5,7 +5,7 @@
 declared() {
     gcc -E -P "$root/include/mahyrei_plain.h" | tr '\n' ' ' | sed 's/{[^{}]*}/;/g' | tr ';' '\n' |
         grep -v static | sed -n 's/.*[ *]\([a-z_]*\)(.*)$/\1/p' |
-        grep -E '^(word|pass|bit|header|uplink|run|mahyrei)_' | sort
+        grep -E '^(word|pass|bit|header|delay|uplink|run|mahyrei)_' | sort
 }
 
 install_all() {
@@ -22,9 +22,9 @@ once_shared() {
     install_all
     local so=prefix/lib/libmahyrei.so
     same 'functions of the headers' \
-        "bit_spread header_narrow header_widen mahyrei_sizes pass_read pass_write run_cut run_find \
-run_read run_write uplink_read uplink_write word_read word_write" \
-        "$(declared | grep -E '^(bit|header|pass|run|uplink|word)_|_sizes$' | xargs)"
+        "bit_spread delay_read delay_write header_narrow header_widen mahyrei_sizes pass_read \
+pass_write run_cut run_find run_read run_write uplink_read uplink_write word_read word_write" \
+        "$(declared | grep -E '^(bit|delay|header|pass|run|uplink|word)_|_sizes$' | xargs)"
     same 'names that can be seen in the shared library' "$(declared | xargs)" \
         "$(nm -D --defined-only $so | sed -n 's/^[0-9a-f]* T \(.*\)@@MAHYREI_3$/\1/p' | sort | xargs)"
     same 'and no others' "$(declared | wc -l)" \
@@ -51,6 +51,22 @@ run_read run_write uplink_read uplink_write word_read word_write" \
     # shellcheck disable=SC2086
     gcc -std=c11 -static program.c $flags -o program
     same 'README, static' "$program_says" "$(./program)"
+    # README's delay line, with symbols 1, 2, 3 and so on.
+    {
+        echo '#include <stdio.h>'
+        echo '#include <mahyrei.h>'
+        echo 'static const uint8_t header[] = {0x60, 0x18, 0x7E, 0x70, 0x81, 3, 4, 0, 0, 0};'
+        echo 'static unsigned n;'
+        echo 'static int more(void) { return n < 1000; }'
+        echo 'static uint64_t take(void) { return ++n % 256; }'
+        echo 'static void give(unsigned q) { if (n == 1 || n / 2 == 189) printf("%u ", q); }'
+        echo 'int main(void) {'
+        sed -n '/^    static uint8_t area/,/^    }$/p' "$root/README.md"
+        echo 'return 0; }'
+    } >line.c
+    # shellcheck disable=SC2086
+    gcc -std=c11 -Wall -Wextra -Werror -static line.c $flags -o line
+    same 'README, a delay line' '1 0 123 ' "$(./line)"
     make -s -C "$root" --no-print-directory uninstall PREFIX="$work/prefix"
     same 'what make uninstall leaves' '' "$(ls -d prefix 2>/dev/null)"
 }
@@ -82,7 +98,7 @@ once_python() {
 once_manual_of_calls() {
     begin
     local page=$root/host/mahyrei.3 name
-    for name in $(declared) answer_number answer_place word_block_bytes; do
+    for name in $(declared) answer_number answer_place delay_symbol word_block_bytes; do
         same "$name in the man page" 'yes yes' "$(sed -n '/^.SH NAME/,/^.SH SYN/p' "$page" |
             grep -Eq "(^| )$name(,| )" && echo yes) $(grep -Eq "^.BI \".*[ *]$name\(" "$page" && echo yes)"
     done

@@ -88,12 +88,13 @@ test_sheet_by_name() {
     run 0 sheet --long "$example"
     same 'a sheet by name' 'header 5950F01BE80204000000 rate 1/2 m 6 N 84 B 120 F 223 W 16 A 2 '\
 'copies 1 M 64 k 7526 S 2520 C 1 R 333 pooled 844488 symbols 844488 group 80 slots 67559040 '\
-'marker_bytes 16 frame_bytes 446 slot_bytes 8444880' "$(awk '{ print $1, $2 }' "$said/out" | xargs)"
+'marker_bytes 16 frame_bytes 446 slot_bytes 8444880 delay_bytes 418320' \
+        "$(awk '{ print $1, $2 }' "$said/out" | xargs)"
     run 0 sheet -j "$example"
     same 'a sheet as JSON' '{"header":"5950F01BE80204000000","accepted":true,"number":0,'\
 '"rate":"1/2","m":6,"N":84,"B":120,"F":223,"W":16,"A":2,"copies":1,"M":64,"k":7526,"S":2520,'\
 '"C":1,"R":333,"pooled":844488,"symbols":844488,"group":80,"slots":67559040,"marker_bytes":16,"frame_bytes":446,'\
-'"slot_bytes":8444880}' "$(out)"
+'"slot_bytes":8444880,"delay_bytes":418320}' "$(out)"
     run 1 sheet --json "$(header 3 4 5 189 500 5 3)"
     same 'a refused sheet as JSON' '{"header":"D0157A3E828304000000","accepted":false,"number":2,'\
 '"sentence":"There is no such code rate; it is 0, 1 or 2.","rate":"none","m":4,"N":5,"B":189,'\
@@ -172,7 +173,7 @@ test_explain() {
     done
     run 0 explain $((7000 * 256 + 10))
     same 'an answer as the calls give it' "number 10, place 7000: $(sentence 10)" "$(out)"
-    for number in 17 273 22 26 255 x -1 '' 18446744073709551616; do # 273 is 17 at place 1
+    for number in 17 273 22 25 255 x -1 '' 18446744073709551616; do # 273 is 17 at place 1
         run 2 explain -- "$number"
         has "no number $number" 'no call gives this number' "$err"
     done

@@ -4,14 +4,14 @@
  * to be read is written by the library first, then damaged as the input says: slots, symbols, coded
  * bits, input bits of the code, bits of the stream under a right check. Or it is the rest of the
  * input itself. A capture to be searched has markers put into it, whole or with a slot turned over;
- * one to be cut has a run at some slot.
+ * one to be cut has a run at some slot. The area of a delay line holds anything.
  *
  * What is demanded of each call: the answer and every byte of the written slice are those of the
- * plain C version (tests/c/plain_run.c, bench/plain_word.c, plain_pass.c and plain_uplink.c), which
- * is built into the fuzzer and guides it, the library being closed to it; a refused call changes no
- * lent byte; what is accepted goes back to where it came from, bit for bit but for a block's spare
- * bits, and slots of several copies at least to the same frames; number and place are ones that the
- * call can give.
+ * plain C version (tests/c/plain_run.c, bench/plain_word.c, plain_pass.c, plain_delay.c and
+ * plain_uplink.c), which is built into the fuzzer and guides it, the library being closed to it; a
+ * refused call changes no lent byte; what is accepted goes back to where it came from, bit for bit
+ * but for a block's spare bits, and slots of several copies at least to the same frames; a symbol
+ * that a delay line takes comes out again; number and place are ones that the call can give.
  *
  * The sanitizers do not see into the library either. So each slice is lent from pages of its own,
  * right before or right behind a page that may not be touched, with a margin of bytes on its other
@@ -29,6 +29,7 @@
 #include "../c/runs.h"
 #include "calls.h"
 #include "mahyrei.h"
+#include "plain_delay.h"
 #include "plain_pass.h"
 #include "plain_run.h"
 #include "plain_uplink.h"
@@ -50,7 +51,7 @@ static const size_t WIDTHS[FIELDS] = {2, 4, 8, 9, 12, 6, 7, 6, 26};
 static const char *const CALL_NAMES[CALLS] = {
     "word_write",   "word_read",   "pass_write",   "pass_read",     "bit_spread",
     "uplink_write", "uplink_read", "header_widen", "header_narrow", "run_write",
-    "run_read",     "run_find",    "run_cut"};
+    "run_read",     "run_find",    "run_cut",      "delay_write",   "delay_read"};
 
 /* The numbers that a call can answer, a bit each. */
 static const uint32_t CAN_ANSWER[CALLS] = {
@@ -67,6 +68,8 @@ static const uint32_t CAN_ANSWER[CALLS] = {
     [RUN_READ] = 0x1FFFF | 1U << 18 | 1U << 20,
     [RUN_FIND] = 0x1FF | 1U << 19 | 1U << 20,
     [RUN_CUT] = 0x1FF | 1U << 20,
+    [DELAY_WRITE] = 0x1FF | 1U << 20 | 1U << 26,
+    [DELAY_READ] = 0x1FF | 1U << 20 | 1U << 26,
 };
 
 struct counts *counts;
@@ -162,9 +165,10 @@ struct lent {
 enum { HEADER, MARKER, FROM, TO, SLICES };
 
 static struct lent lent[SLICES];
-static uint64_t block_bit; /* that bit_spread is asked about */
-static uint64_t from_slot; /* that run_cut is told */
-static uint8_t placement;  /* a bit for each slice, and one for NULL in place of an empty slice */
+static uint64_t block_bit;   /* that bit_spread is asked about */
+static uint64_t from_slot;   /* that run_cut is told */
+static uint64_t step, taken; /* the number and the symbol that a delay call is told */
+static uint8_t placement;    /* a bit for each slice, and one for NULL in place of an empty slice */
 
 static void map_area(struct lent *slice) {
     uint8_t *pages =
@@ -274,8 +278,12 @@ static uint64_t put_library(enum call call, uint64_t rate) {
                         to->len);
     case RUN_FIND:
         return run_find(h->slice, h->len, m->slice, m->len, from->slice, from->len);
-    default:
+    case RUN_CUT:
         return run_cut(h->slice, h->len, from->slice, from->len, from_slot, to->slice, to->len);
+    case DELAY_WRITE:
+        return delay_write(h->slice, h->len, step, taken, to->slice, to->len);
+    default:
+        return delay_read(h->slice, h->len, step, taken, to->slice, to->len);
     }
 }
 
@@ -309,8 +317,12 @@ static uint64_t put_plain(enum call call, uint64_t rate, uint8_t *to, size_t to_
                               to_len);
     case RUN_FIND:
         return plain_run_find(h->slice, h->len, m->slice, m->len, from->slice, from->len);
-    default:
+    case RUN_CUT:
         return plain_run_cut(h->slice, h->len, from->slice, from->len, from_slot, to, to_len);
+    case DELAY_WRITE:
+        return plain_delay_write(h->slice, h->len, step, taken, to, to_len);
+    default:
+        return plain_delay_read(h->slice, h->len, step, taken, to, to_len);
     }
 }
 
@@ -331,6 +343,9 @@ static uint64_t place_limit(enum call call, unsigned number) {
     if (call == RUN_FIND && number == MAHYREI_ACCEPTED) {
         const struct run run = lent_run();
         return 8 * lent[FROM].len + 1 - run.W * group_slots(&run);
+    }
+    if (call >= DELAY_WRITE && number == MAHYREI_ACCEPTED) { /* the symbol given */
+        return 256;
     }
     if (call != RUN_READ || number < MAHYREI_BAD_PULSE || number > MAHYREI_BAD_FRAME_MARKER) {
         return 1;
@@ -990,6 +1005,43 @@ static void put_cut(struct input *in) {
     require(memcmp(lent[TO].slice, frames, frame_bytes(&run)) == 0, RUN_READ, "read other frames");
 }
 
+/* ---- delay lines */
+
+/* The number of a step: one of the first or of the last, or any. */
+static uint64_t take_step(struct input *in) {
+    const size_t choice = take_below(in, 1, 4);
+    return choice == 0 ? take(in, 8) : choice == 1 ? UINT64_MAX - take(in, 2) : take(in, 3);
+}
+
+/* One step and, where the symbol that it takes is kept, the one that gives it again. */
+static void put_delay(struct input *in, enum call call) {
+    const struct run run = make_run(in);
+    const size_t len = run.B * run.N * (run.N - 1) / 2, choice = take_below(in, 1, 8);
+    lend_header(in, &run);
+    lend(MARKER, 0, given, 0); /* it is lent neither */
+    lend(FROM, 0, given, 0);
+    step = take_step(in);
+    taken = choice < 6    ? take(in, 1) % pulse_order(&run)
+            : choice == 6 ? pulse_order(&run) + take(in, 1)
+                          : take(in, 8);
+    fill(in, given, len);
+    lend(TO, choose_len(in, len), given, len);
+    if (answer_number(put(call, 0)) != MAHYREI_ACCEPTED) {
+        return;
+    }
+    const struct run lent_as = lent_run();
+    const uint64_t symbol = taken, row = step % lent_as.N;
+    const uint64_t turns = (call == DELAY_WRITE ? row : lent_as.N - 1 - row) * lent_as.B;
+    if (turns == 0 || step > UINT64_MAX - turns * lent_as.N) {
+        return;
+    }
+    memcpy(given, lent[TO].slice, lent[TO].len);
+    lend(TO, lent[TO].len, given, lent[TO].len);
+    step += turns * lent_as.N;
+    taken = 0;
+    require(delay_symbol(put(call, 0)) == symbol, call, "gave another symbol than it took");
+}
+
 /* ---- libFuzzer's two functions */
 
 static struct counts *map_counts(void) {
@@ -1031,6 +1083,8 @@ int LLVMFuzzerTestOneInput(const uint8_t *data, size_t size) {
         put_find(&in);
     } else if (call == RUN_CUT) {
         put_cut(&in);
+    } else if (call == DELAY_WRITE || call == DELAY_READ) {
+        put_delay(&in, call);
     } else if (is_run(call)) {
         put_run(&in, call);
     } else if (call == PASS_WRITE || call == PASS_READ) {

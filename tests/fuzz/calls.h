@@ -7,7 +7,7 @@
 #include <stddef.h>
 #include <stdint.h>
 
-/* The run calls come last. */
+/* Those that are lent a header beside other slices come last. */
 enum call {
     WORD_WRITE,
     WORD_READ,
@@ -22,6 +22,8 @@ enum call {
     RUN_READ,
     RUN_FIND,
     RUN_CUT,
+    DELAY_WRITE,
+    DELAY_READ,
     CALLS
 };
 

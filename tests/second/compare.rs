@@ -48,19 +48,19 @@ impl Rng {
 const MARGIN: usize = 32;
 
 /// A slice lent to the library, within a margin of random bytes.
-struct Lent {
+pub struct Lent {
     area: Vec<u8>,
     margins: [Vec<u8>; 2],
 }
 
 impl Lent {
-    fn new(rng: &mut Rng, slice: &[u8]) -> Lent {
+    pub fn new(rng: &mut Rng, slice: &[u8]) -> Lent {
         let margins = [rng.bytes(MARGIN), rng.bytes(MARGIN)];
         let area = [&margins[0], slice, &margins[1]].concat();
         Lent { area, margins }
     }
 
-    fn slice(&mut self) -> &mut [u8] {
+    pub fn slice(&mut self) -> &mut [u8] {
         let end = self.area.len() - MARGIN;
         &mut self.area[MARGIN..end]
     }
@@ -101,12 +101,14 @@ pub enum Call {
     RunCut,
     HeaderWiden,
     HeaderNarrow,
+    DelayWrite,
+    DelayRead,
     UplinkWrite,
     UplinkRead,
 }
 
 impl Call {
-    pub const ALL: [Call; 13] = [
+    pub const ALL: [Call; 15] = [
         Call::WordWrite,
         Call::WordRead,
         Call::PassWrite,
@@ -118,6 +120,8 @@ impl Call {
         Call::RunCut,
         Call::HeaderWiden,
         Call::HeaderNarrow,
+        Call::DelayWrite,
+        Call::DelayRead,
         Call::UplinkWrite,
         Call::UplinkRead,
     ];
@@ -135,6 +139,8 @@ impl Call {
             Call::RunCut => "run_cut",
             Call::HeaderWiden => "header_widen",
             Call::HeaderNarrow => "header_narrow",
+            Call::DelayWrite => "delay_write",
+            Call::DelayRead => "delay_read",
             Call::UplinkWrite => "uplink_write",
             Call::UplinkRead => "uplink_read",
         }
@@ -154,6 +160,7 @@ impl Call {
             Call::RunCut => &[0, 1, 2, 3, 4, 5, 6, 7, 8, 20],
             Call::HeaderWiden => &[0, 1, 2, 3, 4, 5, 6, 7, 8],
             Call::HeaderNarrow => &[0, 1, 2, 3, 4, 5, 6, 7, 8, 20, 21],
+            Call::DelayWrite | Call::DelayRead => &[0, 1, 2, 3, 4, 5, 6, 7, 8, 20, 26],
             Call::UplinkWrite => &[0, 8],
             Call::UplinkRead => &[0, 8, 28, 29],
         }
@@ -198,7 +205,7 @@ impl Way {
 }
 
 /// What each number says. No call answers any other.
-const NUMBERS: [(u8, &str); 24] = [
+const NUMBERS: [(u8, &str); 25] = [
     (0, "accepted"),
     (1, "header"),
     (2, "rate"),
@@ -220,6 +227,7 @@ const NUMBERS: [(u8, &str); 24] = [
     (19, "whole marker"),
     (20, "factor"),
     (21, "no old form"),
+    (26, "symbol"),
     (27, "block bit"),
     (28, "groups"),
     (29, "parity"),
@@ -231,7 +239,8 @@ pub struct Case<'a> {
     pub inputs: &'a [&'a [u8]],
     pub output_len: usize,
     pub expected: Result<Vec<u8>, Refusal>,
-    /// The place of an accepted answer: the slot that was found, and otherwise 0.
+    /// The place of an accepted answer: the slot that was found, the symbol that was given, and
+    /// otherwise 0.
     pub place: usize,
     /// The numbers that this kind of call may give.
     pub numbers: &'a [u8],
@@ -293,8 +302,19 @@ impl Tally {
         case: Case,
         library: impl FnOnce(&[&[u8]], &mut [u8]) -> u64,
     ) {
-        let mut inputs: Vec<Lent> = case.inputs.iter().map(|i| Lent::new(rng, i)).collect();
         let before = rng.bytes(case.output_len);
+        self.compare_over(rng, case, before, library);
+    }
+
+    /// The same, with these bytes in the slice to be written.
+    pub fn compare_over(
+        &mut self,
+        rng: &mut Rng,
+        case: Case,
+        before: Vec<u8>,
+        library: impl FnOnce(&[&[u8]], &mut [u8]) -> u64,
+    ) {
+        let mut inputs: Vec<Lent> = case.inputs.iter().map(|i| Lent::new(rng, i)).collect();
         let mut output = Lent::new(rng, &before);
 
         let lent: Vec<&[u8]> = inputs.iter_mut().map(|input| &*input.slice()).collect();
@@ -335,6 +355,44 @@ impl Tally {
             if let Some(at) = lent.wrong_byte(should) {
                 differ(format!("byte {at} of slice {i} is wrong"));
             }
+        }
+    }
+
+    /// A difference that a maker of cases has found by itself.
+    pub fn differ(&mut self, call: Call, problem: &str) {
+        self.counts[call as usize].differences += 1;
+        println!("{problem}");
+    }
+
+    /// Judges a call that a maker of cases has put by itself: its answer, and lent slices beside what
+    /// they should hold.
+    pub fn judge(
+        &mut self,
+        call: Call,
+        [answer, expected]: [u64; 2],
+        lent: &[(&Lent, &[u8])],
+        what: impl Fn() -> String,
+    ) {
+        let number = (answer % 256) as usize;
+        let counts = &mut self.counts[call as usize];
+        counts.cases += 1;
+        if let Some(count) = counts.answers.get_mut(number) {
+            *count += 1;
+        }
+        let mut problems = Vec::new();
+        if answer != expected {
+            problems.push(format!("library {answer}, second {expected}"));
+        }
+        for (i, (lent, should)) in lent.iter().enumerate() {
+            counts.lent += should.len() as u64;
+            counts.margins += 2 * MARGIN as u64;
+            if let Some(at) = lent.wrong_byte(should) {
+                counts.changed += if number == 0 { 0 } else { lent.changed(should) };
+                problems.push(format!("byte {at} of slice {i} is wrong"));
+            }
+        }
+        for problem in problems {
+            self.differ(call, &format!("{}: {problem}", what()));
         }
     }
 

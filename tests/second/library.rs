@@ -80,6 +80,22 @@ mod c {
             eight: *mut u8,
             eight_len: usize,
         ) -> u64;
+        pub fn delay_write(
+            header: *const u8,
+            header_len: usize,
+            step: u64,
+            symbol: u64,
+            area: *mut u8,
+            area_len: usize,
+        ) -> u64;
+        pub fn delay_read(
+            header: *const u8,
+            header_len: usize,
+            step: u64,
+            symbol: u64,
+            area: *mut u8,
+            area_len: usize,
+        ) -> u64;
         pub fn uplink_write(
             frames: *const u8,
             frames_len: usize,
@@ -185,6 +201,16 @@ pub fn header_widen(eight: &[u8], ten: &mut [u8]) -> u64 {
 
 pub fn header_narrow(ten: &[u8], eight: &mut [u8]) -> u64 {
     unsafe { c::header_narrow(ten.as_ptr(), ten.len(), eight.as_mut_ptr(), eight.len()) }
+}
+
+pub fn delay_write(header: &[u8], step: u64, symbol: u64, area: &mut [u8]) -> u64 {
+    let (area, area_len) = (area.as_mut_ptr(), area.len());
+    unsafe { c::delay_write(header.as_ptr(), header.len(), step, symbol, area, area_len) }
+}
+
+pub fn delay_read(header: &[u8], step: u64, symbol: u64, area: &mut [u8]) -> u64 {
+    let (area, area_len) = (area.as_mut_ptr(), area.len());
+    unsafe { c::delay_read(header.as_ptr(), header.len(), step, symbol, area, area_len) }
 }
 
 pub fn uplink_write(frames: &[u8], slots: &mut [u8]) -> u64 {

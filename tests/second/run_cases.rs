@@ -10,6 +10,7 @@ mod captures;
 mod convert;
 mod copies;
 mod damages;
+mod delays;
 mod edges;
 mod headers;
 mod kinds;
@@ -18,6 +19,7 @@ mod sample;
 
 pub use captures::{compare_capture, example_capture, LEAST_CAPTURES};
 pub use convert::{compare_header, header_edges, LEAST_HEADERS};
+pub use delays::{compare_any_delay, compare_delay, compare_lines, LEAST_DELAYS};
 pub use edges::{edges, largest};
 pub use headers::Sizes;
 pub use kinds::Met;

@@ -1,6 +1,6 @@
 -- What an answer is: done, or the number of the first question that is answered no, with its place; how questions follow one another; what a
 -- lent slice holds afterwards; and the one number that C gets.
-use mathlib.Core.Path.{_≡_, refl, sym, ap}
+use mathlib.Core.Path.{_≡_, refl, sym, ap, _∙_}
 use mathlib.Core.Bool.{Bool, true, false}
 use mathlib.Core.List.{List}
 use mathlib.Core.Logic.{_⊎_, inl, inr}
@@ -21,6 +21,11 @@ placeOf (No number place) = place
 -- to C both go as one number
 abbrev pub codeOf : Answer → ℕ
 codeOf a = placeOf a * 256 + numberOf a
+
+-- and where an acceptance gives a number besides, that stands where a refusal has its place
+abbrev pub codeWith : Answer → ℕ → ℕ
+codeWith Done given = given * 256
+codeWith (No number place) given = codeOf (No number place)
 
 -- one question: yes, or its number and place
 abbrev pub ask : Bool → ℕ → ℕ → Answer
@@ -100,6 +105,11 @@ done-is (No number place) e = absurd (let z : _≡_ {A = ℕ} 0 1 = cc in omega 
 pub number-no : (a : Answer) → (numberOf a ≡ 0 → ⊥) → a ≡ Done → ⊥
 number-no a n e = n (ap numberOf e)
 
+-- what C gets goes by the answer, and by what an acceptance gives
+pub with-same : (a b : Answer) (s t : ℕ) → a ≡ b → (a ≡ Done → s ≡ t) → codeWith a s ≡ codeWith b t
+with-same Done b s t e h = ap (codeWith Done) (h refl) ∙ ap (λ (x : Answer). codeWith x t) e
+with-same (No number place) b s t e h = ap (λ (x : Answer). codeWith x t) e
+
 -- ---- which answers fit
 
 pub fits-done : Fits Done
@@ -116,6 +126,16 @@ fits-then (No number place) b s f = s
 pub fits-moved : (piece : ℕ) (a : Answer) → Fits a → piece < 2 ^ 56 → Fits (movedTo piece a)
 fits-moved piece Done s h = s
 fits-moved piece (No number place) s h = record { number = s .number; place = h; listed = s .listed }
+
+-- ---- questions that have no place
+
+pub placeless-ask : (t : Bool) (number : ℕ) → placeOf (ask t number 0) ≡ 0
+placeless-ask true number = refl
+placeless-ask false number = refl
+
+pub placeless-then : (a b : Answer) → placeOf a ≡ 0 → placeOf b ≡ 0 → placeOf (then a b) ≡ 0
+placeless-then Done b ea eb = eb
+placeless-then (No number place) b ea eb = ea
 
 -- place × 256 + number, so that a place of 3 with number 13 is 781
 pub code-example : codeOf (No 13 3) ≡ 781

@@ -1,6 +1,8 @@
 // What every call answers: done, or the number of the first question that is answered no, and the place where.
 ghost use mathlib.Core.Path.{_≡_};
-ghost use Rattle.answers.specs.Answer.{numberOf, codeOf, movedTo, Fits};
+ghost use Prim.Native.Nat.{_^_, _<_};
+ghost use Rattle.answers.specs.declared.Answer.the-variants.{Done};
+ghost use Rattle.answers.specs.Answer.{numberOf, codeOf, codeWith, movedTo, Fits};
 
 pub enum Answer {
     Done,
@@ -36,5 +38,16 @@ pub fn code(answer: Answer) -> u64
     match answer {
         Answer::Done => 0,
         Answer::No(number, place) => ((place as u64) << 8) | number,
+    }
+}
+
+// The same of an answer whose acceptance gives a number: given × 256.
+pub fn code_with(answer: Answer, given: usize) -> u64
+    requires { ⌜ Fits answer × (answer ≡ Done → given < 2 ^ 56) ⌝ }
+    ensures { λ r. ⌜ r ≡ codeWith answer given ⌝ }
+{
+    match answer {
+        Answer::Done => (given as u64) << 8,
+        Answer::No(_, _) => code(answer),
     }
 }

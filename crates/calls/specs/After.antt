@@ -10,6 +10,8 @@ use Rattle.header.specs.Header.{fieldsOf}
 use Rattle.convert.specs.Convert as trips
 use Rattle.run.specs.Run as runs
 use Rattle.cut.specs.Cut as cuts
+use Rattle.delay.specs.Delay as delays
+use Rattle.delay.specs.declared.Side.{Side}
 use Rattle.uplink.specs.Uplink as uplinks
 
 abbrev pub wordAfter : ℕ → List ℕ → List ℕ → List ℕ
@@ -41,6 +43,9 @@ eightAfter ten old = after (trips.narrowSays ten (length old)) (trips.narrowed t
 
 abbrev pub cutAfter : List ℕ → List ℕ → ℕ → List ℕ → List ℕ
 cutAfter header capture slot old = after (cuts.cutSays header (length capture) slot (length old)) (cuts.cutOf (fieldsOf header) capture slot) old
+
+abbrev pub areaAfter : Side → List ℕ → ℕ → ℕ → List ℕ → List ℕ
+areaAfter side header n q old = after (delays.stepSays header q (length old)) (delays.leaves side (fieldsOf header) n q old) old
 
 abbrev pub uplinkSlotsAfter : List ℕ → List ℕ → List ℕ
 uplinkSlotsAfter frames old = after (uplinks.writeSays frames (length old)) (uplinks.slotsOf frames) old

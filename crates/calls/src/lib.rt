@@ -1,5 +1,6 @@
 // The calls for C, all in one place: each puts its arguments to the crate that has the work, and hands out place × 256 + number.
 // A slice is a pointer and a length. There is no `requires`: every input has its answer, and a refused call leaves the lent bytes as they were.
+use delay::Side;
 ghost use mathlib.Core.Path.{_≡_};
 ghost use lib.ListN.{length};
 ghost use Rattle.answers.specs.Answer.{codeOf};
@@ -10,8 +11,10 @@ ghost use Rattle.convert.specs.Convert as trips;
 ghost use Rattle.search.specs.Search as searches;
 ghost use Rattle.run.specs.Run as runs;
 ghost use Rattle.cut.specs.Cut as cuts;
+ghost use Rattle.delay.specs.Delay as delays;
+ghost use Rattle.delay.specs.declared.Side.the-variants.{Writing, Reading};
 ghost use Rattle.uplink.specs.Uplink as uplinks;
-ghost use Rattle.calls.specs.After.{wordAfter, blockAfter, wordsAfter, blocksAfter, placesAfter, slotsAfter, framesAfter, tenAfter, eightAfter, cutAfter, uplinkSlotsAfter, uplinkFramesAfter};
+ghost use Rattle.calls.specs.After.{wordAfter, blockAfter, wordsAfter, blocksAfter, placesAfter, slotsAfter, framesAfter, tenAfter, eightAfter, cutAfter, areaAfter, uplinkSlotsAfter, uplinkFramesAfter};
 
 // A packed block to its word (step 7, and then steps 2 to 6).
 #[no_mangle]
@@ -99,7 +102,9 @@ pub extern "C" fn header_narrow(ten: &[u8], eight: &mut [u8]) -> u64
 pub extern "C" fn run_find(header: &[u8], marker: &[u8], capture: &[u8]) -> u64
     ensures { λ r. ⌜ r ≡ searches.findCode (now (header .entry)) (now (marker .entry)) (now (capture .entry)) ⌝ }
 {
-    search::code(search::find(header, marker, capture))
+    let start = search::find(header, marker, capture);
+    let answer = start.answer;
+    answers::code_with(answer, start.slot)
 }
 
 // The slots of a run out of a capture, from a slot on, packed anew.
@@ -109,6 +114,28 @@ pub extern "C" fn run_cut(header: &[u8], capture: &[u8], slot: u64, slots: &mut 
     ensures { λ _. ⌜ now (slots .exit) ≡ cutAfter (now (header .entry)) (now (capture .entry)) slot (now (slots .entry)) ⌝ }
 {
     answers::code(cut::cut_out(header, capture, slot, slots))
+}
+
+// Step 9 a symbol at a time: takes a symbol, and gives the one whose turn it is, which stands where a refusal has its place.
+#[no_mangle]
+pub extern "C" fn delay_write(header: &[u8], step: u64, symbol: u64, area: &mut [u8]) -> u64
+    ensures { λ r. ⌜ r ≡ delays.stepCode Writing (now (header .entry)) step symbol (now (area .entry)) ⌝ }
+    ensures { λ _. ⌜ now (area .exit) ≡ areaAfter Writing (now (header .entry)) step symbol (now (area .entry)) ⌝ }
+{
+    let given = delay::step(Side::Writing, header, step, symbol, area);
+    let answer = given.answer;
+    answers::code_with(answer, given.symbol as usize)
+}
+
+// The same on the reading side: behind the writer it gives what the writer took.
+#[no_mangle]
+pub extern "C" fn delay_read(header: &[u8], step: u64, symbol: u64, area: &mut [u8]) -> u64
+    ensures { λ r. ⌜ r ≡ delays.stepCode Reading (now (header .entry)) step symbol (now (area .entry)) ⌝ }
+    ensures { λ _. ⌜ now (area .exit) ≡ areaAfter Reading (now (header .entry)) step symbol (now (area .entry)) ⌝ }
+{
+    let given = delay::step(Side::Reading, header, step, symbol, area);
+    let answer = given.answer;
+    answers::code_with(answer, given.symbol as usize)
 }
 
 // Frames of 64 bits to command slots.

@@ -9,6 +9,7 @@ use lib.Dec.{ltb, eqb}
 use borrow.Author.Tests.{lt-ltb, le-ltb, ne-eqb, eqb-true, eqb-false, not-true, not-false}
 use Rattle.bits.specs.Choice.{pick, lt-or-le}
 use Rattle.bits.specs.First.{up-to-le, all-pass, none-fails, one-fails}
+use Rattle.bits.specs.Pack.{cut, cut-in, cut-past}
 use Rattle.channel.specs.Channel.{place, hitBy, placed}
 
 -- ---- places
@@ -122,6 +123,47 @@ module _ (rows step total : ℕ) where
       (λ (l : hitBy rows step total x < total). placed-hit f x l ∙ h (hitBy rows step total x) l ∙ sym (placed-hit g x l))
       (λ (l : total ≤ hitBy rows step total x). placed-rest f x l ∙ sym (placed-rest g x l))
       (lt-or-le (hitBy rows step total x) total)
+
+-- by a subtraction: the symbol that is as far in front as the place is put back
+pub placed-back : (rows step total : ℕ) (symbol : ℕ → ℕ) (x : ℕ)
+    → placed rows step total symbol x ≡ pick (ltb x (delay rows step (x % rows))) 0 (cut total symbol (x - delay rows step (x % rows)))
+unfolding source
+placed-back rows step total symbol x =
+    let d : ℕ = delay rows step (x % rows) in
+    let is : hitBy rows step total x ≡ source rows step total x = hit-is rows step total x in
+    ⊎-elim
+    (λ (a : x < d).
+    let none : hitBy rows step total x ≡ total = is ∙ rw (lt-ltb x d a) refl in
+    placed-rest rows step total symbol x (rw none (le-refl total)) ∙ sym (rw (lt-ltb x d a) refl))
+    (λ (a : d ≤ x). ⊎-elim
+    (λ (b : x - d < total).
+    let hit : hitBy rows step total x ≡ x - d = is ∙ rw (le-ltb x d a, lt-ltb (x - d) total b) refl in
+    placed-hit rows step total symbol x (rw hit b) ∙ ap symbol hit ∙ sym (rw (le-ltb x d a) (cut-in total symbol (x - d) b)))
+    (λ (b : total ≤ x - d).
+    let none : hitBy rows step total x ≡ total = is ∙ rw (le-ltb x d a, le-ltb (x - d) total b) refl in
+    placed-rest rows step total symbol x (rw none (le-refl total)) ∙ sym (rw (le-ltb x d a) (cut-past total symbol (x - d) b)))
+    (lt-or-le (x - d) total))
+    (lt-or-le x d)
+
+-- no symbol goes to a place before its own number: the first n places are those of the first n symbols, however many follow
+pub placed-first : (rows step n total : ℕ) (symbol : ℕ → ℕ) (x : ℕ) → x < n → n ≤ total → placed rows step total symbol x ≡ placed rows step n symbol x
+placed-first rows step n total symbol x l h =
+    let d : ℕ = delay rows step (x % rows) in
+    let same : cut total symbol (x - d) ≡ cut n symbol (x - d) = cut-in total symbol (x - d) (omega arith) ∙ sym (cut-in n symbol (x - d) (omega arith)) in
+    placed-back rows step total symbol x ∙ ap (pick (ltb x d) 0) same ∙ sym (placed-back rows step n symbol x)
+
+-- and zeros behind n symbols change nothing
+pub placed-zeros : (rows step n total : ℕ) (symbol : ℕ → ℕ) → n ≤ total → (x : ℕ) → placed rows step total (cut n symbol) x ≡ placed rows step n symbol x
+placed-zeros rows step n total symbol h x =
+    let d : ℕ = delay rows step (x % rows) in
+    placed-back rows step total (cut n symbol) x ∙ ap (pick (ltb x d) 0) (twice (x - d)) ∙ sym (placed-back rows step n symbol x)
+  where
+    twice : (t : ℕ) → cut total (cut n symbol) t ≡ cut n symbol t
+    twice t =
+        ⊎-elim
+        (λ (k : t < total). cut-in total (cut n symbol) t k)
+        (λ (k : total ≤ t). cut-past total (cut n symbol) t k ∙ sym (cut-past n symbol t (omega arith)))
+        (lt-or-le t total)
 
 -- places that are the same modulo N are at least N apart
 pub same-apart : (n x y : ℕ) → x % n ≡ y % n → x < y → x + n ≤ y

@@ -19,7 +19,7 @@ use borrow.Author.Tests.{eq-eqb, ne-eqb}
 use Rattle.bits.specs.Choice.{bool}
 use Rattle.bits.specs.Pack.{bitAt, Bytes}
 use Rattle.bits.specs.Table.{both}
-use Rattle.answers.specs.Answer.{ask, then, after}
+use Rattle.answers.specs.Answer.{codeWith, ask, then, after}
 use Rattle.answers.specs.declared.Answer.{Answer}
 use Rattle.answers.specs.declared.Answer.the-variants.{Done, No}
 use Rattle.header.specs.Header.{fieldsOf}
@@ -29,7 +29,7 @@ use Rattle.parameters.specs.Marks.{runSays}
 use Rattle.plan.specs.Plan.{planIn}
 use Rattle.run.specs.Run as runs
 use Rattle.run.specs.Return as run-laws
-use Rattle.search.specs.Search.{firstFit, markerSlots, lengthsRight, slotSays, findSays, codeAt, findCode}
+use Rattle.search.specs.Search.{firstFit, markerSlots, lengthsRight, slotSays, findSays, findCode}
 use Rattle.search.specs.Laws as search-laws
 use Rattle.search.specs.Theorems.{MarkerAt}
 use Rattle.search.specs.Theorems as search-theorems
@@ -54,7 +54,7 @@ find-asks header marker capture = refl
 -- an acceptance goes to C as number 0 with the slot as its place
 pub found-code : (header marker capture : List ℕ) → findSays header marker capture ≡ Done
     → findCode header marker capture ≡ firstFit (planIn header marker) capture * 256
-found-code header marker capture e = ap (λ (a : Answer). codeAt a (firstFit (planIn header marker) capture)) e
+found-code header marker capture e = ap (λ (a : Answer). codeWith a (firstFit (planIn header marker) capture)) e
 
 module _ (header marker capture : List ℕ) (e : findSays header marker capture ≡ Done) (s : ℕ) (es : s ≡ firstFit (planIn header marker) capture) where
   -- "The earliest slot at which a whole marker stands",

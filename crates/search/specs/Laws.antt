@@ -1,5 +1,5 @@
 -- What the search's answers are, what an acceptance says, and that they fit the number that C gets.
-use mathlib.Core.Path.{_≡_, refl, ap, _∙_}
+use mathlib.Core.Path.{_≡_, refl}
 use mathlib.Core.Bool.{Bool, true}
 use mathlib.Core.List.{List}
 use Prim.Native.Nat.{ℕ, _+_, _-_, _*_, _^_, _≤_, _<_}
@@ -10,7 +10,6 @@ use lib.ListN.{length}
 use borrow.Author.Tests.{ltb-true, leb-true, eqb-true, eq-eqb, lt-ltb, le-ltb, le-leb}
 use Rattle.bits.specs.Table.{both-true}
 use Rattle.answers.specs.Answer.{ask, then, then-done, ask-done, ask-yes, ask-no, Fits, fits-ask, fits-then}
-use Rattle.answers.specs.declared.Answer.{Answer}
 use Rattle.answers.specs.declared.Answer.the-variants.{Done, No}
 use Rattle.header.specs.Header.{fieldsOf}
 use Rattle.header.specs.declared.Fields.{Fields}
@@ -25,7 +24,7 @@ use Rattle.plan.specs.Accepted.{plan-fine}
 use Rattle.pulses.specs.Needs.{Sizes, sizes}
 use Rattle.starts.specs.Starts.{starts}
 use Rattle.starts.specs.Laws.{earliest-most}
-use Rattle.search.specs.Search.{markerSlot, markerSlots, firstFit, captureMost, lengthsRight, slotSays, findSays, codeAt}
+use Rattle.search.specs.Search.{markerSlot, markerSlots, firstFit, captureMost, lengthsRight, slotSays, findSays}
 
 -- ---- question 19
 
@@ -124,8 +123,3 @@ pub slot-small : (header marker b : List ℕ) → findSays header marker b ≡ D
 slot-small header marker b e =
     let f = find-accepted header marker b e in
     omega (arith, slots-least (planIn header marker) (f .fine), f .there, f .most)
-
--- what C gets goes by the answer, and by the slot of an acceptance
-pub code-same : (a b : Answer) (s t : ℕ) → a ≡ b → (a ≡ Done → s ≡ t) → codeAt a s ≡ codeAt b t
-code-same Done b s t e h = ap (codeAt Done) (h refl) ∙ ap (λ (x : Answer). codeAt x t) e
-code-same (No number place) b s t e h = ap (λ (x : Answer). codeAt x t) e

@@ -6,8 +6,7 @@ use lib.Dec.{ltb, leb, eqb}
 use lib.ListN.{length, getD}
 use Rattle.bits.specs.Table.{both}
 use Rattle.answers.specs.declared.Answer.{Answer}
-use Rattle.answers.specs.declared.Answer.the-variants.{Done, No}
-use Rattle.answers.specs.Answer.{codeOf, ask, then}
+use Rattle.answers.specs.Answer.{codeWith, ask, then}
 use Rattle.header.specs.Header.{fieldsOf}
 use Rattle.header.specs.declared.Fields.{Fields}
 use Rattle.quantities.specs.Quantities.{markerBytes}
@@ -54,9 +53,5 @@ findSays header marker b =
     (slotSays (planIn header marker) b))
 
 -- to C an acceptance goes with its slot as the place
-abbrev pub codeAt : Answer → ℕ → ℕ
-codeAt Done slot = slot * 256
-codeAt (No number place) slot = codeOf (No number place)
-
 abbrev pub findCode : List ℕ → List ℕ → List ℕ → ℕ
-findCode header marker b = codeAt (findSays header marker b) (firstFit (planIn header marker) b)
+findCode header marker b = codeWith (findSays header marker b) (firstFit (planIn header marker) b)

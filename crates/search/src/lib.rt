@@ -5,12 +5,11 @@ use answers::Answer;
 use header::Fields;
 use plan::Plan;
 ghost use mathlib.Core.Path.{_≡_};
-ghost use Prim.Native.Nat.{_≤_, _^_, _<_};
+ghost use Prim.Native.Nat.{_≤_, _<_};
 ghost use lib.ListN.{length};
-ghost use Rattle.answers.specs.Answer.{Fits};
 ghost use Rattle.answers.specs.declared.Answer.the-variants.{Done};
 ghost use Rattle.plan.specs.Plan.{Fine, planIn};
-ghost use Rattle.search.specs.Search.{lengthsRight, firstFit, captureMost, slotSays, findSays, codeAt};
+ghost use Rattle.search.specs.Search.{lengthsRight, firstFit, captureMost, slotSays, findSays};
 
 // The longest capture, in bytes: 2 to the power 53.
 pub const MOST: usize = 9007199254740992;
@@ -77,16 +76,4 @@ pub fn find(header: &[u8], marker: &[u8], capture: &[u8]) -> Start
         };
     }
     seek(plan::plan_of(parameters), capture)
-}
-
-// As C gets it: the slot is the place of an acceptance.
-pub fn code(start: Start) -> u64
-    requires { ⌜ Fits (start .answer) × (start .answer ≡ Done → start .slot < 2 ^ 56) ⌝ }
-    ensures { λ r. ⌜ r ≡ codeAt (start .answer) (start .slot) ⌝ }
-{
-    let answer = start.answer;
-    let Answer::Done = answer else {
-        return answers::code(answer);
-    };
-    (start.slot as u64) << 8
 }

@@ -36,6 +36,13 @@ impl Default for Sizes {
     }
 }
 
+impl Sizes {
+    /// N and B of lines of middle size.
+    pub(super) fn of_bits(&self, bits: u64) -> &[(u64, u64)] {
+        &self.middle[bits as usize]
+    }
+}
+
 /// The most slot bytes of a run of several copies, so that a case takes no longer than a moment.
 const REPEATED_MOST: usize = 1 << 20;
 

@@ -1,8 +1,9 @@
 -- The code of the answer and of its slot, which fit.
-use mathlib.Core.Path.{sym, ap, _∙_}
+use mathlib.Core.Path.{sym, _∙_}
 use Rattle.plan.specs.Plan.{planIn}
-use Rattle.search.specs.Search.{findSays, firstFit, codeAt}
-use Rattle.search.specs.Laws.{find-fits, slot-small, code-same}
+use Rattle.answers.specs.Answer.{with-same}
+use Rattle.search.specs.Search.{findSays, firstFit}
+use Rattle.search.specs.Laws.{find-fits, slot-small}
 use borrow.Author.Needs.{needs}
 use Rattle.calls.proofs.run_find.Statement.{statement}
 use Rattle.calls.proofs.run_find.Tie as tie
@@ -10,8 +11,8 @@ use Rattle.calls.proofs.run_find.Tie as tie
 find-requires : tie.Need-find-requires
 find-requires c κs = search needs
 
-code-requires : tie.Need-code-requires
-code-requires c κs =
+code-with-requires : tie.Need-code-with-requires
+code-with-requires c κs =
     let a = c .before .before .before .before .args in
     let r = c .find in (
       rw (r .ensures .0) (find-fits (a .header .now) (a .marker .now) (a .capture .now)),
@@ -22,8 +23,8 @@ returns : tie.Need-returns
 returns c =
     let a = c .before .before .before .before .before .args in
     let r = c .before .find in
-    c .code .ensures ∙ code-same (r .result .answer) (findSays (a .header .now) (a .marker .now) (a .capture .now)) (r .result .slot)
+    c .code-with .ensures ∙ with-same (r .result .answer) (findSays (a .header .now) (a .marker .now) (a .capture .now)) (r .result .slot)
     (firstFit (planIn (a .header .now) (a .marker .now)) (a .capture .now)) (r .ensures .0) (r .ensures .1)
 
 pub run-find-spec : {M : Type 1} → statement M
-run-find-spec = tie.close (tie.spec find-requires code-requires returns)
+run-find-spec = tie.close (tie.spec find-requires code-with-requires returns)

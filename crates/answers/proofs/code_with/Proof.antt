@@ -1,0 +1,33 @@
+-- An acceptance has what it gives, shifted up; a refusal has its own code.
+use mathlib.Core.Path.{sym, ap, _∙_}
+use native.Mathlib.Omega.{arith}
+use lib.Pow.{shl-exact}
+use Rattle.answers.specs.declared.Answer.{Answer}
+use Rattle.answers.specs.Answer.{codeOf, codeWith}
+use borrow.Author.Needs.{needs}
+use Rattle.answers.proofs.code_with.Statement.{statement}
+use Rattle.answers.proofs.code_with.Tie as tie
+
+enum-told : tie.Need-enum-told
+enum-told c = search needs
+
+enum-told-2 : tie.Need-enum-told-2
+enum-told-2 c = search needs
+
+code-requires : tie.Need-code-requires
+code-requires c κs = search needs
+
+returns : tie.Need-returns
+returns c =
+    let s = c .before .before in
+    let e = c .enum-told .given .1 in
+    shl-exact 56 8 64 (s .pre .1 e) (omega arith) ∙ sym (ap (λ (x : Answer). codeWith x (s .args .given)) e)
+
+returns-2 : tie.Need-returns-2
+returns-2 c =
+    let s = c .before .before .before in
+    let e = c .before .enum-told2 .given .1 in
+    c .code .ensures ∙ ap codeOf e ∙ sym (ap (λ (x : Answer). codeWith x (s .args .given)) e)
+
+pub code-with-spec : {M : Type 1} → statement M
+code-with-spec = tie.close (tie.spec enum-told enum-told-2 code-requires returns returns-2)
