@@ -63,12 +63,14 @@ RUNS ?=
 CAPTURES ?=
 HEADERS ?=
 DELAYS ?=
+TRACES ?=
 UPLINKS ?=
 
 help:
 	@echo 'make test       prove every crate (rt ci), then host-test; last line: N passed, 0 failed'
 	@echo 'make host-test  the tests outside the proofs alone; SEED=n, WORDS=n, PASSES=n, RUNS=n,'
-	@echo '                CAPTURES=n, HEADERS=n, DELAYS=n and UPLINKS=n choose what is compared'
+	@echo '                CAPTURES=n, HEADERS=n, DELAYS=n, TRACES=n and UPLINKS=n choose what is'
+	@echo '                compared'
 	@echo 'make demo       write a run, see its first symbols, read it back, damage it, look into it'
 	@echo 'make bench      times of the library beside plain C and beside memory'
 	@echo 'make lib        the static library and the shared one: $(LIBS)'
@@ -90,9 +92,9 @@ PYTHON_TEST = if ! command -v python3 >/dev/null; then \
     echo 'python: no python3 here; the module is not tried'; \
     else MAHYREI_LIBRARY=$(abspath $(SHARED)) tests/python/module $(PROGRAM) $(HOST)/slots; fi
 HOST_TESTS = $(SHARED) $(addprefix $(HOST)/,mahyrei_lying word_calls pass_calls spread_calls \
-    run_calls long_calls find_calls header_calls delay_calls uplink_calls plain_calls \
+    run_calls long_calls find_calls header_calls delay_calls rack_calls uplink_calls plain_calls \
     sha256_vectors second_test compare_words compare_passes compare_spreads compare_runs \
-    compare_captures compare_headers compare_delays compare_uplinks) $(COMMAND_TESTS)
+    compare_captures compare_headers compare_delays compare_racks compare_uplinks) $(COMMAND_TESTS)
 host-test: $(HOST_TESTS)
 	@echo '#include "mahyrei_plain.h"' | $(CXX) -x c++ $(WARNINGS) -Iinclude -fsyntax-only -
 	@$(STACK) && ASAN_OPTIONS=detect_leaks=0 $(HOST)/word_calls
@@ -103,6 +105,7 @@ host-test: $(HOST_TESTS)
 	@$(STACK) && ASAN_OPTIONS=detect_leaks=0 $(HOST)/find_calls
 	@$(STACK) && ASAN_OPTIONS=detect_leaks=0 $(HOST)/header_calls
 	@$(STACK) && ASAN_OPTIONS=detect_leaks=0 $(HOST)/delay_calls
+	@$(STACK) && ASAN_OPTIONS=detect_leaks=0 $(HOST)/rack_calls
 	@$(STACK) && ASAN_OPTIONS=detect_leaks=0 $(HOST)/uplink_calls
 	@$(STACK) && ASAN_OPTIONS=detect_leaks=0 $(HOST)/plain_calls
 	@ASAN_OPTIONS=detect_leaks=0 $(HOST)/sha256_vectors
@@ -114,6 +117,7 @@ host-test: $(HOST_TESTS)
 	@$(STACK) && SEED=$(SEED) CAPTURES=$(CAPTURES) $(HOST)/compare_captures
 	@$(STACK) && SEED=$(SEED) HEADERS=$(HEADERS) $(HOST)/compare_headers
 	@$(STACK) && SEED=$(SEED) DELAYS=$(DELAYS) $(HOST)/compare_delays
+	@$(STACK) && SEED=$(SEED) TRACES=$(TRACES) $(HOST)/compare_racks
 	@$(STACK) && SEED=$(SEED) UPLINKS=$(UPLINKS) $(HOST)/compare_uplinks
 	@$(STACK) && tests/command/run $(COMMAND_TESTS)
 	@$(PYTHON_TEST)
@@ -201,7 +205,8 @@ $(HOST)/archives: FORCE
 # The calls in plain C.
 STANDIN = $(HOST)/standin
 PLAIN_SOURCES = $(addprefix bench/,plain_word.c plain_word.h plain_pass.c plain_pass.h \
-    plain_delay.c plain_delay.h plain_uplink.c plain_uplink.h) tests/c/plain_run.c
+    plain_delay.c plain_delay.h plain_rack.c plain_rack.h plain_uplink.c plain_uplink.h) \
+    tests/c/plain_run.c
 $(STANDIN)/libmahyrei.a: $(PLAIN_SOURCES) $(HEADER) $(PARTS)
 	@mkdir -p $(@D)
 	@$(COMPILE) $(PLAIN) -fPIC -c bench/plain_word.c -o $(STANDIN)/plain_word.o
@@ -211,11 +216,15 @@ $(STANDIN)/libmahyrei.a: $(PLAIN_SOURCES) $(HEADER) $(PARTS)
 	    -c bench/plain_pass.c -o $(STANDIN)/pass.o
 	@$(COMPILE) $(PLAIN) -fPIC -Dplain_delay_write=delay_write -Dplain_delay_read=delay_read \
 	    -Dplain_delay_step=standin_delay_step -c bench/plain_delay.c -o $(STANDIN)/delay.o
+	@$(COMPILE) $(PLAIN) -fPIC -Dplain_rack_load=rack_load -Dplain_rack_read=rack_read \
+	    -Dplain_rack_drop=rack_drop -Dplain_rack_lend=rack_lend -c bench/plain_rack.c \
+	    -o $(STANDIN)/rack.o
 	@$(COMPILE) $(PLAIN) -fPIC -Dplain_uplink_write=uplink_write -Dplain_uplink_read=uplink_read \
 	    -c bench/plain_uplink.c -o $(STANDIN)/uplink.o
 	@$(COMPILE) $(PLAIN) -fPIC -Ibench -c tests/c/plain_run.c -o $(STANDIN)/run.o
 	@rm -f $@
-	@ar rcs $@ $(addprefix $(STANDIN)/,plain_word.o word.o pass.o delay.o uplink.o run.o) $(PARTS)
+	@ar rcs $@ $(addprefix $(STANDIN)/,plain_word.o word.o pass.o delay.o rack.o uplink.o run.o) \
+	    $(PARTS)
 
 HOST_SOURCES = $(wildcard host/*.c)
 HOST_FLAGS = -D_XOPEN_SOURCE=700 -DMAHYREI_VERSION='"$(VERSION)"' -pthread
@@ -241,9 +250,9 @@ $(HOST)/sha256_vectors: tests/c/sha256_vectors.c host/sha256.c host/sha256.h
 	@$(COMPILE) $(SANITIZED) -Ihost $< host/sha256.c -o $@
 
 SECOND = $(addprefix tests/second/,lib.rs compare.rs convert.rs delay.rs find.rs library.rs \
-    pass.rs run.rs spread.rs uplink.rs word.rs run_cases.rs $(addprefix run_cases/,calls.rs \
-    captures.rs convert.rs copies.rs damages.rs delays.rs edges.rs headers.rs kinds.rs refusals.rs \
-    sample.rs) pass_cases.rs spread_cases.rs uplink_cases.rs word_cases.rs)
+    pass.rs rack.rs run.rs spread.rs uplink.rs word.rs run_cases.rs $(addprefix run_cases/,calls.rs \
+    captures.rs convert.rs copies.rs damages.rs delays.rs edges.rs headers.rs kinds.rs racks.rs \
+    refusals.rs sample.rs) pass_cases.rs spread_cases.rs uplink_cases.rs word_cases.rs)
 $(HOST)/second_test: $(SECOND)
 	@mkdir -p $(@D)
 	@$(RUSTC) $(RUSTFLAGS) --test $< -o $@
@@ -269,6 +278,10 @@ $(HOST)/plain_pass.o: bench/plain_pass.c bench/plain_pass.h bench/plain_word.h $
 	@$(COMPILE) $(PLAIN) -c $< -o $@
 
 $(HOST)/plain_delay.o: bench/plain_delay.c bench/plain_delay.h $(HEADER)
+	@mkdir -p $(@D)
+	@$(COMPILE) $(PLAIN) -c $< -o $@
+
+$(HOST)/plain_rack.o: bench/plain_rack.c bench/plain_rack.h $(HEADER)
 	@mkdir -p $(@D)
 	@$(COMPILE) $(PLAIN) -c $< -o $@
 
@@ -311,9 +324,9 @@ fuzz: $(HOST)/fuzz_drive
 
 # The crates of the product that have code.
 CRATES ?= bits answers sizes crc convolution interleaver accumulator randomizer word pass spread \
-    header quantities questions convert parameters plan stream frames pulses pool channel slots \
-    capture starts search cut run_writer run_reader ldpc uplink uplink_writer uplink_reader calls \
-    sheet runsheet
+    header quantities questions convert parameters plan stream frames pulses pool channel delay \
+    slots capture starts search cut run_writer run_reader rack_keeper ldpc uplink uplink_writer \
+    uplink_reader calls sheet runsheet
 COUNT ?= 60
 .PHONY: mutants
 mutants:
@@ -328,8 +341,8 @@ evidence-test: $(HOST)/soak $(HOST)/fuzz_drive
 $(HOST)/soak: tests/second/soak.rs $(HOST)/libsecond.rlib $(LINKED)
 	@$(RUSTC) $(RUSTFLAGS) $< $(LINK_RUST) -o $@
 
-$(addprefix $(HOST)/,run_calls long_calls find_calls header_calls delay_calls pass_calls \
-    spread_calls): tests/c/runs.h
+$(addprefix $(HOST)/,run_calls long_calls find_calls header_calls delay_calls rack_calls \
+    pass_calls spread_calls): tests/c/runs.h
 
 # The fuzz target with a driver in place of libFuzzer, beside the run calls in plain C.
 $(HOST)/plain_run.o: tests/c/plain_run.c bench/plain_word.h $(HEADER)
@@ -339,7 +352,7 @@ $(HOST)/plain_run.o: tests/c/plain_run.c bench/plain_word.h $(HEADER)
 	    -Dheader_narrow=plain_header_narrow -c $< -o $@
 
 FUZZ_TARGET = tests/fuzz/drive.c tests/fuzz/calls.c \
-    $(addprefix $(HOST)/,plain_word.o plain_pass.o plain_run.o plain_delay.o plain_uplink.o)
+    $(addprefix $(HOST)/plain_,word.o pass.o run.o delay.o rack.o uplink.o)
 $(HOST)/fuzz_drive: $(FUZZ_TARGET) bench/plain_pass.h bench/plain_run.h bench/plain_delay.h \
-    bench/plain_uplink.h tests/fuzz/calls.h tests/c/runs.h $(HEADER) $(LINKED)
+    bench/plain_rack.h bench/plain_uplink.h tests/fuzz/calls.h tests/c/runs.h $(HEADER) $(LINKED)
 	@$(COMPILE) $(SANITIZED) -Ibench $(FUZZ_TARGET) $(LIBS) -o $@

@@ -49,7 +49,8 @@ struct line {
 
 /* Names of operands, with blanks between them, or NULL. They stand in this order: `first`, which
  * are no files; inputs, which are files to be read (HEADER and MARKER can be hexadecimal text);
- * words, which are no files, any number of them where the last ends in `...`; the output. */
+ * words, which are no files but for a HEADER, any number of them where the last ends in `...`; the
+ * output. An AREA among the inputs is written too. */
 struct command {
     const char *name, *first, *inputs, *words, *output;
     unsigned options; /* the set of those that are not for all */
@@ -95,6 +96,10 @@ enum status sheet_command(const struct line *line, struct entry *entry);
 enum status header_command(const struct line *line, struct entry *entry);
 enum status widen_command(const struct line *line, struct entry *entry);
 enum status narrow_command(const struct line *line, struct entry *entry);
+enum status rack_load_command(const struct line *line, struct entry *entry);
+enum status rack_read_command(const struct line *line, struct entry *entry);
+enum status rack_drop_command(const struct line *line, struct entry *entry);
+enum status rack_lend_command(const struct line *line, struct entry *entry);
 enum status explain_command(const struct line *line, struct entry *entry);
 enum status inspect_command(const struct line *line, struct entry *entry);
 enum status show_command(const struct line *line, struct entry *entry);

@@ -22,6 +22,8 @@ _mahyrei() {
         compopt -o nospace 2>/dev/null
     elif [[ $command == @(pass-*|spread) && $operands -eq 0 && $before != --log ]]; then
         mapfile -t COMPREPLY < <(compgen -W '1/3 1/2 2/3' -- "$word")
+    elif [[ $command$operands == @(rack-*[123]|rack-lend4) && $before != --log ]]; then
+        mapfile -t COMPREPLY < <(compgen -W '0 1 2 3' -- "$word")
     else
         mapfile -t COMPREPLY < <(compgen -f -- "$word")
         compopt -o filenames 2>/dev/null

@@ -22,7 +22,8 @@ enum {
     BLOCKS_LIMIT = MAHYREI_PASS_MAX * MAHYREI_BLOCK_BYTES_MAX + 1,
     WORDS_LIMIT = MAHYREI_PASS_MAX * MAHYREI_WORD_BYTES + 1,
     UPLINK_FRAMES_LIMIT = MAHYREI_UPLINK_MAX * MAHYREI_UPLINK_FRAME_BYTES + 1,
-    UPLINK_SLOTS_LIMIT = MAHYREI_UPLINK_MAX * MAHYREI_UPLINK_CODEBLOCK_BYTES + 1
+    UPLINK_SLOTS_LIMIT = MAHYREI_UPLINK_MAX * MAHYREI_UPLINK_CODEBLOCK_BYTES + 1,
+    RACK_LIMIT = MAHYREI_RACK_BYTES + 1
 };
 
 /* Bytes of the heap; NULL where there are none. */
@@ -63,6 +64,10 @@ bool put_out(const char *name, const void *from, size_t len);
 
 /* The same, but a file of this name is left alone, and that is a failure. */
 bool put_new(const char *name, const void *from, size_t len);
+
+/* The same for a file that was not there; if it is by now, that is no failure to be told: `late` is
+ * set, and the file is left alone. */
+bool put_first(const char *name, const void *from, size_t len, bool *late);
 
 /* Before anything is done: whether bytes can be meant for this output. They are not meant for a
  * terminal unless `forced`, nor for a file that is there where `only_new`. */

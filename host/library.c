@@ -93,6 +93,38 @@ static void *make_uplink_call(void *given) {
     return NULL;
 }
 
+/* One call on a rack, and its answer. */
+struct rack_call {
+    const struct rack *rack;
+    uint64_t (*put)(const struct rack *rack);
+    uint64_t answer;
+};
+
+static void *make_rack_call(void *given) {
+    struct rack_call *const call = given;
+    call->answer = call->put(call->rack);
+    return NULL;
+}
+
+static uint64_t put_load(const struct rack *rack) {
+    return rack_load(rack->area.at, rack->area.len, rack->caller, rack->owner, rack->place,
+                     rack->header.at, rack->header.len);
+}
+
+static uint64_t put_read(const struct rack *rack) {
+    return rack_read(rack->area.at, rack->area.len, rack->caller, rack->owner, rack->place,
+                     rack->header.at, rack->header.len);
+}
+
+static uint64_t put_drop(const struct rack *rack) {
+    return rack_drop(rack->area.at, rack->area.len, rack->caller, rack->owner, rack->place);
+}
+
+static uint64_t put_lend(const struct rack *rack) {
+    return rack_lend(rack->area.at, rack->area.len, rack->caller, rack->owner, rack->place,
+                     rack->to);
+}
+
 /* A bit whose spread is asked for. */
 struct spread_call {
     uint64_t rate, bit;
@@ -228,6 +260,32 @@ bool library_uplink_write(const struct uplink *uplink, uint64_t *answer) {
 bool library_uplink_read(const struct uplink *uplink, uint64_t *answer) {
     struct uplink_call call = {uplink, false, 0};
     return ask_uplink(&call, answer);
+}
+
+static bool ask_rack(const struct rack *rack, uint64_t (*put)(const struct rack *),
+                     uint64_t *answer) {
+    struct rack_call call = {rack, put, 0};
+    if (!on_its_stack(make_rack_call, &call)) {
+        return false;
+    }
+    *answer = call.answer;
+    return true;
+}
+
+bool library_rack_load(const struct rack *rack, uint64_t *answer) {
+    return ask_rack(rack, put_load, answer);
+}
+
+bool library_rack_read(const struct rack *rack, uint64_t *answer) {
+    return ask_rack(rack, put_read, answer);
+}
+
+bool library_rack_drop(const struct rack *rack, uint64_t *answer) {
+    return ask_rack(rack, put_drop, answer);
+}
+
+bool library_rack_lend(const struct rack *rack, uint64_t *answer) {
+    return ask_rack(rack, put_lend, answer);
 }
 
 bool library_spread(uint64_t rate, uint64_t bit, uint8_t *places, uint64_t *answer) {

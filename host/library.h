@@ -43,6 +43,17 @@ struct uplink {
 bool library_uplink_write(const struct uplink *uplink, uint64_t *answer);
 bool library_uplink_read(const struct uplink *uplink, uint64_t *answer);
 
+/* What a rack call is lent and told: a load and a read the header, a loan the borrower. */
+struct rack {
+    struct bytes area, header;
+    uint64_t caller, owner, place, to;
+};
+
+bool library_rack_load(const struct rack *rack, uint64_t *answer);
+bool library_rack_read(const struct rack *rack, uint64_t *answer);
+bool library_rack_drop(const struct rack *rack, uint64_t *answer);
+bool library_rack_lend(const struct rack *rack, uint64_t *answer);
+
 /* Room for MAHYREI_WORD_BYTES bytes of places. */
 bool library_spread(uint64_t rate, uint64_t bit, uint8_t *places, uint64_t *answer);
 

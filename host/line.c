@@ -83,7 +83,9 @@ static void print_help(FILE *to) {
         "header\n"
         "that widen or narrow reads can be hexadecimal text instead, such as 5950F01BE80204000000\n"
         "or hex:050C; a file whose name has nothing but such digits is given as ./NAME. RATE is\n"
-        "1/3, 1/2 or 2/3, or its number. SLOT is the number of a slot, from 0 on.\n\n",
+        "1/3, 1/2 or 2/3, or its number. SLOT is the number of a slot, from 0 on. AREA is the "
+        "file\n"
+        "of a rack; CALLER, OWNER and TO are missions, 0 to 3, and PLACE is 0 to 3.\n\n",
         to);
     print_options(to);
     fputs("\nThe log is the file of --log, or the one that MAHYREI_LOG names, or standard error.\n"
@@ -257,6 +259,20 @@ static bool is_file(const char *name, int standard, const struct stat *file) {
     return got == 0 && status.st_dev == file->st_dev && status.st_ino == file->st_ino;
 }
 
+/* The operand that is called HEADER among the words, or NULL. */
+static const char *late_header(const struct line *line) {
+    const struct command *const command = line->command;
+    const char *const found = command->words == NULL ? NULL : strstr(command->words, "HEADER");
+    if (found == NULL) {
+        return NULL;
+    }
+    int at = count_names(command->first) + count_names(command->inputs);
+    for (const char *c = command->words; c < found; c++) {
+        at += *c == ' ';
+    }
+    return line->operands[at];
+}
+
 /* The first file of this line that is the log, or NULL: the log's line would end up in the data, or
  * be lost with the file that is replaced. */
 static const char *clash(const struct line *line, int log) {
@@ -270,6 +286,10 @@ static const char *clash(const struct line *line, int log) {
         if (is_file(inputs[i], STDIN_FILENO, &file)) {
             return inputs[i];
         }
+    }
+    const char *const header = late_header(line);
+    if (header != NULL && is_file(header, STDIN_FILENO, &file)) {
+        return header;
     }
     const char *const last = line->count == 0 ? NULL : line->operands[line->count - 1];
     if (line->command->output != NULL && is_file(last, STDOUT_FILENO, &file)) {

@@ -19,6 +19,7 @@ struct output {
     size_t len;
     bool only_new;
     const char *step, *where;
+    bool *late; /* set, and nothing is said, where a file that should be new is there; or NULL */
 };
 
 /* Closes in any case; false and errno where something failed, now or before. */
@@ -87,7 +88,9 @@ static bool take_name(const char *name, const char *folder, struct output *outpu
 
 /* The complaint is made here, where the folder's name still is. */
 static bool complain_of(const struct output *output) {
-    if (output->step == NULL) {
+    if (output->late != NULL && errno == EEXIST) {
+        *output->late = true;
+    } else if (output->step == NULL) {
         complain(output->name, errno);
     } else {
         complain_at(output->name, output->step, output->where, errno);
@@ -166,12 +169,18 @@ static bool put(struct output *output) {
 }
 
 bool put_out(const char *name, const void *from, size_t len) {
-    struct output output = {name, from, len, false, NULL, NULL};
+    struct output output = {name, from, len, false, NULL, NULL, NULL};
     return put(&output);
 }
 
 bool put_new(const char *name, const void *from, size_t len) {
-    struct output output = {name, from, len, true, NULL, NULL};
+    struct output output = {name, from, len, true, NULL, NULL, NULL};
+    return put(&output);
+}
+
+bool put_first(const char *name, const void *from, size_t len, bool *late) {
+    struct output output = {name, from, len, true, NULL, NULL, late};
+    *late = false;
     return put(&output);
 }
 

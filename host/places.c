@@ -322,3 +322,16 @@ void say_where_in_uplink(uint64_t answer, const struct uplink *uplink, bool writ
                first, first + MAHYREI_UPLINK_CODEBLOCK_BYTES - 1);
     }
 }
+
+/* ---- racks */
+
+void say_where_in_rack(uint64_t answer, const struct rack *rack, char *const operands[]) {
+    const unsigned number = answer_number(answer);
+    const size_t len = rack->area.len;
+    if (number == MAHYREI_BAD_LENGTH) {
+        remark(shown(operands[0]), "there are %zu byte%s%s, and a rack has %d", len, plural(len),
+               len == RACK_LIMIT ? " or more" : "", MAHYREI_RACK_BYTES);
+    } else if (number <= MAHYREI_BAD_MARKER || number == MAHYREI_BAD_COPIES) {
+        say_header(number, &rack->header, operands[4]);
+    }
+}

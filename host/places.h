@@ -32,6 +32,10 @@ void say_where_in_uplink(uint64_t answer, const struct uplink *uplink, bool writ
 void say_where_in_form(unsigned number, const struct forms *forms, bool widening,
                        const char *operand);
 
+/* The same for a rack, which is the first of these operands; where a header is loaded, that is the
+ * last. Of a place that is closed there is nothing more to say. */
+void say_where_in_rack(uint64_t answer, const struct rack *rack, char *const operands[]);
+
 /* The same for a header alone, whose number this is. */
 void say_header(unsigned number, const struct bytes *header, const char *operand);
 

@@ -41,8 +41,8 @@ static void add_number(struct text *text, int number) {
 }
 
 static void add_phase(struct text *text) {
-    static const char *const TEXTS[] = {"reading the input", "in the library",
-                                        "writing the output"};
+    static const char *const TEXTS[] = {"reading the input", "in the library", "writing the output",
+                                        "waiting for the rack"};
     if (at_phase != COUNTING) {
         add(text, TEXTS[at_phase]);
         return;

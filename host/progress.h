@@ -5,7 +5,7 @@
 #ifndef PROGRESS_H
 #define PROGRESS_H
 
-enum phase { TAKING_IN, CODING, PUTTING_OUT, COUNTING };
+enum phase { TAKING_IN, CODING, PUTTING_OUT, WAITING, COUNTING };
 
 void progress_start(void);
 void progress_phase(enum phase phase);

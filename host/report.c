@@ -130,7 +130,8 @@ void entry_begin(struct entry *entry, const char *what) {
                             .rate = "-",
                             .blocks = {.size = NO_SIZE, .digest = "-"},
                             .words = {.size = NO_SIZE, .digest = "-"},
-                            .bit = "-"};
+                            .bit = "-",
+                            .rack = {.caller = "-", .owner = "-", .place = "-", .to = "-"}};
 }
 
 void entry_capture(struct entry *entry, const char *capture) {
@@ -164,6 +165,25 @@ void entry_spread(struct entry *entry) {
 
 void entry_bit(struct entry *entry, uint64_t bit) {
     snprintf(entry->bit, sizeof entry->bit, "%" PRIu64, bit);
+}
+
+void entry_rack(struct entry *entry, const char *area) {
+    entry->kind = RACK_ENTRY;
+    entry->rack.area = area;
+}
+
+static void number_text(char text[ENTRY_NUMBER], uint64_t number) {
+    snprintf(text, ENTRY_NUMBER, "%" PRIu64, number);
+}
+
+void entry_place(struct entry *entry, uint64_t caller, uint64_t owner, uint64_t place) {
+    number_text(entry->rack.caller, caller);
+    number_text(entry->rack.owner, owner);
+    number_text(entry->rack.place, place);
+}
+
+void entry_borrower(struct entry *entry, uint64_t to) {
+    number_text(entry->rack.to, to);
 }
 
 void entry_rate(struct entry *entry, uint64_t rate) {
@@ -325,10 +345,20 @@ static void print_uplink(FILE *to, const struct entry *entry) {
     print_part(to, "slots", &entry->slots);
 }
 
+/* The answer has a place too, of another kind. */
+static void print_rack(FILE *to, const struct entry *entry) {
+    const struct entry_rack *const rack = &entry->rack;
+    fprintf(to, " area-file=");
+    print_escaped(to, rack->area, true);
+    fprintf(to, " caller=%s owner=%s rack-place=%s to=%s header=%s", rack->caller, rack->owner,
+            rack->place, rack->to, entry->header);
+}
+
 static void print_entry(FILE *to, const struct entry *entry, int status) {
     static void (*const PRINT[])(FILE *, const struct entry *) = {
         [RUN_ENTRY] = print_run,   [CAPTURE_ENTRY] = print_capture, [FORM_ENTRY] = print_forms,
-        [PASS_ENTRY] = print_pass, [SPREAD_ENTRY] = print_spread,   [UPLINK_ENTRY] = print_uplink};
+        [PASS_ENTRY] = print_pass, [SPREAD_ENTRY] = print_spread,   [UPLINK_ENTRY] = print_uplink,
+        [RACK_ENTRY] = print_rack};
     char now[TIME_TEXT];
     time_text(now);
     fprintf(to, "%s %s", now, entry->what);

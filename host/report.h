@@ -31,7 +31,15 @@ void say_refusal(uint64_t answer);
 enum { ENTRY_HEX = 72, ENTRY_DIGEST = 65, ENTRY_NUMBER = 24 };
 
 /* What a line of the log is about, and so what stands in it. */
-enum entry_kind { RUN_ENTRY, CAPTURE_ENTRY, FORM_ENTRY, PASS_ENTRY, SPREAD_ENTRY, UPLINK_ENTRY };
+enum entry_kind {
+    RUN_ENTRY,
+    CAPTURE_ENTRY,
+    FORM_ENTRY,
+    PASS_ENTRY,
+    SPREAD_ENTRY,
+    UPLINK_ENTRY,
+    RACK_ENTRY
+};
 
 /* Frames or slots of a run or an uplink, a capture, blocks or words of a pass, as the log has
  * them. */
@@ -47,6 +55,13 @@ struct entry_form {
     char digits[ENTRY_HEX];
 };
 
+/* A call on a rack, as the log has it. There is no digest of the area: nothing that is said depends
+ * on places that are not the caller's to know of. */
+struct entry_rack {
+    const char *area;
+    char caller[ENTRY_NUMBER], owner[ENTRY_NUMBER], place[ENTRY_NUMBER], to[ENTRY_NUMBER];
+};
+
 /* One call, as the log has it. */
 struct entry {
     const char *what;
@@ -60,6 +75,7 @@ struct entry {
     char rate[ENTRY_NUMBER];
     struct entry_part blocks, words; /* a pass's */
     char bit[ENTRY_NUMBER];          /* a spread's */
+    struct entry_rack rack;          /* a rack's, with the header above */
     bool answered;
     uint64_t answer;
 };
@@ -83,6 +99,11 @@ void entry_pass(struct entry *entry, const char *blocks, const char *words);
 void entry_uplink(struct entry *entry, const char *frames, const char *slots);
 void entry_spread(struct entry *entry);
 void entry_bit(struct entry *entry, uint64_t bit);
+
+/* It is about a rack: its file, who calls for which place, and whom it is lent to. */
+void entry_rack(struct entry *entry, const char *area);
+void entry_place(struct entry *entry, uint64_t caller, uint64_t owner, uint64_t place);
+void entry_borrower(struct entry *entry, uint64_t to);
 
 /* Bytes that are not the whole file get no digest. */
 void entry_part(struct entry_part *part, const uint8_t *at, size_t len, bool whole);

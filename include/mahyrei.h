@@ -19,6 +19,11 @@
  * the channel interleaver and its way back a symbol at a time, over a lent area, for whoever has no
  * room for its whole sequence.
  *
+ * The rack keeps headers of four missions, four places each, in a lent area of 176 bytes.
+ * rack_load, rack_read and rack_drop are for a mission's own places; rack_lend lets one other
+ * mission read one of them. What a mission is told depends on its own calls, and otherwise only on
+ * the owner's calls to places that were at some time lent to it.
+ *
  * The uplink is apart from these: command frames of 64 bits, each a codeblock of 512 slots.
  * uplink_write makes the slots of the frames; uplink_read accepts slots only if some frames make
  * them, and gives those frames back. But for pooling, no call corrects anything.
@@ -117,10 +122,26 @@ extern "C" {
 #define MAHYREI_CAPTURE_BYTES_MAX (UINT64_C(1) << 53)
 
 /*
+ * The rack, 176 bytes: an entry of eleven for each place, that of place p of mission o from byte
+ * 11 * (4 * o + p) on.
+ *
+ *   bytes  what they hold
+ *       1  0: the place is empty; 2 + m, for m from 0 to 3: it is loaded, and reading is lent to
+ *          mission m; any other value: it is loaded, and lent to nobody
+ *      10  the header
+ *
+ * So any bytes are a rack, and zeros are the empty one. The calls write no other first byte than 0,
+ * 1 and 2 to 5.
+ */
+#define MAHYREI_RACK_BYTES 176
+#define MAHYREI_RACK_MISSIONS 4
+#define MAHYREI_RACK_PLACES 4
+
+/*
  * The number in an answer: 0, or the number of the first question whose answer is no. The
- * questions are put in the order of their numbers, but that 20 comes after 7, 19, 21, 26 and 27
- * after 8, and 28 and 29 after 9; a call skips those it has no input for. 9 to 19, 28 and 29 are
- * about the contents of what is read.
+ * questions are put in the order of their numbers, but that 23 to 25 come first, 20 after 7, 19,
+ * 21, 26 and 27 after 8, and 28 and 29 after 9; a call skips those it has no input for. 9 to 19, 28
+ * and 29 are about the contents of what is read.
  */
 enum mahyrei_number {
     /* Accepted: every byte of the written slice has been set. run_find writes nothing: its place is
@@ -148,7 +169,8 @@ enum mahyrei_number {
      * a header to be written has. Passes: the slices do not hold n whole blocks and n words, with n
      * from 1 to MAHYREI_PASS_MAX. Captures: there are more than MAHYREI_CAPTURE_BYTES_MAX bytes, or
      * in run_cut the run does not end within them. Uplink: the slices do not hold n whole frames
-     * and n codeblocks, with n from 1 to MAHYREI_UPLINK_MAX. */
+     * and n codeblocks, with n from 1 to MAHYREI_UPLINK_MAX. Rack: the area does not have
+     * MAHYREI_RACK_BYTES bytes, or in rack_read the header MAHYREI_HEADER_BYTES. */
     MAHYREI_BAD_LENGTH = 8,
 
     /* run_read: a spare bit of the last slot byte is set; there are such bits only where m is 2, 3
@@ -191,6 +213,16 @@ enum mahyrei_number {
     MAHYREI_BAD_COPIES = 20,
     /* header_narrow: the factor is not 1, so that no header of eight bytes says the same. */
     MAHYREI_NO_OLD_HEADER = 21,
+
+    /* Rack calls: there is no such mission as the caller, the owner or the borrower, which are 0 to
+     * 3; or a loan is to the caller itself. */
+    MAHYREI_BAD_MISSION = 23,
+    /* Rack calls: there is no such place; they are 0 to 3. */
+    MAHYREI_BAD_PLACE = 24,
+    /* Rack calls: the place is another mission's, and it is not to be read or reading is not lent
+     * to the caller; or it is empty, and it is not to be loaded. Which of these it is, nobody is
+     * told. */
+    MAHYREI_CLOSED_PLACE = 25,
 
     /* delay_write and delay_read: the symbol is not below M. Nothing was taken, and the symbol
      * given is 0. */
@@ -416,6 +448,55 @@ uint64_t delay_write(const uint8_t *header, size_t header_len, uint64_t step, ui
  */
 uint64_t delay_read(const uint8_t *header, size_t header_len, uint64_t step, uint64_t symbol,
                     uint8_t *area, size_t area_len);
+
+/*
+ * rack_load: puts a header into a place of the rack.
+ *
+ * Reads   header, MAHYREI_HEADER_BYTES bytes. caller is the mission that calls, owner the one whose
+ *         place it is, 0 to 3; place is 0 to 3.
+ * Writes  area, MAHYREI_RACK_BYTES bytes, of which the entry of the place changes: the header is
+ *         replaced; a loan stays as it was. None on refusal.
+ * Returns 0 on acceptance; otherwise a number from 1 to 8, or 20 or 23 to 25, place 0 (so the
+ *         answer is the number). Of 7 it asks W's range alone.
+ *
+ * All four calls: 23, 24 and 25 are put in this order before any question on a header, and 8 comes
+ * last. Nothing is known of who calls but the number given: the host says whose call it is. Bytes
+ * that an area does not have count as 0, an empty place. One thread at a time may call on an area.
+ */
+uint64_t rack_load(uint8_t *area, size_t area_len, uint64_t caller, uint64_t owner, uint64_t place,
+                   const uint8_t *header, size_t header_len);
+
+/*
+ * rack_read: gives the header in a place, to its owner or to the mission that it is lent to.
+ *
+ * Reads   area, MAHYREI_RACK_BYTES bytes.
+ * Writes  header, MAHYREI_HEADER_BYTES bytes, all of them, whatever they held; none on refusal.
+ * Returns 0 on acceptance; otherwise 8 or a number from 23 to 25, place 0 (so the answer is the
+ *         number). An empty place and one that is not lent to the caller both get 25.
+ */
+uint64_t rack_read(const uint8_t *area, size_t area_len, uint64_t caller, uint64_t owner,
+                   uint64_t place, uint8_t *header, size_t header_len);
+
+/*
+ * rack_drop: empties a place and ends its loan.
+ *
+ * Writes  area, MAHYREI_RACK_BYTES bytes, of which the entry of the place becomes zero; none on
+ *         refusal.
+ * Returns 0 on acceptance; otherwise 8 or a number from 23 to 25, place 0 (so the answer is the
+ *         number).
+ */
+uint64_t rack_drop(uint8_t *area, size_t area_len, uint64_t caller, uint64_t owner, uint64_t place);
+
+/*
+ * rack_lend: lends reading of a loaded place to another mission, which ends a loan before.
+ *
+ * Writes  area, MAHYREI_RACK_BYTES bytes, of which the first byte of the place's entry changes;
+ *         none on refusal.
+ * Returns 0 on acceptance; otherwise 8 or a number from 23 to 25, place 0 (so the answer is the
+ *         number). to is the borrower, any mission but the caller.
+ */
+uint64_t rack_lend(uint8_t *area, size_t area_len, uint64_t caller, uint64_t owner, uint64_t place,
+                   uint64_t to);
 
 /*
  * uplink_write: makes the slots of command frames.

@@ -22,7 +22,7 @@ static const char *const SENTENCES[] = {
                            "pass has 1 to 211 blocks, whole, and as many words; a capture has at "
                            "most 2^53 bytes, and run_cut needs the whole run in it; an uplink has "
                            "1 to 64 frames, whole, and as many codeblocks; header_widen writes ten "
-                           "bytes, header_narrow eight.",
+                           "bytes, header_narrow eight; a rack has 176 bytes.",
     [MAHYREI_BAD_SPARE] = "A spare bit behind the last slot is set.",
     [MAHYREI_BAD_PULSE] =
         "A symbol cannot be told: over all its copies, no data slot has more "
@@ -47,6 +47,11 @@ static const char *const SENTENCES[] = {
     [MAHYREI_BAD_COPIES] = "There is no such factor; each symbol is sent 1, 2, 3, 4, 8, 16 or 32 "
                            "times.",
     [MAHYREI_NO_OLD_HEADER] = "The factor is not 1: no header of eight bytes says the same.",
+    [MAHYREI_BAD_MISSION] = "There is no such mission, or it would lend to itself; missions are 0 "
+                            "to 3.",
+    [MAHYREI_BAD_PLACE] = "There is no such place in the rack; each mission has places 0 to 3.",
+    [MAHYREI_CLOSED_PLACE] = "The place is not open to this mission: it is empty, or another's and "
+                             "not lent to it for reading.",
     [MAHYREI_BAD_SYMBOL] = "The symbol is not below the pulse order; nothing was taken.",
     [MAHYREI_BAD_BIT] = "There is no such block bit; a block has 5006, 7526 or 10046.",
     [MAHYREI_BAD_GROUP] = "Four slots are no bit: they do not hold exactly one pulse, or it stands "

@@ -10,12 +10,12 @@
         print(refusal.number, refusal.place, refusal.sentence)
 
 Everything is `bytes`, in and out; other objects with a buffer, such as bytearray and memoryview,
-are taken too and copied first. The area of a delay line is a bytearray, which a step changes. A call
-gives its whole result or raises Refused. What a refusal says comes from the library: run_write,
-run_read, run_find, run_cut, header_widen, header_narrow, delay_write, delay_read, word_write,
-word_read, pass_write, pass_read, bit_spread, uplink_write and uplink_read are proved there; header,
-fields, sizes and sentence are plain C, and tested. This module adds nothing to their answers; it
-only lends them room.
+are taken too and copied first. The area of a delay line or of a rack is a bytearray, which a call
+changes. A call gives its whole result or raises Refused. What a refusal says comes from the library:
+run_write, run_read, run_find, run_cut, header_widen, header_narrow, delay_write, delay_read,
+rack_load, rack_read, rack_drop, rack_lend, word_write, word_read, pass_write, pass_read, bit_spread,
+uplink_write and uplink_read are proved there; header, fields, sizes and sentence are plain C, and
+tested. This module adds nothing to their answers; it only lends them room.
 
 A call works in less than 1 MiB of stack, so a thread that makes one needs a stack above that (see
 threading.stack_size; 0, the default, is enough on Linux). Calls let other threads run meanwhile.
@@ -43,6 +43,11 @@ __all__ = [
     "header_widen",
     "pass_read",
     "pass_write",
+    "rack_area",
+    "rack_drop",
+    "rack_lend",
+    "rack_load",
+    "rack_read",
     "run_cut",
     "run_find",
     "run_read",
@@ -63,6 +68,7 @@ _OLD_HEADER_BYTES = 8
 _WORD_BYTES = 1890
 _BLOCK_BYTES = (626, 941, 1256)  # by rate
 _PASS_MOST = 211
+_RACK_BYTES = 176
 _UPLINK_FRAME_BYTES = 8
 _UPLINK_CODEBLOCK_BYTES = 64
 _UPLINK_MOST = 64
@@ -144,6 +150,10 @@ def _load():
         ("header_narrow", u64, given + room),
         ("delay_write", u64, given + [u64, u64] + room),
         ("delay_read", u64, given + [u64, u64] + room),
+        ("rack_load", u64, room + [u64] * 3 + given),
+        ("rack_read", u64, given + [u64] * 3 + room),
+        ("rack_drop", u64, room + [u64] * 3),
+        ("rack_lend", u64, room + [u64] * 4),
         ("uplink_write", u64, given + room),
         ("uplink_read", u64, given + room),
         ("mahyrei_header_fields", number, given + [pointer(_CFields)]),
@@ -334,9 +344,51 @@ def _stepped(call, header, step, symbol, area):
     header, symbol, step = _bytes(header), _number(symbol), operator.index(step)
     if not 0 <= step <= _U64_MOST:
         raise OverflowError("a step number has 64 bits")
+    return _accepted(call(header, len(header), step, symbol, *_in_place(area)))
+
+
+def _in_place(area):
+    """A buffer that a call changes, and its length. One that cannot be changed is a TypeError."""
     length = memoryview(area).nbytes
-    lent = (ctypes.c_char * length).from_buffer(area)
-    return _accepted(call(header, len(header), step, symbol, lent, length))
+    return (ctypes.c_char * length).from_buffer(area), length
+
+
+def rack_area():
+    """An empty rack: a bytearray of 176 zeros. It holds headers of four missions, 0 to 3, in places 0
+    to 3 of each, and is all that the rack calls keep."""
+    return bytearray(_RACK_BYTES)
+
+
+def rack_load(area, caller, owner, place, header):
+    """Puts a header into the caller's own place; the header that was there is replaced, and a loan
+    stays. The area is changed in place. Refused with a number from 1 to 8, or 20 or 23 to 25."""
+    header, numbers = _bytes(header), map(_number, (caller, owner, place))
+    _accepted(_library.rack_load(*_in_place(area), *numbers, header, len(header)))
+
+
+def rack_read(area, caller, owner, place):
+    """The header in a place, ten bytes: for its owner, and for the mission that it is lent to. Refused
+    with 8 or a number from 23 to 25; an empty place and one that is not lent both get 25."""
+    numbers = list(map(_number, (caller, owner, place)))
+    return _written(
+        lambda area, length, *room: _library.rack_read(area, length, *numbers, *room),
+        [_bytes(area)],
+        _HEADER_BYTES,
+    )
+
+
+def rack_drop(area, caller, owner, place):
+    """Empties the caller's own place, and ends its loan. The area is changed in place. Refused with 8
+    or a number from 23 to 25."""
+    numbers = map(_number, (caller, owner, place))
+    _accepted(_library.rack_drop(*_in_place(area), *numbers))
+
+
+def rack_lend(area, caller, owner, place, to):
+    """Lends reading of the caller's own place, which is loaded, to one other mission; that ends a loan
+    before. The area is changed in place. Refused with 8 or a number from 23 to 25."""
+    numbers = map(_number, (caller, owner, place, to))
+    _accepted(_library.rack_lend(*_in_place(area), *numbers))
 
 
 def _lengths(header):

@@ -7,7 +7,7 @@
  *   FAULT=nonblocking         the standard files do not block
  *   FAULT=memory              the machine has four pages of memory
  *
- * NAME is read, write, fsync, fchmod, close, rename, link or thread (pthread_create).
+ * NAME is read, write, fsync, fchmod, close, rename, link, flock or thread (pthread_create).
  */
 #define _GNU_SOURCE /* syscall, RTLD_NEXT */
 #include <dlfcn.h>
@@ -94,6 +94,10 @@ int rename(const char *from, const char *to) {
 
 int link(const char *from, const char *to) {
     return fails("link") ? -1 : (int)syscall(SYS_link, from, to);
+}
+
+int flock(int file, int operation) {
+    return fails("flock") ? -1 : (int)syscall(SYS_flock, file, operation);
 }
 
 typedef long ask_system(int);

@@ -4,7 +4,7 @@
 # README, the man page, the C header and the sentences have the same numbers, and none has a 17.
 once_numbers() {
     local number sentences=''
-    same 'numbers of README' "$(seq -s ' ' 0 16) 18 19 20 21 26 27 28 29" "$(numbers | xargs)"
+    same 'numbers of README' "$(seq -s ' ' 0 16) $(seq -s ' ' 18 21) $(seq -s ' ' 23 29)" "$(numbers | xargs)"
     same 'numbers of the man page' "$(numbers | xargs)" \
         "$(sed -n 's/^\.IP \([0-9]*\) 4$/\1/p' "$root/host/mahyrei.1" | xargs)"
     same 'numbers of the header' "$(numbers | xargs)" \
@@ -57,10 +57,11 @@ once_install() {
         "$(cd "$prefix_folder" && find . ! -type d -printf '%P\n' | sort | xargs)"
     nm -g --defined-only "$prefix_folder/lib/libmahyrei.a" >"$said/out"
     same 'calls of the library' \
-        "bit_spread delay_read delay_write header_narrow header_widen pass_read pass_write run_cut \
-run_find run_read run_write uplink_read uplink_write word_read word_write" \
-        "$(grep -Eo ' T ((bit|delay|header|pass|run|uplink|word)_[a-z]*)$' "$said/out" | cut -c 4- |
-            sort | xargs)"
+        "bit_spread delay_read delay_write header_narrow header_widen pass_read pass_write rack_drop \
+rack_lend rack_load rack_read run_cut run_find run_read run_write uplink_read uplink_write word_read \
+word_write" \
+        "$(grep -Eo ' T ((bit|delay|header|pass|rack|run|uplink|word)_[a-z]*)$' "$said/out" |
+            cut -c 4- | sort | xargs)"
     awk '/^```c$/ { on = 1; next } /^```$/ { on = 0 } on' "$root/README.md" >program.c
     flags="'-I$prefix_folder/include' '-L$prefix_folder/lib' -lmahyrei"
     if command -v pkg-config >"$said/out"; then
@@ -133,6 +134,13 @@ once_completion() {
     same 'a file behind the rate' frames "$(completed mahyrei pass-read -n 1/3 fra)"
     same 'subcommands of the uplink' 'uplink-write uplink-read' "$(completed mahyrei up)"
     same 'the slots of the uplink' frames "$(completed mahyrei uplink-read fra)"
+    same 'subcommands of the rack' 'rack-load rack-read rack-drop rack-lend' \
+        "$(completed mahyrei rack)"
+    same 'a rack' frames "$(completed mahyrei rack-load fra)"
+    same 'missions and places' '0 1 2 3' "$(completed mahyrei rack-load rack '')"
+    same 'a place' 3 "$(completed mahyrei rack-drop rack 0 0 3)"
+    same 'a borrower' '0 1 2 3' "$(completed mahyrei rack-lend rack 0 0 1 '')"
+    same 'a header for the rack' header "$(completed mahyrei rack-load rack 0 0 1 hea)"
     same 'a file' frames "$(completed mahyrei write "$header" "$marker" fra)"
     same 'the file of the log' frames "$(completed mahyrei --log fra)"
     same 'a subcommand behind the log' verify "$(completed mahyrei --log log ver)"

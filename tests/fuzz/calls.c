@@ -4,14 +4,15 @@
  * to be read is written by the library first, then damaged as the input says: slots, symbols, coded
  * bits, input bits of the code, bits of the stream under a right check. Or it is the rest of the
  * input itself. A capture to be searched has markers put into it, whole or with a slot turned over;
- * one to be cut has a run at some slot. The area of a delay line holds anything.
+ * one to be cut has a run at some slot. The area of a delay line or of a rack holds anything.
  *
  * What is demanded of each call: the answer and every byte of the written slice are those of the
- * plain C version (tests/c/plain_run.c, bench/plain_word.c, plain_pass.c, plain_delay.c and
- * plain_uplink.c), which is built into the fuzzer and guides it, the library being closed to it; a
- * refused call changes no lent byte; what is accepted goes back to where it came from, bit for bit
- * but for a block's spare bits, and slots of several copies at least to the same frames; a symbol
- * that a delay line takes comes out again; number and place are ones that the call can give.
+ * plain C version (tests/c/plain_run.c, bench/plain_word.c, plain_pass.c, plain_delay.c,
+ * plain_rack.c and plain_uplink.c), which is built into the fuzzer and guides it, the library being
+ * closed to it; a refused call changes no lent byte; what is accepted goes back to where it came
+ * from, bit for bit but for a block's spare bits, and slots of several copies at least to the same
+ * frames; a symbol that a delay line takes comes out again, and so does a header that is loaded;
+ * number and place are ones that the call can give.
  *
  * The sanitizers do not see into the library either. So each slice is lent from pages of its own,
  * right before or right behind a page that may not be touched, with a margin of bytes on its other
@@ -31,6 +32,7 @@
 #include "mahyrei.h"
 #include "plain_delay.h"
 #include "plain_pass.h"
+#include "plain_rack.h"
 #include "plain_run.h"
 #include "plain_uplink.h"
 #include "plain_word.h"
@@ -51,7 +53,8 @@ static const size_t WIDTHS[FIELDS] = {2, 4, 8, 9, 12, 6, 7, 6, 26};
 static const char *const CALL_NAMES[CALLS] = {
     "word_write",   "word_read",   "pass_write",   "pass_read",     "bit_spread",
     "uplink_write", "uplink_read", "header_widen", "header_narrow", "run_write",
-    "run_read",     "run_find",    "run_cut",      "delay_write",   "delay_read"};
+    "run_read",     "run_find",    "run_cut",      "delay_write",   "delay_read",
+    "rack_load",    "rack_read",   "rack_drop",    "rack_lend"};
 
 /* The numbers that a call can answer, a bit each. */
 static const uint32_t CAN_ANSWER[CALLS] = {
@@ -70,6 +73,10 @@ static const uint32_t CAN_ANSWER[CALLS] = {
     [RUN_CUT] = 0x1FF | 1U << 20,
     [DELAY_WRITE] = 0x1FF | 1U << 20 | 1U << 26,
     [DELAY_READ] = 0x1FF | 1U << 20 | 1U << 26,
+    [RACK_LOAD] = 0x1FF | 1U << 20 | 1U << 23 | 1U << 24 | 1U << 25,
+    [RACK_READ] = 1U << 0 | 1U << 8 | 1U << 23 | 1U << 24 | 1U << 25,
+    [RACK_DROP] = 1U << 0 | 1U << 8 | 1U << 23 | 1U << 24 | 1U << 25,
+    [RACK_LEND] = 1U << 0 | 1U << 8 | 1U << 23 | 1U << 24 | 1U << 25,
 };
 
 struct counts *counts;
@@ -168,7 +175,8 @@ static struct lent lent[SLICES];
 static uint64_t block_bit;   /* that bit_spread is asked about */
 static uint64_t from_slot;   /* that run_cut is told */
 static uint64_t step, taken; /* the number and the symbol that a delay call is told */
-static uint8_t placement;    /* a bit for each slice, and one for NULL in place of an empty slice */
+static uint64_t caller, owner, rack_place, borrower; /* that a rack call is told */
+static uint8_t placement; /* a bit for each slice, and one for NULL in place of an empty slice */
 
 static void map_area(struct lent *slice) {
     uint8_t *pages =
@@ -282,8 +290,16 @@ static uint64_t put_library(enum call call, uint64_t rate) {
         return run_cut(h->slice, h->len, from->slice, from->len, from_slot, to->slice, to->len);
     case DELAY_WRITE:
         return delay_write(h->slice, h->len, step, taken, to->slice, to->len);
-    default:
+    case DELAY_READ:
         return delay_read(h->slice, h->len, step, taken, to->slice, to->len);
+    case RACK_LOAD:
+        return rack_load(to->slice, to->len, caller, owner, rack_place, h->slice, h->len);
+    case RACK_READ:
+        return rack_read(from->slice, from->len, caller, owner, rack_place, to->slice, to->len);
+    case RACK_DROP:
+        return rack_drop(to->slice, to->len, caller, owner, rack_place);
+    default:
+        return rack_lend(to->slice, to->len, caller, owner, rack_place, borrower);
     }
 }
 
@@ -321,8 +337,16 @@ static uint64_t put_plain(enum call call, uint64_t rate, uint8_t *to, size_t to_
         return plain_run_cut(h->slice, h->len, from->slice, from->len, from_slot, to, to_len);
     case DELAY_WRITE:
         return plain_delay_write(h->slice, h->len, step, taken, to, to_len);
-    default:
+    case DELAY_READ:
         return plain_delay_read(h->slice, h->len, step, taken, to, to_len);
+    case RACK_LOAD:
+        return plain_rack_load(to, to_len, caller, owner, rack_place, h->slice, h->len);
+    case RACK_READ:
+        return plain_rack_read(from->slice, from->len, caller, owner, rack_place, to, to_len);
+    case RACK_DROP:
+        return plain_rack_drop(to, to_len, caller, owner, rack_place);
+    default:
+        return plain_rack_lend(to, to_len, caller, owner, rack_place, borrower);
     }
 }
 
@@ -344,7 +368,7 @@ static uint64_t place_limit(enum call call, unsigned number) {
         const struct run run = lent_run();
         return 8 * lent[FROM].len + 1 - run.W * group_slots(&run);
     }
-    if (call >= DELAY_WRITE && number == MAHYREI_ACCEPTED) { /* the symbol given */
+    if ((call == DELAY_WRITE || call == DELAY_READ) && number == MAHYREI_ACCEPTED) { /* a symbol */
         return 256;
     }
     if (call != RUN_READ || number < MAHYREI_BAD_PULSE || number > MAHYREI_BAD_FRAME_MARKER) {
@@ -1042,6 +1066,57 @@ static void put_delay(struct input *in, enum call call) {
     require(delay_symbol(put(call, 0)) == symbol, call, "gave another symbol than it took");
 }
 
+/* ---- racks */
+
+/* A mission or a place; now and then one that there is not. */
+static uint64_t take_small(struct input *in) {
+    const size_t choice = take_below(in, 1, 64);
+    return choice == 63 ? take(in, 8) : choice == 62 ? 4 + take(in, 1) : choice % 4;
+}
+
+/* A call on a rack of any content. A header that is loaded is then read by its owner and, lent to
+ * another, by that one. */
+static void put_rack(struct input *in, enum call call) {
+    const struct run run = make_run(in);
+    const size_t choice = take_below(in, 1, 8);
+    caller = take_small(in);
+    owner = take_below(in, 1, 4) == 3 ? take_small(in) : caller;
+    rack_place = take_small(in);
+    borrower = take_small(in);
+    lend_header(in, &run);
+    lend(MARKER, 0, given, 0); /* it is lent none */
+    fill(in, given, MAHYREI_RACK_BYTES);
+    for (size_t i = 0; i < MAHYREI_RACK_BYTES && choice < 4; i++) { /* what the first bytes say */
+        given[i] = (uint8_t)(given[i] % 8);
+    }
+    const size_t len = choose_len(in, MAHYREI_RACK_BYTES);
+    if (call == RACK_READ) {
+        lend(FROM, len, given, MAHYREI_RACK_BYTES);
+        lend_to(choose_len(in, MAHYREI_HEADER_BYTES));
+    } else {
+        lend(FROM, 0, given, 0);
+        lend(TO, len, given, MAHYREI_RACK_BYTES);
+    }
+    if (put(call, 0) != MAHYREI_ACCEPTED || call != RACK_LOAD) {
+        return;
+    }
+    const uint64_t other = borrower % 4 == owner ? (owner + 1) % 4 : borrower % 4;
+    for (int turn = 0; turn < 2; turn++) {
+        memcpy(given, lent[TO].slice, MAHYREI_RACK_BYTES);
+        lend(FROM, MAHYREI_RACK_BYTES, given, MAHYREI_RACK_BYTES);
+        lend_to(MAHYREI_HEADER_BYTES);
+        require(put(RACK_READ, 0) == MAHYREI_ACCEPTED &&
+                    memcmp(lent[TO].slice, lent[HEADER].slice, MAHYREI_HEADER_BYTES) == 0,
+                RACK_READ, "gave another header than was loaded");
+        lend(TO, MAHYREI_RACK_BYTES, given, MAHYREI_RACK_BYTES);
+        lend(FROM, 0, given, 0);
+        caller = owner;
+        borrower = other;
+        require(put(RACK_LEND, 0) == MAHYREI_ACCEPTED, RACK_LEND, "refused its owner");
+        caller = other;
+    }
+}
+
 /* ---- libFuzzer's two functions */
 
 static struct counts *map_counts(void) {
@@ -1085,6 +1160,8 @@ int LLVMFuzzerTestOneInput(const uint8_t *data, size_t size) {
         put_cut(&in);
     } else if (call == DELAY_WRITE || call == DELAY_READ) {
         put_delay(&in, call);
+    } else if (call >= RACK_LOAD) {
+        put_rack(&in, call);
     } else if (is_run(call)) {
         put_run(&in, call);
     } else if (call == PASS_WRITE || call == PASS_READ) {

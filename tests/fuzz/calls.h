@@ -24,6 +24,10 @@ enum call {
     RUN_CUT,
     DELAY_WRITE,
     DELAY_READ,
+    RACK_LOAD,
+    RACK_READ,
+    RACK_DROP,
+    RACK_LEND,
     CALLS
 };
 

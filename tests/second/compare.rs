@@ -103,12 +103,16 @@ pub enum Call {
     HeaderNarrow,
     DelayWrite,
     DelayRead,
+    RackLoad,
+    RackRead,
+    RackDrop,
+    RackLend,
     UplinkWrite,
     UplinkRead,
 }
 
 impl Call {
-    pub const ALL: [Call; 15] = [
+    pub const ALL: [Call; 19] = [
         Call::WordWrite,
         Call::WordRead,
         Call::PassWrite,
@@ -122,6 +126,10 @@ impl Call {
         Call::HeaderNarrow,
         Call::DelayWrite,
         Call::DelayRead,
+        Call::RackLoad,
+        Call::RackRead,
+        Call::RackDrop,
+        Call::RackLend,
         Call::UplinkWrite,
         Call::UplinkRead,
     ];
@@ -141,6 +149,10 @@ impl Call {
             Call::HeaderNarrow => "header_narrow",
             Call::DelayWrite => "delay_write",
             Call::DelayRead => "delay_read",
+            Call::RackLoad => "rack_load",
+            Call::RackRead => "rack_read",
+            Call::RackDrop => "rack_drop",
+            Call::RackLend => "rack_lend",
             Call::UplinkWrite => "uplink_write",
             Call::UplinkRead => "uplink_read",
         }
@@ -161,6 +173,8 @@ impl Call {
             Call::HeaderWiden => &[0, 1, 2, 3, 4, 5, 6, 7, 8],
             Call::HeaderNarrow => &[0, 1, 2, 3, 4, 5, 6, 7, 8, 20, 21],
             Call::DelayWrite | Call::DelayRead => &[0, 1, 2, 3, 4, 5, 6, 7, 8, 20, 26],
+            Call::RackLoad => &[0, 1, 2, 3, 4, 5, 6, 7, 8, 20, 23, 24, 25],
+            Call::RackRead | Call::RackDrop | Call::RackLend => &[0, 8, 23, 24, 25],
             Call::UplinkWrite => &[0, 8],
             Call::UplinkRead => &[0, 8, 28, 29],
         }
@@ -205,7 +219,7 @@ impl Way {
 }
 
 /// What each number says. No call answers any other.
-const NUMBERS: [(u8, &str); 25] = [
+const NUMBERS: [(u8, &str); 28] = [
     (0, "accepted"),
     (1, "header"),
     (2, "rate"),
@@ -227,6 +241,9 @@ const NUMBERS: [(u8, &str); 25] = [
     (19, "whole marker"),
     (20, "factor"),
     (21, "no old form"),
+    (23, "mission"),
+    (24, "place"),
+    (25, "closed place"),
     (26, "symbol"),
     (27, "block bit"),
     (28, "groups"),

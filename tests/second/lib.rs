@@ -9,6 +9,7 @@ pub mod library;
 pub mod pass;
 #[cfg(not(test))]
 pub mod pass_cases;
+pub mod rack;
 pub mod run;
 #[cfg(not(test))]
 pub mod run_cases;

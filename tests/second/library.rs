@@ -96,6 +96,39 @@ mod c {
             area: *mut u8,
             area_len: usize,
         ) -> u64;
+        pub fn rack_load(
+            area: *mut u8,
+            area_len: usize,
+            caller: u64,
+            owner: u64,
+            place: u64,
+            header: *const u8,
+            header_len: usize,
+        ) -> u64;
+        pub fn rack_read(
+            area: *const u8,
+            area_len: usize,
+            caller: u64,
+            owner: u64,
+            place: u64,
+            header: *mut u8,
+            header_len: usize,
+        ) -> u64;
+        pub fn rack_drop(
+            area: *mut u8,
+            area_len: usize,
+            caller: u64,
+            owner: u64,
+            place: u64,
+        ) -> u64;
+        pub fn rack_lend(
+            area: *mut u8,
+            area_len: usize,
+            caller: u64,
+            owner: u64,
+            place: u64,
+            to: u64,
+        ) -> u64;
         pub fn uplink_write(
             frames: *const u8,
             frames_len: usize,
@@ -211,6 +244,26 @@ pub fn delay_write(header: &[u8], step: u64, symbol: u64, area: &mut [u8]) -> u6
 pub fn delay_read(header: &[u8], step: u64, symbol: u64, area: &mut [u8]) -> u64 {
     let (area, area_len) = (area.as_mut_ptr(), area.len());
     unsafe { c::delay_read(header.as_ptr(), header.len(), step, symbol, area, area_len) }
+}
+
+pub fn rack_load(area: &mut [u8], caller: u64, owner: u64, place: u64, header: &[u8]) -> u64 {
+    let (area, area_len) = (area.as_mut_ptr(), area.len());
+    let (header, header_len) = (header.as_ptr(), header.len());
+    unsafe { c::rack_load(area, area_len, caller, owner, place, header, header_len) }
+}
+
+pub fn rack_read(area: &[u8], caller: u64, owner: u64, place: u64, header: &mut [u8]) -> u64 {
+    let (area, area_len) = (area.as_ptr(), area.len());
+    let (header, header_len) = (header.as_mut_ptr(), header.len());
+    unsafe { c::rack_read(area, area_len, caller, owner, place, header, header_len) }
+}
+
+pub fn rack_drop(area: &mut [u8], caller: u64, owner: u64, place: u64) -> u64 {
+    unsafe { c::rack_drop(area.as_mut_ptr(), area.len(), caller, owner, place) }
+}
+
+pub fn rack_lend(area: &mut [u8], caller: u64, owner: u64, place: u64, to: u64) -> u64 {
+    unsafe { c::rack_lend(area.as_mut_ptr(), area.len(), caller, owner, place, to) }
 }
 
 pub fn uplink_write(frames: &[u8], slots: &mut [u8]) -> u64 {

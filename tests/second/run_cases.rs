@@ -14,6 +14,7 @@ mod delays;
 mod edges;
 mod headers;
 mod kinds;
+mod racks;
 mod refusals;
 mod sample;
 
@@ -23,6 +24,7 @@ pub use delays::{compare_any_delay, compare_delay, compare_lines, LEAST_DELAYS};
 pub use edges::{edges, largest};
 pub use headers::Sizes;
 pub use kinds::Met;
+pub use racks::{compare_pair, compare_trace, same_told, MakeRack, Takes, LEAKY};
 pub use sample::Sample;
 
 use crate::compare::{Rng, Tally, Way};

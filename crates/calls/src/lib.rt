@@ -14,6 +14,7 @@ ghost use Rattle.cut.specs.Cut as cuts;
 ghost use Rattle.delay.specs.Delay as delays;
 ghost use Rattle.delay.specs.declared.Side.the-variants.{Writing, Reading};
 ghost use Rattle.uplink.specs.Uplink as uplinks;
+ghost use Rattle.rack.specs.Rack as racks;
 ghost use Rattle.calls.specs.After.{wordAfter, blockAfter, wordsAfter, blocksAfter, placesAfter, slotsAfter, framesAfter, tenAfter, eightAfter, cutAfter, areaAfter, uplinkSlotsAfter, uplinkFramesAfter};
 
 // A packed block to its word (step 7, and then steps 2 to 6).
@@ -154,4 +155,52 @@ pub extern "C" fn uplink_read(slots: &[u8], frames: &mut [u8]) -> u64
     ensures { λ _. ⌜ now (frames .exit) ≡ uplinkFramesAfter (now (slots .entry)) (now (frames .entry)) ⌝ }
 {
     answers::code(uplink_reader::read(slots, frames))
+}
+
+// A header into one of the caller's places in the rack, which is the area and nothing else. A loan of the place stays.
+#[no_mangle]
+pub extern "C" fn rack_load(
+    area: &mut [u8],
+    caller: u64,
+    owner: u64,
+    place: u64,
+    header: &[u8],
+) -> u64
+    ensures { λ r. ⌜ r ≡ racks.toldOf (now (area .entry)) (racks.callOf caller owner place (racks.Load (now (header .entry)))) .code ⌝ }
+    ensures { λ _. ⌜ now (area .exit) ≡ racks.stepOf (now (area .entry)) (racks.callOf caller owner place (racks.Load (now (header .entry)))) ⌝ }
+{
+    answers::code(rack_keeper::load(area, caller, owner, place, header))
+}
+
+// The header of a place that is the caller's own or lent to it.
+#[no_mangle]
+pub extern "C" fn rack_read(
+    area: &[u8],
+    caller: u64,
+    owner: u64,
+    place: u64,
+    header: &mut [u8],
+) -> u64
+    ensures { λ r. ⌜ r ≡ racks.toldOf (now (area .entry)) (racks.callOf caller owner place (racks.Read (now (header .entry)))) .code ⌝ }
+    ensures { λ _. ⌜ now (header .exit) ≡ racks.toldOf (now (area .entry)) (racks.callOf caller owner place (racks.Read (now (header .entry)))) .slice ⌝ }
+{
+    answers::code(rack_keeper::read(area, caller, owner, place, header))
+}
+
+// One of the caller's places emptied, and its loan ended.
+#[no_mangle]
+pub extern "C" fn rack_drop(area: &mut [u8], caller: u64, owner: u64, place: u64) -> u64
+    ensures { λ r. ⌜ r ≡ racks.toldOf (now (area .entry)) (racks.callOf caller owner place racks.Drop) .code ⌝ }
+    ensures { λ _. ⌜ now (area .exit) ≡ racks.stepOf (now (area .entry)) (racks.callOf caller owner place racks.Drop) ⌝ }
+{
+    answers::code(rack_keeper::drop(area, caller, owner, place))
+}
+
+// The reading of one of the caller's places lent to a mission, and to no other from then on.
+#[no_mangle]
+pub extern "C" fn rack_lend(area: &mut [u8], caller: u64, owner: u64, place: u64, to: u64) -> u64
+    ensures { λ r. ⌜ r ≡ racks.toldOf (now (area .entry)) (racks.callOf caller owner place (racks.Lend to)) .code ⌝ }
+    ensures { λ _. ⌜ now (area .exit) ≡ racks.stepOf (now (area .entry)) (racks.callOf caller owner place (racks.Lend to)) ⌝ }
+{
+    answers::code(rack_keeper::lend(area, caller, owner, place, to))
 }

@@ -10,6 +10,7 @@ pub mod Card5
 pub mod Card6
 pub mod Card7
 pub mod Card9
+pub mod Card10
 pub mod Card11
 pub mod Card12
 pub mod Card13

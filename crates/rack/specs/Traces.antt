@@ -1,0 +1,48 @@
+-- Calls of all missions, one after another, and what one of the missions sees of them.
+use mathlib.Core.Bool.{Bool, true, false, not, _||_}
+use mathlib.Core.List.{List, [], _∷_}
+use Prim.Native.Nat.{ℕ}
+use lib.Dec.{ltb, eqb}
+use Rattle.bits.specs.Choice.{pick}
+use Rattle.bits.specs.Table.{both}
+use Rattle.rack.specs.Rack.{entryAt, lentTo, Task, Load, Read, Drop, Lend, Call, stepOf, Told, toldOf}
+
+-- the area after all calls
+unfoldable pub afterAll : List ℕ → List Call → List ℕ
+afterAll area [] = area
+afterAll area (call ∷ calls) = afterAll (stepOf area call) calls
+
+-- whether the owner loads or drops place p of mission o; and whether it does so in none of the calls
+abbrev pub loadsOrDrops : Task → Bool
+loadsOrDrops (Load header) = true
+loadsOrDrops (Read slice) = false
+loadsOrDrops Drop = true
+loadsOrDrops (Lend to) = false
+
+unfoldable pub replaces : ℕ → ℕ → Call → Bool
+replaces o p call = both (both (eqb (call .caller) o) (both (eqb (call .owner) o) (eqb (call .place) p))) (loadsOrDrops (call .task))
+
+unfoldable pub untouched : ℕ → ℕ → List Call → Bool
+untouched o p [] = true
+untouched o p (call ∷ calls) = both (not (replaces o p call)) (untouched o p calls)
+
+-- what mission m is told, call by call
+unfoldable pub heard : ℕ → List ℕ → List Call → List Told
+heard m area [] = []
+heard m area (call ∷ calls) = pick (eqb (call .caller) m) (toldOf area call ∷ heard m (stepOf area call) calls) (heard m (stepOf area call) calls)
+
+-- whether place p of mission o is lent to m; and whether it is so at some time, before, between or after the calls
+unfoldable pub lent : ℕ → List ℕ → ℕ → ℕ → Bool
+lent m area o p = both (both (ltb o 4) (ltb p 4)) (lentTo m (entryAt area o p))
+
+unfoldable pub everLent : ℕ → List ℕ → List Call → ℕ → ℕ → Bool
+everLent m area [] o p = lent m area o p
+everLent m area (call ∷ calls) o p = lent m area o p || everLent m (stepOf area call) calls o p
+
+-- the calls of m itself, and the owners' calls to places of a set
+unfoldable pub concerns : ℕ → (ℕ → ℕ → Bool) → Call → Bool
+concerns m places call = eqb (call .caller) m || both (eqb (call .caller) (call .owner)) (places (call .owner) (call .place))
+
+unfoldable pub kept : ℕ → (ℕ → ℕ → Bool) → List Call → List Call
+kept m places [] = []
+kept m places (call ∷ calls) = pick (concerns m places call) (call ∷ kept m places calls) (kept m places calls)
