@@ -62,6 +62,7 @@ PASSES ?=
 RUNS ?=
 CAPTURES ?=
 HEADERS ?=
+FADES ?=
 DELAYS ?=
 TRACES ?=
 UPLINKS ?=
@@ -69,8 +70,8 @@ UPLINKS ?=
 help:
 	@echo 'make test       prove every crate (rt ci), then host-test; last line: N passed, 0 failed'
 	@echo 'make host-test  the tests outside the proofs alone; SEED=n, WORDS=n, PASSES=n, RUNS=n,'
-	@echo '                CAPTURES=n, HEADERS=n, DELAYS=n, TRACES=n and UPLINKS=n choose what is'
-	@echo '                compared'
+	@echo '                CAPTURES=n, HEADERS=n, FADES=n, DELAYS=n, TRACES=n and UPLINKS=n choose'
+	@echo '                what is compared'
 	@echo 'make demo       write a run, see its first symbols, read it back, damage it, look into it'
 	@echo 'make bench      times of the library beside plain C and beside memory'
 	@echo 'make lib        the static library and the shared one: $(LIBS)'
@@ -92,9 +93,10 @@ PYTHON_TEST = if ! command -v python3 >/dev/null; then \
     echo 'python: no python3 here; the module is not tried'; \
     else MAHYREI_LIBRARY=$(abspath $(SHARED)) tests/python/module $(PROGRAM) $(HOST)/slots; fi
 HOST_TESTS = $(SHARED) $(addprefix $(HOST)/,mahyrei_lying word_calls pass_calls spread_calls \
-    run_calls long_calls find_calls header_calls delay_calls rack_calls uplink_calls plain_calls \
-    sha256_vectors second_test compare_words compare_passes compare_spreads compare_runs \
-    compare_captures compare_headers compare_delays compare_racks compare_uplinks) $(COMMAND_TESTS)
+    run_calls long_calls find_calls header_calls fades_calls delay_calls rack_calls uplink_calls \
+    plain_calls sha256_vectors second_test compare_words compare_passes compare_spreads \
+    compare_runs compare_captures compare_headers compare_fades compare_delays compare_racks \
+    compare_uplinks) $(COMMAND_TESTS)
 host-test: $(HOST_TESTS)
 	@echo '#include "mahyrei_plain.h"' | $(CXX) -x c++ $(WARNINGS) -Iinclude -fsyntax-only -
 	@$(STACK) && ASAN_OPTIONS=detect_leaks=0 $(HOST)/word_calls
@@ -104,6 +106,7 @@ host-test: $(HOST_TESTS)
 	@$(STACK) && ASAN_OPTIONS=detect_leaks=0 $(HOST)/long_calls
 	@$(STACK) && ASAN_OPTIONS=detect_leaks=0 $(HOST)/find_calls
 	@$(STACK) && ASAN_OPTIONS=detect_leaks=0 $(HOST)/header_calls
+	@$(STACK) && ASAN_OPTIONS=detect_leaks=0 $(HOST)/fades_calls
 	@$(STACK) && ASAN_OPTIONS=detect_leaks=0 $(HOST)/delay_calls
 	@$(STACK) && ASAN_OPTIONS=detect_leaks=0 $(HOST)/rack_calls
 	@$(STACK) && ASAN_OPTIONS=detect_leaks=0 $(HOST)/uplink_calls
@@ -116,6 +119,7 @@ host-test: $(HOST_TESTS)
 	@$(STACK) && SEED=$(SEED) RUNS=$(RUNS) $(HOST)/compare_runs
 	@$(STACK) && SEED=$(SEED) CAPTURES=$(CAPTURES) $(HOST)/compare_captures
 	@$(STACK) && SEED=$(SEED) HEADERS=$(HEADERS) $(HOST)/compare_headers
+	@$(STACK) && SEED=$(SEED) FADES=$(FADES) $(HOST)/compare_fades
 	@$(STACK) && SEED=$(SEED) DELAYS=$(DELAYS) $(HOST)/compare_delays
 	@$(STACK) && SEED=$(SEED) TRACES=$(TRACES) $(HOST)/compare_racks
 	@$(STACK) && SEED=$(SEED) UPLINKS=$(UPLINKS) $(HOST)/compare_uplinks
@@ -131,7 +135,7 @@ demo: $(PROGRAM) $(HOST)/slots
 picture: $(PROGRAM) $(HOST)/slots
 	@demo/run $^ docs/capture.svg >/dev/null
 
-bench: $(addprefix $(HOST)/bench_,words passes uplinks runs captures delays)
+bench: $(addprefix $(HOST)/bench_,words passes uplinks runs captures fades delays)
 	@$(HOST)/bench_words
 	@echo
 	@$(HOST)/bench_passes
@@ -141,6 +145,8 @@ bench: $(addprefix $(HOST)/bench_,words passes uplinks runs captures delays)
 	@$(HOST)/bench_runs
 	@echo
 	@$(HOST)/bench_captures
+	@echo
+	@$(HOST)/bench_fades
 	@echo
 	@$(HOST)/bench_delays
 
@@ -249,10 +255,11 @@ $(HOST)/sha256_vectors: tests/c/sha256_vectors.c host/sha256.c host/sha256.h
 	@mkdir -p $(@D)
 	@$(COMPILE) $(SANITIZED) -Ihost $< host/sha256.c -o $@
 
-SECOND = $(addprefix tests/second/,lib.rs compare.rs convert.rs delay.rs find.rs library.rs \
-    pass.rs rack.rs run.rs spread.rs uplink.rs word.rs run_cases.rs $(addprefix run_cases/,calls.rs \
-    captures.rs convert.rs copies.rs damages.rs delays.rs edges.rs headers.rs kinds.rs racks.rs \
-    refusals.rs sample.rs) pass_cases.rs spread_cases.rs uplink_cases.rs word_cases.rs)
+SECOND = $(addprefix tests/second/,lib.rs compare.rs convert.rs delay.rs fades.rs find.rs \
+    library.rs pass.rs rack.rs run.rs spread.rs uplink.rs word.rs run_cases.rs \
+    $(addprefix run_cases/,calls.rs captures.rs convert.rs copies.rs damages.rs delays.rs edges.rs \
+    fades.rs headers.rs kinds.rs racks.rs refusals.rs sample.rs) pass_cases.rs spread_cases.rs \
+    uplink_cases.rs word_cases.rs)
 $(HOST)/second_test: $(SECOND)
 	@mkdir -p $(@D)
 	@$(RUSTC) $(RUSTFLAGS) --test $< -o $@
@@ -308,6 +315,10 @@ $(HOST)/bench_runs: bench/bench_runs.c $(HOST)/plain_word.o $(HOST)/plain_run.o 
 $(HOST)/bench_captures: bench/bench_captures.c tests/c/runs.h $(HEADER) $(LINKED)
 	@$(COMPILE) -Itests/c $< $(LIBS) -o $@
 
+$(HOST)/bench_fades: bench/bench_fades.c $(HOST)/plain_word.o $(HOST)/plain_run.o bench/plain_run.h \
+    bench/timing.h tests/c/runs.h $(HEADER) $(LINKED)
+	@$(COMPILE) -Itests/c $< $(HOST)/plain_word.o $(HOST)/plain_run.o $(LIBS) -o $@
+
 $(HOST)/bench_delays: bench/bench_delays.c $(HOST)/plain_delay.o bench/plain_delay.h $(HEADER) \
     $(LINKED)
 	@$(COMPILE) $< $(HOST)/plain_delay.o $(LIBS) -o $@
@@ -324,9 +335,9 @@ fuzz: $(HOST)/fuzz_drive
 
 # The crates of the product that have code.
 CRATES ?= bits answers sizes crc convolution interleaver accumulator randomizer word pass spread \
-    header quantities questions convert parameters plan stream frames pulses pool channel delay \
-    slots capture starts search cut run_writer run_reader rack_keeper ldpc uplink uplink_writer \
-    uplink_reader calls sheet runsheet
+    header quantities questions convert parameters plan stream frames pulses pool channel fades \
+    delay slots capture starts search cut run_writer run_reader rack_keeper ldpc uplink \
+    uplink_writer uplink_reader calls sheet runsheet
 COUNT ?= 60
 .PHONY: mutants
 mutants:
@@ -341,15 +352,15 @@ evidence-test: $(HOST)/soak $(HOST)/fuzz_drive
 $(HOST)/soak: tests/second/soak.rs $(HOST)/libsecond.rlib $(LINKED)
 	@$(RUSTC) $(RUSTFLAGS) $< $(LINK_RUST) -o $@
 
-$(addprefix $(HOST)/,run_calls long_calls find_calls header_calls delay_calls rack_calls \
-    pass_calls spread_calls): tests/c/runs.h
+$(addprefix $(HOST)/,run_calls long_calls find_calls header_calls fades_calls delay_calls \
+    rack_calls pass_calls spread_calls): tests/c/runs.h
 
 # The fuzz target with a driver in place of libFuzzer, beside the run calls in plain C.
 $(HOST)/plain_run.o: tests/c/plain_run.c bench/plain_word.h $(HEADER)
 	@mkdir -p $(@D)
 	@$(COMPILE) $(PLAIN) -Ibench -Drun_write=plain_run_write -Drun_read=plain_run_read \
 	    -Drun_find=plain_run_find -Drun_cut=plain_run_cut -Dheader_widen=plain_header_widen \
-	    -Dheader_narrow=plain_header_narrow -c $< -o $@
+	    -Dheader_narrow=plain_header_narrow -Dfades_count=plain_fades_count -c $< -o $@
 
 FUZZ_TARGET = tests/fuzz/drive.c tests/fuzz/calls.c \
     $(addprefix $(HOST)/plain_,word.o pass.o run.o delay.o rack.o uplink.o)

@@ -22,6 +22,8 @@ enum option {
     JSON,
     CAPTURE,
     SVG,
+    TRY,
+    PAIRS,
     JOBS,
     RESULTS,
     HELP,
@@ -96,6 +98,7 @@ enum status sheet_command(const struct line *line, struct entry *entry);
 enum status header_command(const struct line *line, struct entry *entry);
 enum status widen_command(const struct line *line, struct entry *entry);
 enum status narrow_command(const struct line *line, struct entry *entry);
+enum status fades_command(const struct line *line, struct entry *entry);
 enum status rack_load_command(const struct line *line, struct entry *entry);
 enum status rack_read_command(const struct line *line, struct entry *entry);
 enum status rack_drop_command(const struct line *line, struct entry *entry);

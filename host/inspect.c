@@ -1,14 +1,13 @@
 /* inspect: what is wrong in a capture, counted and listed, and as a picture. */
-#include <errno.h>
 #include <inttypes.h>
 #include <stdio.h>
-#include <stdlib.h>
 
 #include "commands.h"
 #include "findings.h"
 #include "library.h"
 #include "picture.h"
 #include "places.h"
+#include "printed.h"
 #include "progress.h"
 
 static const char FOREWORD[] =
@@ -253,32 +252,13 @@ static void print_report(FILE *to, const struct scene *scene) {
     }
 }
 
-/* What is printed into memory and then goes out as every output does, or to standard output. */
-static bool put_printed(const char *name, bool (*print)(FILE *, const struct scene *),
-                        const struct scene *scene) {
-    char *text = NULL;
-    size_t len = 0;
-    FILE *const to = open_memstream(&text, &len);
-    if (to == NULL) {
-        complain("memory", errno);
-        return false;
-    }
-    const bool printed = print(to, scene);
-    const bool whole = fflush(to) == 0 && ferror(to) == 0;
-    if (fclose(to) != 0 || !whole) {
-        complain("memory", ENOMEM);
-        free(text);
-        return false;
-    }
-    progress_stop();
-    const bool good = printed && (name == NULL ? put_text(text, len) : put_out(name, text, len));
-    free(text);
-    return good;
-}
-
-static bool report(FILE *to, const struct scene *scene) {
+static bool report(FILE *to, const void *scene) {
     print_report(to, scene);
     return true;
+}
+
+static bool draw(FILE *to, const void *scene) {
+    return draw_picture(to, scene);
 }
 
 static bool take_in_capture(char *const operands[], struct lent *run) {
@@ -307,30 +287,11 @@ static enum status put_report(const struct line *line, const struct scene *scene
                                  "not shown");
         return FAILED;
     }
-    if ((picture != NULL && !put_printed(picture, draw_picture, scene)) ||
+    if ((picture != NULL && !put_printed(picture, draw, scene)) ||
         !put_printed(NULL, report, scene)) {
         return FAILED;
     }
     return scene->answer == MAHYREI_ACCEPTED ? DONE : REFUSED;
-}
-
-/* A picture in place of what was captured would be a loss that nobody meant. */
-static bool picture_ready(const struct line *line) {
-    const char *const picture = line->options[SVG];
-    if (picture == NULL) {
-        return true;
-    }
-    if (is_dash(picture)) {
-        complain_text("--svg", "a file; standard output has the report");
-        return false;
-    }
-    for (int i = 0; i < line->count; i++) {
-        if (same_file(line->operands[i], picture)) {
-            complain_text(picture, "this is what is looked at, and no picture goes there");
-            return false;
-        }
-    }
-    return true;
 }
 
 static enum status inspect(const struct line *line, struct lent *run, struct findings *findings) {

@@ -153,6 +153,20 @@ static void *make_form_call(void *given) {
     return NULL;
 }
 
+/* Fades to be counted. */
+struct fades_call {
+    const struct reckoned *reckoned;
+    uint64_t answer;
+};
+
+static void *make_fades_call(void *given) {
+    struct fades_call *const call = given;
+    const struct reckoned *const r = call->reckoned;
+    call->answer =
+        fades_count(r->header.at, r->header.len, r->fades, r->fades_len, r->counts, r->counts_len);
+    return NULL;
+}
+
 /* Starts a thread that no signal comes to, so that handlers run where the program waits. */
 static int start(pthread_t *thread, void *(*make)(void *), void *call) {
     sigset_t all, before;
@@ -324,6 +338,15 @@ bool library_widen(const struct forms *forms, uint64_t *answer) {
 bool library_narrow(const struct forms *forms, uint64_t *answer) {
     struct form_call call = {forms, false, 0};
     return ask_form(&call, answer);
+}
+
+bool library_fades(const struct reckoned *reckoned, uint64_t *answer) {
+    struct fades_call call = {reckoned, 0};
+    if (!on_its_stack(make_fades_call, &call)) {
+        return false;
+    }
+    *answer = call.answer;
+    return true;
 }
 
 void free_lent(struct lent *lent) {

@@ -68,6 +68,18 @@ struct forms {
 bool library_widen(const struct forms *forms, uint64_t *answer);
 bool library_narrow(const struct forms *forms, uint64_t *answer);
 
+/* A header, pairs of first symbol and length, and room for a count of each word. Lengths count
+ * numbers. */
+struct reckoned {
+    struct bytes header;
+    const uint32_t *fades;
+    size_t fades_len;
+    uint32_t *counts;
+    size_t counts_len;
+};
+
+bool library_fades(const struct reckoned *reckoned, uint64_t *answer);
+
 void free_lent(struct lent *lent);
 
 #endif

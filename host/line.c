@@ -83,8 +83,9 @@ static void print_help(FILE *to) {
         "header\n"
         "that widen or narrow reads can be hexadecimal text instead, such as 5950F01BE80204000000\n"
         "or hex:050C; a file whose name has nothing but such digits is given as ./NAME. RATE is\n"
-        "1/3, 1/2 or 2/3, or its number. SLOT is the number of a slot, from 0 on. AREA is the "
-        "file\n"
+        "1/3, 1/2 or 2/3, or its number. SLOT is the number of a slot, from 0 on. LIST has one "
+        "fade\n"
+        "a line, its first symbol and its length, and for batch one run a line. AREA is the file\n"
         "of a rack; CALLER, OWNER and TO are missions, 0 to 3, and PLACE is 0 to 3.\n\n",
         to);
     print_options(to);

@@ -130,6 +130,7 @@ void entry_begin(struct entry *entry, const char *what) {
                             .rate = "-",
                             .blocks = {.size = NO_SIZE, .digest = "-"},
                             .words = {.size = NO_SIZE, .digest = "-"},
+                            .list = {.size = NO_SIZE, .digest = "-"},
                             .bit = "-",
                             .rack = {.caller = "-", .owner = "-", .place = "-", .to = "-"}};
 }
@@ -145,6 +146,11 @@ void entry_slot(struct entry *entry, uint64_t slot) {
 
 void entry_forms(struct entry *entry) {
     entry->kind = FORM_ENTRY;
+}
+
+void entry_fades(struct entry *entry, const char *list) {
+    entry->kind = FADES_ENTRY;
+    entry->list.name = list;
 }
 
 void entry_pass(struct entry *entry, const char *blocks, const char *words) {
@@ -330,6 +336,11 @@ static void print_forms(FILE *to, const struct entry *entry) {
     print_form(to, "ten", &entry->ten);
 }
 
+static void print_fades(FILE *to, const struct entry *entry) {
+    fprintf(to, " header=%s", entry->header);
+    print_part(to, "list", &entry->list);
+}
+
 static void print_pass(FILE *to, const struct entry *entry) {
     fprintf(to, " rate=%s", entry->rate);
     print_part(to, "blocks", &entry->blocks);
@@ -356,9 +367,10 @@ static void print_rack(FILE *to, const struct entry *entry) {
 
 static void print_entry(FILE *to, const struct entry *entry, int status) {
     static void (*const PRINT[])(FILE *, const struct entry *) = {
-        [RUN_ENTRY] = print_run,   [CAPTURE_ENTRY] = print_capture, [FORM_ENTRY] = print_forms,
-        [PASS_ENTRY] = print_pass, [SPREAD_ENTRY] = print_spread,   [UPLINK_ENTRY] = print_uplink,
-        [RACK_ENTRY] = print_rack};
+        [RUN_ENTRY] = print_run,       [CAPTURE_ENTRY] = print_capture,
+        [FORM_ENTRY] = print_forms,    [FADES_ENTRY] = print_fades,
+        [PASS_ENTRY] = print_pass,     [SPREAD_ENTRY] = print_spread,
+        [UPLINK_ENTRY] = print_uplink, [RACK_ENTRY] = print_rack};
     char now[TIME_TEXT];
     time_text(now);
     fprintf(to, "%s %s", now, entry->what);

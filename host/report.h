@@ -35,6 +35,7 @@ enum entry_kind {
     RUN_ENTRY,
     CAPTURE_ENTRY,
     FORM_ENTRY,
+    FADES_ENTRY,
     PASS_ENTRY,
     SPREAD_ENTRY,
     UPLINK_ENTRY,
@@ -74,6 +75,7 @@ struct entry {
     struct entry_form eight, ten;
     char rate[ENTRY_NUMBER];
     struct entry_part blocks, words; /* a pass's */
+    struct entry_part list;          /* of fades */
     char bit[ENTRY_NUMBER];          /* a spread's */
     struct entry_rack rack;          /* a rack's, with the header above */
     bool answered;
@@ -93,6 +95,9 @@ void entry_slot(struct entry *entry, uint64_t slot);
 /* It is about a header that goes from one form to the other. */
 void entry_forms(struct entry *entry);
 void entry_form(struct entry_form *form, const uint8_t *header, size_t len);
+
+/* It is about fades over a run. */
+void entry_fades(struct entry *entry, const char *list);
 
 /* It is about a pass, an uplink, or a bit's spread. */
 void entry_pass(struct entry *entry, const char *blocks, const char *words);

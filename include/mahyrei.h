@@ -15,9 +15,10 @@
  * frames make the slots, bit for bit. In a capture that begins on any slot, run_find finds the
  * first marker whose symbols are sent once, and run_cut packs the run that begins at a slot anew,
  * so that run_read can read it. The header says all of this; header_widen makes one of it from the
- * shorter header of earlier versions, and header_narrow goes back. delay_write and delay_read are
- * the channel interleaver and its way back a symbol at a time, over a lent area, for whoever has no
- * room for its whole sequence.
+ * shorter header of earlier versions, and header_narrow goes back. fades_count says of a header how
+ * many symbols of each word a list of fades would hit. delay_write and delay_read are the channel
+ * interleaver and its way back a symbol at a time, over a lent area, for whoever has no room for
+ * its whole sequence.
  *
  * The rack keeps headers of four missions, four places each, in a lent area of 176 bytes.
  * rack_load, rack_read and rack_drop are for a mission's own places; rack_lend lets one other
@@ -36,7 +37,8 @@
  *
  * What the caller owes, and what no call can test:
  *   - a slice is a pointer and a length in bytes, and the pointer is valid for that many bytes;
- *     a slice of length 0 may be NULL; there is no rule of alignment;
+ *     a slice of length 0 may be NULL; there is no rule of alignment. The two slices of numbers
+ *     that fades_count is lent have lengths in numbers, and are aligned as uint32_t is;
  *   - the slice that a call writes does not overlap the others;
  *   - no other thread writes to a slice, or reads the one that is written, during the call.
  *
@@ -140,8 +142,8 @@ extern "C" {
 /*
  * The number in an answer: 0, or the number of the first question whose answer is no. The
  * questions are put in the order of their numbers, but that 23 to 25 come first, 20 after 7, 19,
- * 21, 26 and 27 after 8, and 28 and 29 after 9; a call skips those it has no input for. 9 to 19, 28
- * and 29 are about the contents of what is read.
+ * 21, 22, 26 and 27 after 8, and 28 and 29 after 9; a call skips those it has no input for. 9 to
+ * 19, 28 and 29 are about the contents of what is read.
  */
 enum mahyrei_number {
     /* Accepted: every byte of the written slice has been set. run_find writes nothing: its place is
@@ -166,11 +168,12 @@ enum mahyrei_number {
      * more. */
     MAHYREI_BAD_MARKER = 7,
     /* A slice has another length than the rate or the header implies, the factor included, or than
-     * a header to be written has. Passes: the slices do not hold n whole blocks and n words, with n
-     * from 1 to MAHYREI_PASS_MAX. Captures: there are more than MAHYREI_CAPTURE_BYTES_MAX bytes, or
-     * in run_cut the run does not end within them. Uplink: the slices do not hold n whole frames
-     * and n codeblocks, with n from 1 to MAHYREI_UPLINK_MAX. Rack: the area does not have
-     * MAHYREI_RACK_BYTES bytes, or in rack_read the header MAHYREI_HEADER_BYTES. */
+     * a header to be written has. fades_count: there are not C counts. Passes: the slices do not
+     * hold n whole blocks and n words, with n from 1 to MAHYREI_PASS_MAX. Captures: there are more
+     * than MAHYREI_CAPTURE_BYTES_MAX bytes, or in run_cut the run does not end within them. Uplink:
+     * the slices do not hold n whole frames and n codeblocks, with n from 1 to MAHYREI_UPLINK_MAX.
+     * Rack: the area does not have MAHYREI_RACK_BYTES bytes, or in rack_read the header
+     * MAHYREI_HEADER_BYTES. */
     MAHYREI_BAD_LENGTH = 8,
 
     /* run_read: a spare bit of the last slot byte is set; there are such bits only where m is 2, 3
@@ -213,6 +216,9 @@ enum mahyrei_number {
     MAHYREI_BAD_COPIES = 20,
     /* header_narrow: the factor is not 1, so that no header of eight bytes says the same. */
     MAHYREI_NO_OLD_HEADER = 21,
+    /* fades_count: the list breaks its rules: half a pair is left over, or a fade has no symbol,
+     * begins before the one before it has ended, or does not end inside the run. */
+    MAHYREI_BAD_FADES = 22,
 
     /* Rack calls: there is no such mission as the caller, the owner or the borrower, which are 0 to
      * 3; or a loan is to the caller itself. */
@@ -414,6 +420,25 @@ uint64_t header_widen(const uint8_t *eight, size_t eight_len, uint8_t *ten, size
  * header_widen gives the ten bytes back from what it writes.
  */
 uint64_t header_narrow(const uint8_t *ten, size_t ten_len, uint8_t *eight, size_t eight_len);
+
+/*
+ * fades_count: counts for each word of a run how many of its symbols are hit by fades.
+ *
+ * Reads   header, MAHYREI_HEADER_BYTES bytes; fades, pairs of numbers, each the first symbol of a
+ *         fade and how many symbols it has. Symbols of the run count from 0, with markers and
+ *         without copies: the factor is judged with the header and then disregarded. The fades
+ *         ascend and do not overlap, but one may begin where another ends; each has at least one
+ *         symbol, and all end inside the run. There may be none.
+ * Writes  counts, C numbers, all of them, whatever they held; none on refusal. Marker symbols, and
+ *         those that the channel interleaver puts where no symbol of a word goes, count for no
+ *         word; all other symbols that are hit add up to the counts.
+ * Returns 0 on acceptance; otherwise a number from 1 to 8, or 20 or 22, place 0 (so the answer is
+ *         the number). Of 7 it asks W's range alone.
+ *
+ * fades_len and counts_len count numbers: fades_len is twice the number of fades.
+ */
+uint64_t fades_count(const uint8_t *header, size_t header_len, const uint32_t *fades,
+                     size_t fades_len, uint32_t *counts, size_t counts_len);
 
 /*
  * delay_write: one step of the channel interleaver: takes a symbol of the words and gives the next

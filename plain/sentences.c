@@ -22,7 +22,8 @@ static const char *const SENTENCES[] = {
                            "pass has 1 to 211 blocks, whole, and as many words; a capture has at "
                            "most 2^53 bytes, and run_cut needs the whole run in it; an uplink has "
                            "1 to 64 frames, whole, and as many codeblocks; header_widen writes ten "
-                           "bytes, header_narrow eight; a rack has 176 bytes.",
+                           "bytes, header_narrow eight, fades_count a number for each word; a rack "
+                           "has 176 bytes.",
     [MAHYREI_BAD_SPARE] = "A spare bit behind the last slot is set.",
     [MAHYREI_BAD_PULSE] =
         "A symbol cannot be told: over all its copies, no data slot has more "
@@ -47,6 +48,8 @@ static const char *const SENTENCES[] = {
     [MAHYREI_BAD_COPIES] = "There is no such factor; each symbol is sent 1, 2, 3, 4, 8, 16 or 32 "
                            "times.",
     [MAHYREI_NO_OLD_HEADER] = "The factor is not 1: no header of eight bytes says the same.",
+    [MAHYREI_BAD_FADES] = "The list of fades breaks its rules: pairs of first symbol and length, "
+                          "ascending, not overlapping, at least one symbol each, inside the run.",
     [MAHYREI_BAD_MISSION] = "There is no such mission, or it would lend to itself; missions are 0 "
                             "to 3.",
     [MAHYREI_BAD_PLACE] = "There is no such place in the rack; each mission has places 0 to 3.",

@@ -12,10 +12,10 @@
 Everything is `bytes`, in and out; other objects with a buffer, such as bytearray and memoryview,
 are taken too and copied first. The area of a delay line or of a rack is a bytearray, which a call
 changes. A call gives its whole result or raises Refused. What a refusal says comes from the library:
-run_write, run_read, run_find, run_cut, header_widen, header_narrow, delay_write, delay_read,
-rack_load, rack_read, rack_drop, rack_lend, word_write, word_read, pass_write, pass_read, bit_spread,
-uplink_write and uplink_read are proved there; header, fields, sizes and sentence are plain C, and
-tested. This module adds nothing to their answers; it only lends them room.
+run_write, run_read, run_find, run_cut, header_widen, header_narrow, fades_count, delay_write,
+delay_read, rack_load, rack_read, rack_drop, rack_lend, word_write, word_read, pass_write, pass_read,
+bit_spread, uplink_write and uplink_read are proved there; header, fields, sizes and sentence are
+plain C, and tested. This module adds nothing to their answers; it only lends them room.
 
 A call works in less than 1 MiB of stack, so a thread that makes one needs a stack above that (see
 threading.stack_size; 0, the default, is enough on Linux). Calls let other threads run meanwhile.
@@ -37,6 +37,7 @@ __all__ = [
     "delay_area",
     "delay_read",
     "delay_write",
+    "fades_count",
     "fields",
     "header",
     "header_narrow",
@@ -72,6 +73,7 @@ _RACK_BYTES = 176
 _UPLINK_FRAME_BYTES = 8
 _UPLINK_CODEBLOCK_BYTES = 64
 _UPLINK_MOST = 64
+_U32_MOST = 2**32 - 1
 _U64_MOST = 2**64 - 1
 
 
@@ -136,6 +138,7 @@ def _load():
     number, pointer = ctypes.c_uint, ctypes.POINTER
     given = [text, size]  # a slice that is read
     room = [ctypes.c_void_p, size]  # one that is written
+    numbers = [pointer(ctypes.c_uint32), size]
     for name, result, arguments in (
         ("word_write", u64, [u64] + given + room),
         ("word_read", u64, [u64] + given + room),
@@ -148,6 +151,7 @@ def _load():
         ("run_cut", u64, given * 2 + [u64] + room),
         ("header_widen", u64, given + room),
         ("header_narrow", u64, given + room),
+        ("fades_count", u64, given + numbers * 2),
         ("delay_write", u64, given + [u64, u64] + room),
         ("delay_read", u64, given + [u64, u64] + room),
         ("rack_load", u64, room + [u64] * 3 + given),
@@ -180,6 +184,11 @@ def _number(value):
     range, so that nothing is cut down to a number that would be let through."""
     value = operator.index(value)
     return value if 0 <= value <= _U64_MOST else _U64_MOST
+
+
+def _u32(value):
+    """A number for a list. What 32 bits cannot hold becomes their largest, which is in no run."""
+    return min(_number(value), _U32_MOST)
 
 
 def _accepted(answer):
@@ -316,6 +325,20 @@ def header_narrow(ten):
     """The header of eight bytes that says the same as one of ten, whose factor is 1: header_widen
     undone. Refused with a number from 1 to 7, or 20, or with 21 for another factor."""
     return _written(_library.header_narrow, [_bytes(ten)], _OLD_HEADER_BYTES)
+
+
+def fades_count(header, fades):
+    """How many symbols of each word of a run the fades hit, as a list of C numbers.
+
+    Each fade is a pair, its first symbol and how many symbols it has; symbols count from 0, with
+    markers and without copies. They ascend, do not overlap, have at least one symbol each and end
+    inside the run. Refused with a number from 1 to 7, or 20, or with 22 where they do not."""
+    header = _bytes(header)
+    listed = [_u32(number) for first, length in fades for number in (first, length)]
+    words = _lengths(header).C
+    given, counts = (ctypes.c_uint32 * len(listed))(*listed), (ctypes.c_uint32 * words)()
+    _accepted(_library.fades_count(header, len(header), given, len(listed), counts, words))
+    return list(counts)
 
 
 def delay_area(header):

@@ -1,5 +1,5 @@
 /*
- * Plain C version of the run and header calls, on the plain C words of bench/plain_word.c: a
+ * Plain C version of the run, header and fades calls, on the plain C words of bench/plain_word.c: a
  * stand-in for the library, with which the tests can be tried. It allocates, and aborts where it
  * cannot. Steps and questions are numbered as in docs/SPECIFICATION.md.
  */
@@ -383,5 +383,54 @@ uint64_t header_narrow(const uint8_t *ten, size_t ten_len, uint8_t *eight, size_
     }
     memset(eight, 0, eight_len);
     memcpy(eight, ten, FIELD_BYTES);
+    return 0;
+}
+
+/* Question 22. */
+static int fades_good(const struct run *r, const uint32_t *fades, size_t fades_len) {
+    uint64_t end = 0;
+    for (size_t i = 0; i + 1 < fades_len; i += 2) {
+        if (fades[i] < end || fades[i + 1] == 0) {
+            return 0;
+        }
+        end = (uint64_t)fades[i] + fades[i + 1];
+    }
+    return fades_len % 2 == 0 && end <= r->symbols;
+}
+
+/* Whether a symbol is in one of the fades: the last that does not begin behind it. */
+static int in_fade(const uint32_t *fades, size_t fades_len, size_t symbol) {
+    size_t from = 0,
+           to = fades_len / 2; /* fades before `from` begin early enough, from `to` on late */
+    while (from < to) {
+        const size_t middle = from + (to - from) / 2;
+        if (fades[2 * middle] <= symbol) {
+            from = middle + 1;
+        } else {
+            to = middle;
+        }
+    }
+    return from > 0 && symbol - fades[2 * from - 2] < fades[2 * from - 1];
+}
+
+uint64_t fades_count(const uint8_t *header, size_t header_len, const uint32_t *fades,
+                     size_t fades_len, uint32_t *counts, size_t counts_len) {
+    struct run r;
+    const unsigned number = ask_header(&r, header, header_len, NULL, 0);
+    if (number != 0) {
+        return number;
+    }
+    if (counts_len != r.C) {
+        return 8;
+    }
+    if (!fades_good(&r, fades, fades_len)) {
+        return 22;
+    }
+    for (size_t c = 0; c < r.C; c++) {
+        counts[c] = 0;
+        for (size_t i = 0; i < r.S; i++) {
+            counts[c] += (uint32_t)in_fade(fades, fades_len, stand(&r, c * r.S + i));
+        }
+    }
     return 0;
 }

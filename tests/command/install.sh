@@ -4,7 +4,7 @@
 # README, the man page, the C header and the sentences have the same numbers, and none has a 17.
 once_numbers() {
     local number sentences=''
-    same 'numbers of README' "$(seq -s ' ' 0 16) $(seq -s ' ' 18 21) $(seq -s ' ' 23 29)" "$(numbers | xargs)"
+    same 'numbers of README' "$(seq -s ' ' 0 16) $(seq -s ' ' 18 29)" "$(numbers | xargs)"
     same 'numbers of the man page' "$(numbers | xargs)" \
         "$(sed -n 's/^\.IP \([0-9]*\) 4$/\1/p' "$root/host/mahyrei.1" | xargs)"
     same 'numbers of the header' "$(numbers | xargs)" \
@@ -57,10 +57,10 @@ once_install() {
         "$(cd "$prefix_folder" && find . ! -type d -printf '%P\n' | sort | xargs)"
     nm -g --defined-only "$prefix_folder/lib/libmahyrei.a" >"$said/out"
     same 'calls of the library' \
-        "bit_spread delay_read delay_write header_narrow header_widen pass_read pass_write rack_drop \
-rack_lend rack_load rack_read run_cut run_find run_read run_write uplink_read uplink_write word_read \
-word_write" \
-        "$(grep -Eo ' T ((bit|delay|header|pass|rack|run|uplink|word)_[a-z]*)$' "$said/out" |
+        "bit_spread delay_read delay_write fades_count header_narrow header_widen pass_read pass_write \
+rack_drop rack_lend rack_load rack_read run_cut run_find run_read run_write uplink_read uplink_write \
+word_read word_write" \
+        "$(grep -Eo ' T ((bit|delay|fades|header|pass|rack|run|uplink|word)_[a-z]*)$' "$said/out" |
             cut -c 4- | sort | xargs)"
     awk '/^```c$/ { on = 1; next } /^```$/ { on = 0 } on' "$root/README.md" >program.c
     flags="'-I$prefix_folder/include' '-L$prefix_folder/lib' -lmahyrei"
@@ -129,6 +129,8 @@ once_completion() {
         "$(completed mahyrei header cop)"
     same 'an old header' header "$(completed mahyrei widen hea)"
     same 'a new header' header "$(completed mahyrei narrow hea)"
+    same 'an option of fades' '--try' "$(completed mahyrei fades --t)"
+    same 'a list of fades' frames "$(completed mahyrei fades "$header" fra)"
     same 'a rate' '1/3 1/2' "$(completed mahyrei pass-write 1)"
     same 'a rate of spread' 2/3 "$(completed mahyrei spread 2)"
     same 'a file behind the rate' frames "$(completed mahyrei pass-read -n 1/3 fra)"

@@ -5,7 +5,7 @@
 declared() {
     gcc -E -P "$root/include/mahyrei_plain.h" | tr '\n' ' ' | sed 's/{[^{}]*}/;/g' | tr ';' '\n' |
         grep -v static | sed -n 's/.*[ *]\([a-z_]*\)(.*)$/\1/p' |
-        grep -E '^(word|pass|bit|header|delay|rack|uplink|run|mahyrei)_' | sort
+        grep -E '^(word|pass|bit|fades|header|delay|rack|uplink|run|mahyrei)_' | sort
 }
 
 install_all() {
@@ -22,10 +22,10 @@ once_shared() {
     install_all
     local so=prefix/lib/libmahyrei.so
     same 'functions of the headers' \
-        "bit_spread delay_read delay_write header_narrow header_widen mahyrei_sizes pass_read \
-pass_write rack_drop rack_lend rack_load rack_read run_cut run_find run_read run_write uplink_read \
-uplink_write word_read word_write" \
-        "$(declared | grep -E '^(bit|delay|header|pass|rack|run|uplink|word)_|_sizes$' | xargs)"
+        "bit_spread delay_read delay_write fades_count header_narrow header_widen mahyrei_sizes \
+pass_read pass_write rack_drop rack_lend rack_load rack_read run_cut run_find run_read run_write \
+uplink_read uplink_write word_read word_write" \
+        "$(declared | grep -E '^(bit|delay|fades|header|pass|rack|run|uplink|word)_|_sizes$' | xargs)"
     same 'names that can be seen in the shared library' "$(declared | xargs)" \
         "$(nm -D --defined-only $so | sed -n 's/^[0-9a-f]* T \(.*\)@@MAHYREI_3$/\1/p' | sort | xargs)"
     same 'and no others' "$(declared | wc -l)" \

@@ -173,7 +173,7 @@ test_explain() {
     done
     run 0 explain $((7000 * 256 + 10))
     same 'an answer as the calls give it' "number 10, place 7000: $(sentence 10)" "$(out)"
-    for number in 17 273 22 30 255 x -1 '' 18446744073709551616; do # 273 is 17 at place 1
+    for number in 17 273 30 255 x -1 '' 18446744073709551616; do # 273 is 17 at place 1
         run 2 explain -- "$number"
         has "no number $number" 'no call gives this number' "$err"
     done

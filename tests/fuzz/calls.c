@@ -4,7 +4,8 @@
  * to be read is written by the library first, then damaged as the input says: slots, symbols, coded
  * bits, input bits of the code, bits of the stream under a right check. Or it is the rest of the
  * input itself. A capture to be searched has markers put into it, whole or with a slot turned over;
- * one to be cut has a run at some slot. The area of a delay line or of a rack holds anything.
+ * one to be cut has a run at some slot. A list of fades keeps the rules or breaks one of them. The
+ * area of a delay line or of a rack holds anything.
  *
  * What is demanded of each call: the answer and every byte of the written slice are those of the
  * plain C version (tests/c/plain_run.c, bench/plain_word.c, plain_pass.c, plain_delay.c,
@@ -51,10 +52,27 @@ enum { FIELDS = 9 };
 static const size_t WIDTHS[FIELDS] = {2, 4, 8, 9, 12, 6, 7, 6, 26};
 
 static const char *const CALL_NAMES[CALLS] = {
-    "word_write",   "word_read",   "pass_write",   "pass_read",     "bit_spread",
-    "uplink_write", "uplink_read", "header_widen", "header_narrow", "run_write",
-    "run_read",     "run_find",    "run_cut",      "delay_write",   "delay_read",
-    "rack_load",    "rack_read",   "rack_drop",    "rack_lend"};
+    [WORD_WRITE] = "word_write",
+    [WORD_READ] = "word_read",
+    [PASS_WRITE] = "pass_write",
+    [PASS_READ] = "pass_read",
+    [BIT_SPREAD] = "bit_spread",
+    [UPLINK_WRITE] = "uplink_write",
+    [UPLINK_READ] = "uplink_read",
+    [HEADER_WIDEN] = "header_widen",
+    [HEADER_NARROW] = "header_narrow",
+    [RUN_WRITE] = "run_write",
+    [RUN_READ] = "run_read",
+    [RUN_FIND] = "run_find",
+    [RUN_CUT] = "run_cut",
+    [FADES_COUNT] = "fades_count",
+    [DELAY_WRITE] = "delay_write",
+    [DELAY_READ] = "delay_read",
+    [RACK_LOAD] = "rack_load",
+    [RACK_READ] = "rack_read",
+    [RACK_DROP] = "rack_drop",
+    [RACK_LEND] = "rack_lend",
+};
 
 /* The numbers that a call can answer, a bit each. */
 static const uint32_t CAN_ANSWER[CALLS] = {
@@ -71,6 +89,7 @@ static const uint32_t CAN_ANSWER[CALLS] = {
     [RUN_READ] = 0x1FFFF | 1U << 18 | 1U << 20,
     [RUN_FIND] = 0x1FF | 1U << 19 | 1U << 20,
     [RUN_CUT] = 0x1FF | 1U << 20,
+    [FADES_COUNT] = 0x1FF | 1U << 20 | 1U << 22,
     [DELAY_WRITE] = 0x1FF | 1U << 20 | 1U << 26,
     [DELAY_READ] = 0x1FF | 1U << 20 | 1U << 26,
     [RACK_LOAD] = 0x1FF | 1U << 20 | 1U << 23 | 1U << 24 | 1U << 25,
@@ -256,6 +275,11 @@ static struct run lent_run(void) {
                         fields[4], fields[5], fields[6], fields[7]};
 }
 
+/* A slice of numbers begins and ends with one. */
+static uint32_t *numbers_of(uint8_t *slice) {
+    return (uint32_t *)(void *)slice;
+}
+
 static uint64_t put_library(enum call call, uint64_t rate) {
     const struct lent *const h = &lent[HEADER], *const m = &lent[MARKER];
     const struct lent *const from = &lent[FROM], *const to = &lent[TO];
@@ -288,6 +312,9 @@ static uint64_t put_library(enum call call, uint64_t rate) {
         return run_find(h->slice, h->len, m->slice, m->len, from->slice, from->len);
     case RUN_CUT:
         return run_cut(h->slice, h->len, from->slice, from->len, from_slot, to->slice, to->len);
+    case FADES_COUNT:
+        return fades_count(h->slice, h->len, numbers_of(from->slice), from->len / 4,
+                           numbers_of(to->slice), to->len / 4);
     case DELAY_WRITE:
         return delay_write(h->slice, h->len, step, taken, to->slice, to->len);
     case DELAY_READ:
@@ -335,6 +362,9 @@ static uint64_t put_plain(enum call call, uint64_t rate, uint8_t *to, size_t to_
         return plain_run_find(h->slice, h->len, m->slice, m->len, from->slice, from->len);
     case RUN_CUT:
         return plain_run_cut(h->slice, h->len, from->slice, from->len, from_slot, to, to_len);
+    case FADES_COUNT:
+        return plain_fades_count(h->slice, h->len, numbers_of(from->slice), from->len / 4,
+                                 numbers_of(to), to_len / 4);
     case DELAY_WRITE:
         return plain_delay_write(h->slice, h->len, step, taken, to, to_len);
     case DELAY_READ:
@@ -393,7 +423,7 @@ static void judge_answer(enum call call, uint64_t rate, uint64_t answer) {
 
 /* Puts a call on the lent slices to the library, and judges all of it. */
 static uint64_t put(enum call call, uint64_t rate) {
-    static uint8_t expected[AREA];
+    static _Alignas(uint32_t) uint8_t expected[AREA];
     const int first = is_run(call) ? HEADER : FROM;
     for (int i = first; i < SLICES; i++) {
         memcpy(lent[i].before, watched(&lent[i]), lent[i].len + MARGIN);
@@ -1029,6 +1059,77 @@ static void put_cut(struct input *in) {
     require(memcmp(lent[TO].slice, frames, frame_bytes(&run)) == 0, RUN_READ, "read other frames");
 }
 
+/* ---- fades */
+
+enum { FADES_MOST = 4000 };
+
+/* A list of fades over a run, and how many numbers it has: mostly one that keeps the rules. */
+static size_t make_fades(struct input *in, const struct run *run, uint32_t list[2 * FADES_MOST]) {
+    const size_t symbols = symbol_count(run), count = take_below(in, 2, FADES_MOST - 2);
+    const size_t gap = (size_t)1 << take_below(in, 1, 18),
+                 size = (size_t)1 << take_below(in, 1, 18);
+    uint64_t state = take(in, 4) + 1; /* xorshift64 */
+    size_t len = 0;
+    for (size_t first = take_below(in, 3, symbols), i = 0; i < count && first < symbols; i++) {
+        state ^= state << 13;
+        state ^= state >> 7;
+        state ^= state << 17;
+        const size_t wanted = 1 + (size_t)(state >> 8) % size;
+        const size_t length = wanted < symbols - first ? wanted : symbols - first;
+        list[len++] = (uint32_t)first;
+        list[len++] = (uint32_t)length;
+        first += length + (size_t)(state >> 32) % gap;
+    }
+    const size_t how = take_below(in, 1, 16), at = take_below(in, 2, len + 1);
+    if (how == 0) { /* any number for one */
+        list[at] = (uint32_t)take(in, 4);
+        len += at == len;
+    } else if (how == 1) { /* one more, or one less */
+        list[at] += at % 2 == 0 ? 1 : UINT32_MAX;
+        len += at == len;
+    } else if (how == 2) {
+        list[len++] = (uint32_t)symbols;
+        list[len++] = 1;
+    }
+    return len;
+}
+
+/* The counts add up to the covered symbols that are in some word. */
+static void judge_sum(const struct run *run, const uint32_t *list, size_t len) {
+    uint64_t sum = 0, own = 0;
+    for (size_t word = 0; word < block_count(run); word++) {
+        sum += numbers_of(lent[TO].slice)[word];
+    }
+    const size_t S = word_symbols(run), all = block_count(run) * S;
+    for (size_t i = 0; i < len; i += 2) {
+        for (size_t s = list[i]; s < (size_t)list[i] + list[i + 1]; s++) {
+            const size_t at = s % period(run);
+            const size_t place = s / period(run) * S + at - run->W;
+            const size_t delay = place % run->N * run->B * run->N;
+            own += at >= run->W && place >= delay && place - delay < all;
+        }
+    }
+    require(sum == own, FADES_COUNT, "another sum than that of the covered symbols");
+}
+
+static void put_fades(struct input *in) {
+    static uint32_t list[2 * FADES_MOST];
+    uint8_t header[MAHYREI_HEADER_BYTES];
+    memset(list, 0, sizeof list); /* an input says all that it does */
+    const struct run run = make_run(in);
+    lend_header(in, &run);
+    pack_header(&run, header);
+    lend(MARKER, 0, header, 0); /* it is lent none */
+    const size_t len = make_fades(in, &run, list);
+    lend(FROM, 4 * len, (const uint8_t *)list, 4 * len);
+    lend_to(4 * choose_len(in, block_count(&run)));
+    const bool same =
+        lent[HEADER].len == sizeof header && memcmp(lent[HEADER].slice, header, sizeof header) == 0;
+    if (put(FADES_COUNT, 0) == MAHYREI_ACCEPTED && same) {
+        judge_sum(&run, list, len);
+    }
+}
+
 /* ---- delay lines */
 
 /* The number of a step: one of the first or of the last, or any. */
@@ -1158,6 +1259,8 @@ int LLVMFuzzerTestOneInput(const uint8_t *data, size_t size) {
         put_find(&in);
     } else if (call == RUN_CUT) {
         put_cut(&in);
+    } else if (call == FADES_COUNT) {
+        put_fades(&in);
     } else if (call == DELAY_WRITE || call == DELAY_READ) {
         put_delay(&in, call);
     } else if (call >= RACK_LOAD) {

@@ -7,7 +7,7 @@
 #include <stddef.h>
 #include <stdint.h>
 
-/* Those that are lent a header beside other slices come last. */
+/* Those that are lent a header of ten bytes beside other slices come last. */
 enum call {
     WORD_WRITE,
     WORD_READ,
@@ -22,6 +22,7 @@ enum call {
     RUN_READ,
     RUN_FIND,
     RUN_CUT,
+    FADES_COUNT,
     DELAY_WRITE,
     DELAY_READ,
     RACK_LOAD,

@@ -16,7 +16,7 @@
 
 enum {
     /* of call and number, as calls.c has them */
-    PAIRS = 3 + 6 + 3 + 6 + 4 + 2 + 4 + 9 + 11 + 10 + 19 + 11 + 10 + 11 + 11 + 13 + 5 + 5 + 5,
+    PAIRS = 3 + 6 + 3 + 6 + 4 + 2 + 4 + 9 + 11 + 10 + 19 + 11 + 10 + 11 + 11 + 11 + 13 + 5 + 5 + 5,
     LEAST_INPUTS = 1500,
     MOST_INPUTS = 20000,
     RANDOM_LEN = 96,

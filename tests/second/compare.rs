@@ -101,6 +101,7 @@ pub enum Call {
     RunCut,
     HeaderWiden,
     HeaderNarrow,
+    FadesCount,
     DelayWrite,
     DelayRead,
     RackLoad,
@@ -112,7 +113,7 @@ pub enum Call {
 }
 
 impl Call {
-    pub const ALL: [Call; 19] = [
+    pub const ALL: [Call; 20] = [
         Call::WordWrite,
         Call::WordRead,
         Call::PassWrite,
@@ -124,6 +125,7 @@ impl Call {
         Call::RunCut,
         Call::HeaderWiden,
         Call::HeaderNarrow,
+        Call::FadesCount,
         Call::DelayWrite,
         Call::DelayRead,
         Call::RackLoad,
@@ -147,6 +149,7 @@ impl Call {
             Call::RunCut => "run_cut",
             Call::HeaderWiden => "header_widen",
             Call::HeaderNarrow => "header_narrow",
+            Call::FadesCount => "fades_count",
             Call::DelayWrite => "delay_write",
             Call::DelayRead => "delay_read",
             Call::RackLoad => "rack_load",
@@ -172,6 +175,7 @@ impl Call {
             Call::RunCut => &[0, 1, 2, 3, 4, 5, 6, 7, 8, 20],
             Call::HeaderWiden => &[0, 1, 2, 3, 4, 5, 6, 7, 8],
             Call::HeaderNarrow => &[0, 1, 2, 3, 4, 5, 6, 7, 8, 20, 21],
+            Call::FadesCount => &[0, 1, 2, 3, 4, 5, 6, 7, 8, 20, 22],
             Call::DelayWrite | Call::DelayRead => &[0, 1, 2, 3, 4, 5, 6, 7, 8, 20, 26],
             Call::RackLoad => &[0, 1, 2, 3, 4, 5, 6, 7, 8, 20, 23, 24, 25],
             Call::RackRead | Call::RackDrop | Call::RackLend => &[0, 8, 23, 24, 25],
@@ -219,7 +223,7 @@ impl Way {
 }
 
 /// What each number says. No call answers any other.
-const NUMBERS: [(u8, &str); 28] = [
+const NUMBERS: [(u8, &str); 29] = [
     (0, "accepted"),
     (1, "header"),
     (2, "rate"),
@@ -241,6 +245,7 @@ const NUMBERS: [(u8, &str); 28] = [
     (19, "whole marker"),
     (20, "factor"),
     (21, "no old form"),
+    (22, "fades"),
     (23, "mission"),
     (24, "place"),
     (25, "closed place"),

@@ -3,6 +3,7 @@
 pub mod compare;
 pub mod convert;
 pub mod delay;
+pub mod fades;
 pub mod find;
 #[cfg(not(test))] // the tests of the second implementation are linked with no library
 pub mod library;

@@ -80,6 +80,14 @@ mod c {
             eight: *mut u8,
             eight_len: usize,
         ) -> u64;
+        pub fn fades_count(
+            header: *const u8,
+            header_len: usize,
+            fades: *const u32,
+            fades_len: usize,
+            counts: *mut u32,
+            counts_len: usize,
+        ) -> u64;
         pub fn delay_write(
             header: *const u8,
             header_len: usize,
@@ -234,6 +242,19 @@ pub fn header_widen(eight: &[u8], ten: &mut [u8]) -> u64 {
 
 pub fn header_narrow(ten: &[u8], eight: &mut [u8]) -> u64 {
     unsafe { c::header_narrow(ten.as_ptr(), ten.len(), eight.as_mut_ptr(), eight.len()) }
+}
+
+pub fn fades_count(header: &[u8], fades: &[u32], counts: &mut [u32]) -> u64 {
+    unsafe {
+        c::fades_count(
+            header.as_ptr(),
+            header.len(),
+            fades.as_ptr(),
+            fades.len(),
+            counts.as_mut_ptr(),
+            counts.len(),
+        )
+    }
 }
 
 pub fn delay_write(header: &[u8], step: u64, symbol: u64, area: &mut [u8]) -> u64 {

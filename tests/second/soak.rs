@@ -9,8 +9,8 @@
 use second::compare::{argument, optional_argument, verdict, Call, Rng, Tally, MANY_DIFFERENCES};
 use second::pass_cases::compare_pass;
 use second::run_cases::{
-    compare_any, compare_any_delay, compare_capture, compare_delay, compare_header, compare_pair,
-    compare_run, compare_trace, edges, header_edges, Sizes,
+    compare_any, compare_any_delay, compare_capture, compare_delay, compare_fades, compare_header,
+    compare_pair, compare_run, compare_trace, edges, fade_edges, header_edges, Sizes,
 };
 use second::spread_cases::compare_spread;
 use second::uplink_cases::compare_uplink;
@@ -46,9 +46,10 @@ fn fresh_seed() -> Result<u64, String> {
     Ok(u64::from_be_bytes(bytes))
 }
 
-/// Puts one case. Of 32, 10 are words, one has traces of a rack, one has steps of delay lines, one is
-/// a header, 2 are captures, one is an uplink, one a block bit, 3 are passes, 11 are runs, one is a
-/// run with any header, of which some are large; the specification's edges come first.
+/// Puts one case. Of 32, 9 are words, one is a list of fades, one has traces of a rack, one has steps
+/// of delay lines, one is a header, 2 are captures, one is an uplink, one a block bit, 3 are passes,
+/// 11 are runs, one is a run with any header, of which some are large; the specification's edges come
+/// first.
 fn put_case(tally: &mut Tally, soak: &Soak, case: u64) {
     let rng = &mut Rng::of_index(soak.seed, case);
     let (round, seat) = (case / 32, case % 32);
@@ -56,8 +57,10 @@ fn put_case(tally: &mut Tally, soak: &Soak, case: u64) {
         _ if case == 0 => {
             edges(tally, rng);
             header_edges(tally, rng);
+            fade_edges(tally, rng);
         }
-        0..=9 => compare_word(tally, rng, 10 * round + seat),
+        0..=8 => compare_word(tally, rng, 9 * round + seat),
+        9 => compare_fades(tally, rng, &soak.sizes, round),
         10 => {
             (0..4).for_each(|i| compare_trace(tally, rng, &soak.sizes, 4 * round + i));
             compare_pair(tally, rng, &soak.sizes, round);

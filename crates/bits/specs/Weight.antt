@@ -6,9 +6,9 @@ use native.Mathlib.Omega.{arith}
 use native.Mathlib.Nat.{add-zero, add-suc}
 use native.Mathlib.Numerals.{add-one, add-two, add-three}
 use lib.Bits.{bitXor}
-use lib.Dec.{eqb}
-use borrow.Author.Tests.{eq-eqb, ne-eqb}
-use Rattle.bits.specs.Choice.{pick, bit-cases, eq-or-ne}
+use lib.Dec.{ltb, eqb}
+use borrow.Author.Tests.{lt-ltb, le-ltb, eq-eqb, ne-eqb}
+use Rattle.bits.specs.Choice.{pick, bool, bit-cases, lt-or-le, eq-or-ne}
 use Rattle.bits.specs.Sum.{xor-same, same-xor, xor-bit}
 use Rattle.bits.specs.Pack.{Bits}
 
@@ -17,7 +17,7 @@ unfoldable pub differences : (ℕ → ℕ) → (ℕ → ℕ) → ℕ → ℕ
 differences f g zero = 0
 differences f g (suc n) = differences f g n + pick (eqb (f n) (g n)) 0 1
 
--- the number of ones below n
+-- the number of ones below n: the sum f 0 + .. + f (n - 1)
 unfoldable pub weight : (ℕ → ℕ) → ℕ → ℕ
 weight f zero = 0
 weight f (suc n) = weight f n + f n
@@ -79,3 +79,58 @@ weight-past f h a b n w ab bn bound none =
     let still : weight f b ≡ weight f a = ap (weight f) (sym eb) ∙ weight-still f a (b - a) (λ i l u. none i l (omega arith)) in
     let more : weight f (b + (n - b)) ≤ weight f b + (n - b) = weight-more f h b (n - b) in
     rw (← en) (omega arith)
+
+pub weight-most : (f : ℕ → ℕ) → Bits f → (n : ℕ) → weight f n ≤ n
+unfolding weight
+weight-most f h zero = omega arith
+weight-most f h (suc n) = omega (arith, weight-most f h n, h n)
+
+-- ---- sums
+
+pub weight-none : (f : ℕ → ℕ) (n : ℕ) → ((i : ℕ) → i < n → f i ≡ 0) → weight f n ≡ 0
+unfolding weight
+weight-none f zero h = refl
+weight-none f (suc n) h = ap₂ (λ (a b : ℕ). a + b) (weight-none f n (λ i l. h i (omega arith))) (h n (omega arith))
+
+pub weight-add : (f g : ℕ → ℕ) (n : ℕ) → weight (λ i. f i + g i) n ≡ weight f n + weight g n
+unfolding weight
+weight-add f g zero = refl
+weight-add f g (suc n) = omega (arith, weight-add f g n)
+
+pub weight-all : (f : ℕ → ℕ) (n : ℕ) → ((i : ℕ) → i < n → f i ≡ 1) → weight f n ≡ n
+unfolding weight
+weight-all f zero h = refl
+weight-all f (suc n) h = omega (arith, weight-all f n (λ i l. h i (omega arith)), h n (omega arith))
+
+-- of one stretch and the next
+pub weight-append : (f : ℕ → ℕ) (a n : ℕ) → weight f (a + n) ≡ weight f a + weight (λ i. f (a + i)) n
+unfolding weight
+weight-append f a zero = rw (add-zero a) (omega arith)
+weight-append f a (suc n) = rw (add-suc a n) (omega (arith, weight-append f a n))
+
+-- over two indices, in either order
+pub weight-swap : (f : ℕ → ℕ → ℕ) (m n : ℕ) → weight (λ i. weight (f i) m) n ≡ weight (λ j. weight (λ i. f i j) n) m
+unfolding weight
+weight-swap f m zero = sym (weight-none (λ j. 0) m (λ j l. refl))
+weight-swap f m (suc n) =
+    ap (λ (w : ℕ). w + weight (f n) m) (weight-swap f m n)
+    ∙ sym (weight-add (λ j. weight (λ i. f i j) n) (f n) m)
+
+-- one number among those below n
+pub weight-one : (a n : ℕ) → weight (λ i. bool (eqb a i)) n ≡ bool (ltb a n)
+unfolding weight
+weight-one a zero = sym (ap bool (le-ltb a 0 (omega arith)))
+weight-one a (suc n) =
+    ⊎-elim
+    (λ (e : a ≡ n).
+    let none : weight (λ i. bool (eqb a i)) n ≡ 0 = weight-none (λ i. bool (eqb a i)) n (λ i l. ap bool (ne-eqb a i (λ z. omega arith))) in
+    rw (none, eq-eqb a n e, lt-ltb a (suc n) (omega arith)) refl)
+    (λ (e : a ≡ n → ⊥). ap₂ (λ (v w : ℕ). v + w) (weight-one a n) (ap bool (ne-eqb a n e)) ∙ add-zero (bool (ltb a n)) ∙ ap bool (same a n e))
+    (eq-or-ne a n)
+  where
+    same : (a n : ℕ) → (a ≡ n → ⊥) → ltb a n ≡ ltb a (suc n)
+    same a n e =
+        ⊎-elim
+        (λ (l : a < n). lt-ltb a n l ∙ sym (lt-ltb a (suc n) (omega arith)))
+        (λ (l : n ≤ a). le-ltb a n l ∙ sym (le-ltb a (suc n) (omega arith)))
+        (lt-or-le a n)

@@ -10,6 +10,7 @@ use Rattle.header.specs.Header.{fieldsOf}
 use Rattle.convert.specs.Convert as trips
 use Rattle.run.specs.Run as runs
 use Rattle.cut.specs.Cut as cuts
+use Rattle.fades.specs.Fades as fadings
 use Rattle.delay.specs.Delay as delays
 use Rattle.delay.specs.declared.Side.{Side}
 use Rattle.uplink.specs.Uplink as uplinks
@@ -43,6 +44,9 @@ eightAfter ten old = after (trips.narrowSays ten (length old)) (trips.narrowed t
 
 abbrev pub cutAfter : List ℕ → List ℕ → ℕ → List ℕ → List ℕ
 cutAfter header capture slot old = after (cuts.cutSays header (length capture) slot (length old)) (cuts.cutOf (fieldsOf header) capture slot) old
+
+abbrev pub countsAfter : List ℕ → List ℕ → List ℕ → List ℕ
+countsAfter header fades old = after (fadings.fadesSay header fades (length old)) (fadings.countsIn header fades) old
 
 abbrev pub areaAfter : Side → List ℕ → ℕ → ℕ → List ℕ → List ℕ
 areaAfter side header n q old = after (delays.stepSays header q (length old)) (delays.leaves side (fieldsOf header) n q old) old

@@ -11,11 +11,12 @@ ghost use Rattle.convert.specs.Convert as trips;
 ghost use Rattle.search.specs.Search as searches;
 ghost use Rattle.run.specs.Run as runs;
 ghost use Rattle.cut.specs.Cut as cuts;
+ghost use Rattle.fades.specs.Fades as fadings;
 ghost use Rattle.delay.specs.Delay as delays;
 ghost use Rattle.delay.specs.declared.Side.the-variants.{Writing, Reading};
 ghost use Rattle.uplink.specs.Uplink as uplinks;
 ghost use Rattle.rack.specs.Rack as racks;
-ghost use Rattle.calls.specs.After.{wordAfter, blockAfter, wordsAfter, blocksAfter, placesAfter, slotsAfter, framesAfter, tenAfter, eightAfter, cutAfter, areaAfter, uplinkSlotsAfter, uplinkFramesAfter};
+ghost use Rattle.calls.specs.After.{wordAfter, blockAfter, wordsAfter, blocksAfter, placesAfter, slotsAfter, framesAfter, tenAfter, eightAfter, cutAfter, countsAfter, areaAfter, uplinkSlotsAfter, uplinkFramesAfter};
 
 // A packed block to its word (step 7, and then steps 2 to 6).
 #[no_mangle]
@@ -115,6 +116,15 @@ pub extern "C" fn run_cut(header: &[u8], capture: &[u8], slot: u64, slots: &mut 
     ensures { λ _. ⌜ now (slots .exit) ≡ cutAfter (now (header .entry)) (now (capture .entry)) slot (now (slots .entry)) ⌝ }
 {
     answers::code(cut::cut_out(header, capture, slot, slots))
+}
+
+// For each word of a run, how many of its symbols lie in the fades of a list. The lengths count numbers.
+#[no_mangle]
+pub extern "C" fn fades_count(header: &[u8], fades: &[u32], counts: &mut [u32]) -> u64
+    ensures { λ r. ⌜ r ≡ codeOf (fadings.fadesSay (now (header .entry)) (now (fades .entry)) (length (now (counts .entry)))) ⌝ }
+    ensures { λ _. ⌜ now (counts .exit) ≡ countsAfter (now (header .entry)) (now (fades .entry)) (now (counts .entry)) ⌝ }
+{
+    answers::code(fades::count(header, fades, counts))
 }
 
 // Step 9 a symbol at a time: takes a symbol, and gives the one whose turn it is, which stands where a refusal has its place.

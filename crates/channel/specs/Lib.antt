@@ -1,5 +1,6 @@
 pub mod Channel
 pub mod Places
+pub mod Spacing
 pub mod Markers
 pub mod Symbols
 pub mod Return

@@ -9,6 +9,7 @@ pub mod Card4
 pub mod Card5
 pub mod Card6
 pub mod Card7
+pub mod Card8
 pub mod Card9
 pub mod Card10
 pub mod Card11

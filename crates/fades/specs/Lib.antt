@@ -1,0 +1,5 @@
+pub mod Fades
+pub mod Needs
+pub mod Laws
+pub mod Theorems
+pub mod Example
