@@ -84,10 +84,10 @@ pub struct Call {
     pub request: Request,
 }
 
-/// What the caller is told: the number, and of a read what its slice holds afterwards.
+/// What the caller is told: the answer as C gets it, and of a read what its slice holds afterwards.
 #[derive(Clone, Debug, PartialEq, Eq)]
 pub struct Told {
-    pub number: u8,
+    pub answer: u64,
     pub slice: Vec<u8>,
 }
 
@@ -207,14 +207,15 @@ impl Rack {
     }
 
     pub fn told(&mut self, call: &Call) -> Told {
-        let answer = self.take(call);
-        let number = answer.as_ref().map_or_else(|refusal| refusal.number, |_| 0);
-        let slice = match (answer, &call.request) {
+        let taken = self.take(call);
+        let code = |refusal: &Refusal| refusal.place as u64 * 256 + u64::from(refusal.number);
+        let answer = taken.as_ref().map_or_else(code, |_| 0);
+        let slice = match (taken, &call.request) {
             (Ok(Some(header)), _) => header.to_vec(),
             (_, Request::Read { slice }) => slice.clone(),
             _ => Vec::new(),
         };
-        Told { number, slice }
+        Told { answer, slice }
     }
 }
 
@@ -337,7 +338,7 @@ mod tests {
                     slice: slice.clone(),
                 },
             });
-            assert_eq!(told, Told { number: 8, slice });
+            assert_eq!(told, Told { answer: 8, slice });
         }
     }
 }

@@ -1,7 +1,7 @@
 -- What an answer is: done, or the number of the first question that is answered no, with its place; how questions follow one another; what a
 -- lent slice holds afterwards; and the one number that C gets.
 use mathlib.Core.Path.{_≡_, refl, sym, ap, _∙_}
-use mathlib.Core.Bool.{Bool, true, false}
+use mathlib.Core.Bool.{Bool, true, false, false≢true}
 use mathlib.Core.List.{List}
 use mathlib.Core.Logic.{_⊎_, inl, inr}
 use Prim.Native.Nat.{ℕ, _+_, _*_, _^_, _<_}
@@ -99,7 +99,7 @@ then-refused (No number place) b n p e = inl e
 
 pub done-is : (a : Answer) → isDone a ≡ true → a ≡ Done
 done-is Done e = refl
-done-is (No number place) e = absurd (let z : _≡_ {A = ℕ} 0 1 = cc in omega arith)
+done-is (No number place) e = absurd (false≢true e)
 
 -- no acceptance has another number than 0
 pub number-no : (a : Answer) → (numberOf a ≡ 0 → ⊥) → a ≡ Done → ⊥

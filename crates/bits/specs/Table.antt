@@ -1,6 +1,6 @@
 -- A list by index. `tab` is shut, so that no length is ever counted out; its laws say all there is to know.
 use mathlib.Core.Path.{_≡_, refl, sym, ap, ap₂, _∙_}
-use mathlib.Core.Bool.{Bool, true, false}
+use mathlib.Core.Bool.{Bool, true, false, _||_, true≢false, false≢true}
 use mathlib.Core.List.{List, [], _∷_, _++_, append-nil}
 use mathlib.Core.Logic.{⊎-elim}
 use Prim.Native.Nat.{ℕ, zero, suc, _+_, _-_, _≤_, _<_}
@@ -66,7 +66,7 @@ fill xs f i v l e h k b =
     (λ (q : k ≡ i → ⊥). getD-set-other xs i k v 0 q ∙ h k (omega arith))
     (eq-or-ne k i)
 
--- a test of every number below n, which antt computes
+-- whether two tests both hold
 abbrev pub both : Bool → Bool → Bool
 both true b = b
 both false b = false
@@ -79,10 +79,38 @@ pub both-right : (a b : Bool) → T (both a b) → T b
 both-right true b t = t
 both-right false b t = absurd t
 
+-- laws of tests, besides those of the kit
+pub true-false : (t : Bool) → t ≡ true → t ≡ false → ⊥
+true-false t a b = true≢false (sym a ∙ b)
+
 pub both-true : (a b : Bool) → both a b ≡ true → (a ≡ true) × (b ≡ true)
 both-true true b e = (refl, e)
-both-true false b e = absurd (let z : _≡_ {A = ℕ} 0 1 = cc in omega arith)
+both-true false b e = absurd (false≢true e)
 
+pub both-yes : (t : Bool) → both t true ≡ t
+both-yes true = refl
+both-yes false = refl
+
+pub both-false : (t : Bool) → both t false ≡ false
+both-false true = refl
+both-false false = refl
+
+pub either-left : (a b : Bool) → a ≡ true → a || b ≡ true
+either-left a b e = rw e refl
+
+pub either-right : (a b : Bool) → b ≡ true → a || b ≡ true
+either-right true b e = refl
+either-right false b e = e
+
+pub either-true : (a b : Bool) → a || b ≡ true → (a ≡ true → ⊥) → b ≡ true
+either-true true b e n = absurd (n refl)
+either-true false b e n = e
+
+pub either-false : (a b : Bool) → a || b ≡ false → (a ≡ false) × (b ≡ false)
+either-false true b e = absurd (true≢false e)
+either-false false b e = (refl, e)
+
+-- a test of every number below n, which antt computes
 abbrev pub allBelow : ℕ → (ℕ → Bool) → Bool
 allBelow zero p = true
 allBelow (suc n) p = both (p n) (allBelow n p)

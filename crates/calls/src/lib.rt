@@ -1,4 +1,5 @@
-// The calls for C, all in one place: each puts its arguments to the crate that has the work, and hands out place × 256 + number.
+// The calls for C, all in one place: each puts its arguments to the crate that has the work, and hands out place × 256 + number; where it accepts,
+// `run_find` the slot × 256, and `delay_write` and `delay_read` the symbol × 256.
 // A slice is a pointer and a length. There is no `requires`: every input has its answer, and a refused call leaves the lent bytes as they were.
 use delay::Side;
 ghost use mathlib.Core.Path.{_≡_};

@@ -32,7 +32,7 @@ begin late (suc i) = begin late i + late i
 unfoldable pub byteOf : ℕ → (ℕ → ℕ) → ℕ → ℕ
 byteOf rows late n = begin late (n % rows) + n / rows % late (n % rows)
 
--- what step n gives for the symbol q, and the area behind it
+-- what step n gives for the symbol q, and the area after it
 unfoldable pub given : ℕ → (ℕ → ℕ) → ℕ → ℕ → List ℕ → ℕ
 given rows late n q area = pick (eqb (late (n % rows)) 0) q (getD area (byteOf rows late n) 0)
 

@@ -16,8 +16,8 @@ use Rattle.answers.specs.declared.Answer.the-variants.{Done}
 use Rattle.header.specs.Header.{fieldsOf}
 use Rattle.header.specs.declared.Fields.{Fields}
 use Rattle.quantities.specs.Quantities.{pulseOrder, spread}
-use Rattle.questions.specs.Questions.{question1, question2, question3, question4, question5, question6, question7, question20, fieldsSay, formSays, headerSays}
-use Rattle.questions.specs.Good.{GoodHeader, header-good, header-fits}
+use Rattle.questions.specs.Questions.{headerSays}
+use Rattle.questions.specs.Good.{GoodHeader, header-good, header-fits, header-placeless}
 use Rattle.channel.specs.Places.{same-apart}
 use Rattle.delay.specs.Delay.{lag, begin, byteOf, given, moved, areaBytes, stepSays, lines}
 use Rattle.delay.specs.declared.Side.{Side}
@@ -193,19 +193,6 @@ unfolding stepSays
 accepted-step header q n e a l = rw (e, eq-eqb n (areaBytes (fieldsOf header)) a, lt-ltb q (pulseOrder (fieldsOf header)) l) refl
 
 -- no refusal has a place, so that its code is its number
-header-placeless : (header : List ℕ) → placeOf (headerSays header) ≡ 0
-unfolding headerSays formSays fieldsSay
-header-placeless header =
-    let f : Fields = fieldsOf header in
-    placeless-then (formSays header) (ask (question20 f) 20 0)
-    (placeless-then (ask (question1 header) 1 0) (fieldsSay f) (placeless-ask (question1 header) 1)
-    (placeless-then (ask (question2 f) 2 0) _ (placeless-ask (question2 f) 2)
-    (placeless-then (ask (question3 f) 3 0) _ (placeless-ask (question3 f) 3)
-    (placeless-then (ask (question4 f) 4 0) _ (placeless-ask (question4 f) 4)
-    (placeless-then (ask (question5 f) 5 0) _ (placeless-ask (question5 f) 5)
-    (placeless-then (ask (question6 f) 6 0) (ask (question7 f) 7 0) (placeless-ask (question6 f) 6) (placeless-ask (question7 f) 7)))))))
-    (placeless-ask (question20 f) 20)
-
 pub step-placeless : (header : List ℕ) (q n : ℕ) → placeOf (stepSays header q n) ≡ 0
 unfolding stepSays
 step-placeless header q n =

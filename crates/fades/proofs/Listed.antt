@@ -1,6 +1,6 @@
 -- A list of fades from number i on: the fade that stands there, and the rest. A fade that is over covers nothing more, and those behind it have not begun.
 use mathlib.Core.Path.{_≡_, refl, sym, ap, ap₂, _∙_}
-use mathlib.Core.Bool.{Bool, true, false, _||_}
+use mathlib.Core.Bool.{Bool, true, false, _||_, true≢false}
 use mathlib.Core.List.{List, [], _∷_}
 use mathlib.Core.Logic.{⊎-elim}
 use Prim.Native.Nat.{ℕ, suc, _+_, _≤_, _<_}
@@ -83,8 +83,7 @@ module _ (fades : List ℕ) (i : ℕ) where
       (λ (h : i + 1 < length fades). h)
       (λ (h : length fades ≤ i + 1).
       let no : eqb i (length fades) ≡ false = ne-eqb i (length fades) (λ z. omega arith) in
-      let z : _≡_ {A = Bool} true false = sym e ∙ good-last n end (omega arith) h ∙ no in
-      absurd (let w : _≡_ {A = ℕ} 0 1 = cc in omega arith))
+      absurd (true≢false (sym e ∙ good-last n end (omega arith) h ∙ no)))
       (lt-or-le (i + 1) (length fades))
 
   pub front-at : (n end : ℕ) → fadesGood n end (drop i fades) ≡ true → i < length fades → Front n end first size (drop (i + 2) fades)

@@ -1,6 +1,6 @@
 -- Laws of a list of fades: what its rules say of each fade, and which symbols it covers.
 use mathlib.Core.Path.{_≡_, refl}
-use mathlib.Core.Bool.{Bool, true, false, _||_}
+use mathlib.Core.Bool.{Bool, true, false, false≢true}
 use mathlib.Core.List.{List, [], _∷_}
 use mathlib.Core.Logic.{_⊎_, ⊎-elim}
 use Prim.Native.Nat.{ℕ, zero, suc, _+_, _*_, _%_, _≤_, _<_}
@@ -8,7 +8,7 @@ use native.Mathlib.Omega.{arith}
 use lib.Dec.{ltb, leb, eqb}
 use lib.ListN.{length, getD}
 use borrow.Author.Tests.{leb-true, eqb-true, lt-ltb, le-ltb, le-leb, lt-leb}
-use Rattle.bits.specs.Table.{both, both-true}
+use Rattle.bits.specs.Table.{both, both-true, either-right}
 use Rattle.answers.specs.Answer.{ask, then-done, ask-done, Fits, fits-ask, fits-then}
 use Rattle.answers.specs.declared.Answer.the-variants.{Done}
 use Rattle.header.specs.Header.{fieldsOf}
@@ -85,7 +85,7 @@ kept n end [] e = record {
   rules = record { pairs = refl; least = λ i l. absurd (omega arith); inside = λ i l. absurd (omega arith); ascending = λ i l. absurd (omega arith) };
   begins = λ l. absurd (omega arith);
 }
-kept n end (first ∷ []) e = absurd (let z : _≡_ {A = ℕ} 0 1 = cc in omega arith)
+kept n end (first ∷ []) e = absurd (false≢true e)
 kept n end (first ∷ size ∷ rest) e = more (front-good n end first size rest e) (kept n (first + size) rest (front-good n end first size rest e .good))
   where
     more : Front n end first size rest → Behind n (first + size) rest → Behind n end (first ∷ size ∷ rest)
@@ -143,11 +143,7 @@ covered-in (first ∷ size ∷ rest) s (suc i) l a b =
     let e : suc i ≡ i + 1 = omega arith in
     let a' : firstOf rest i ≤ s = rw (e, next-first first size rest i) at a in
     let b' : s < endOf rest i = rw (e, next-end first size rest i) at b in
-    either (both (leb first s) (ltb s (first + size))) (covered-in rest s i (omega arith) a' b')
-  where
-    either : (t : Bool) {u : Bool} → u ≡ true → t || u ≡ true
-    either true h = refl
-    either false h = h
+    either-right (both (leb first s) (ltb s (first + size))) (covered rest s) (covered-in rest s i (omega arith) a' b')
 
 pub covered-out : (fades : List ℕ) (s : ℕ) → ((i : ℕ) → 2 * i + 1 < length fades → (s < firstOf fades i) ⊎ (endOf fades i ≤ s)) → covered fades s ≡ false
 unfolding covered

@@ -1,6 +1,6 @@
 -- What the counts come to: their sum, and a fade over the whole run.
 use mathlib.Core.Path.{_≡_, refl, sym, ap, ap₂, _∙_}
-use mathlib.Core.Bool.{Bool, true, false, not}
+use mathlib.Core.Bool.{Bool, true, false, not, true≢false}
 use mathlib.Core.List.{List, [], _∷_}
 use mathlib.Core.Logic.{⊎-elim}
 use Prim.Native.Nat.{ℕ, zero, suc, _+_, _-_, _*_, _/_, _%_, _≤_, _<_}
@@ -11,7 +11,7 @@ use lib.Dec.{ltb, leb, eqb}
 use lib.ListN.{getD}
 use borrow.Author.Tests.{ltb-false, leb-false, eqb-true, lt-ltb, le-ltb, le-leb, lt-leb, eq-eqb, ne-eqb, not-true}
 use Rattle.bits.specs.Choice.{bool, lt-or-le, eq-or-ne}
-use Rattle.bits.specs.Table.{tab, both, both-true, getD-tab, tab-same}
+use Rattle.bits.specs.Table.{tab, both, both-true, both-false, getD-tab, tab-same}
 use Rattle.bits.specs.Weight.{weight, weight-same, weight-none, weight-all, weight-append, weight-swap, weight-one}
 use Rattle.channel.specs.Channel.{place, hitBy, placeAt, symbolOf}
 use Rattle.channel.specs.Places.{delay, place-hit, hit-place, place-lt}
@@ -166,10 +166,6 @@ module _ (g : Grid) (lines : ℕ) (whole : Whole g lines) where
         source : ℕ
         source = sourceOf g s
 
-        none : (b : Bool) → both b false ≡ false
-        none true = refl
-        none false = refl
-
         one : (b : Bool) → source < total → bool b ≡ weight (λ t. bool (both b (eqb source t))) total
         one true l = sym (weight-one source total ∙ ap bool (lt-ltb source total l))
         one false l = sym (weight-none (λ t. 0) total (λ t h. refl))
@@ -184,12 +180,12 @@ module _ (g : Grid) (lines : ℕ) (whole : Whole g lines) where
             ap₂ (λ (x y : Bool). bool (both x y)) (ap (λ (v : ℕ). eqb (v / g .symbols) j) q) (eq-eqb source t q ∙ sym (eq-eqb (at t) s z)))
             (λ (q : source ≡ t → ⊥).
             let z : at t ≡ s → ⊥ = λ w. q (sym (ap (sourceOf g) w) ∙ source-at t l) in
-            rw (ne-eqb source t q, ne-eqb (at t) s z) (ap bool (none (eqb (source / g .symbols) j) ∙ sym (none (eqb (t / g .symbols) j)))))
+            rw (ne-eqb source t q, ne-eqb (at t) s z) (ap bool (both-false (eqb (source / g .symbols) j) ∙ sym (both-false (eqb (t / g .symbols) j)))))
             (eq-or-ne source t))
         cases false e =
             sym (weight-none (λ t. bool (both (eqb (t / g .symbols) j) (eqb (at t) s))) total (λ t l.
-            let z : at t ≡ s → ⊥ = λ w. let q : _≡_ {A = Bool} true false = sym (carries-at t l) ∙ ap (carries g) w ∙ e in let n : _≡_ {A = ℕ} 0 1 = cc in omega arith in
-            rw (ne-eqb (at t) s z) (ap bool (none (eqb (t / g .symbols) j)))))
+            let z : at t ≡ s → ⊥ = λ w. true≢false (sym (carries-at t l) ∙ ap (carries g) w ∙ e) in
+            rw (ne-eqb (at t) s z) (ap bool (both-false (eqb (t / g .symbols) j)))))
 
     -- each word has S hits
     pub all-hit : j < g .words → hits g (0 ∷ g .count ∷ []) j ≡ g .symbols

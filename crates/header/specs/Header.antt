@@ -12,7 +12,7 @@ use Rattle.header.specs.declared.Fields.{Fields}
 unfoldable pub field : List ℕ → ℕ → ℕ → ℕ
 field header at n = val (λ t. bitAt header (at + t)) n
 
--- the fields of a header; in eight bytes nobody asks for the factor
+-- the fields of a header; eight bytes have no factor, and it is not asked for
 unfoldable pub fieldsOf : List ℕ → Fields
 fieldsOf header = record {
   rate = field header 0 2;

@@ -1,7 +1,7 @@
 -- A pooled symbol is the slot whose count is above each other's. With one copy it is the only pulse, and copies that agree give what each of
 -- them gives.
 use mathlib.Core.Path.{_≡_, refl, sym, ap, _∙_}
-use mathlib.Core.Bool.{Bool, true, false, not}
+use mathlib.Core.Bool.{Bool, true, false, not, true≢false}
 use mathlib.Core.List.{List}
 use mathlib.Core.Logic.{⊎-elim}
 use Prim.Native.Nat.{ℕ, zero, suc, _+_, _-_, _*_, _/_, _≤_, _<_}
@@ -74,7 +74,7 @@ peak-got f n h = cases (beats f n q) refl (found (λ i. not (beats f n i)) 0 n (
 
     cases : (t : Bool) → beats f n q ≡ t → not t ≡ false → Above f n q
     cases true e w = beats-got f n q h e
-    cases false e w = absurd (let z : _≡_ {A = ℕ} 0 1 = cc in omega arith)
+    cases false e w = absurd (true≢false w)
 
 pub peak-le : (f : ℕ → ℕ) (n : ℕ) → peak f n ≤ n
 unfolding peak

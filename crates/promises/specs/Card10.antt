@@ -13,13 +13,13 @@
 -- o: whether it is `loaded`, and the header in it (`headerIn`). `lent m area o p` is whether that place is lent to mission m. Callers, owners, places
 -- and the area are any, where nothing else is said.
 use mathlib.Core.Path.{_≡_, refl}
-use mathlib.Core.Bool.{Bool, true, false, not, _||_}
+use mathlib.Core.Bool.{true, false, not, _||_}
 use mathlib.Core.List.{List, [], _∷_}
 use mathlib.Core.Logic.{_⊎_}
 use Prim.Native.Nat.{ℕ, _<_}
 use lib.Dec.{ltb, eqb}
 use lib.ListN.{length, replicate}
-use Rattle.bits.specs.Table.{both}
+use Rattle.bits.specs.Table.{both, both-yes}
 use Rattle.answers.specs.Answer.{numberOf, placeOf, ask, then}
 use Rattle.answers.specs.Numbers.{among}
 use Rattle.answers.specs.declared.Answer.the-variants.{Done, No}
@@ -43,8 +43,8 @@ use Rattle.rack.specs.Answers as answer-laws
 pub told-by-these : (m : ℕ) (area : List ℕ) (t : List Call) → heard m area t ≡ heard m area (kept m (everLent m area t) t)
 told-by-these = unseen-laws.told-by-kept
 
--- "Change the others' calls to all remaining places, lending none of those to it, and it is told the same": u is t with any calls changed, put in or
--- left out but those, and lends m no place that t does not. So a third mission's calls to a place that is lent to m do not matter either.
+-- "Change the others' calls to all remaining places, lending none of those to it, and it is told the same": u may differ from t in all other calls,
+-- changed, added or removed, but lends m no place that t does not. So a third mission's calls to a place that is lent to m do not matter either.
 pub told-same : (m : ℕ) (area : List ℕ) (t u : List Call)
     → kept m (everLent m area t) t ≡ kept m (everLent m area t) u
     → ((o p : ℕ) → everLent m area u o p ≡ true → everLent m area t o p ≡ true)
@@ -135,10 +135,6 @@ read-good = trace-laws.read-good
 
 -- "Turned away: 23 for a mission above 3 or a loan to oneself, 24 for a place above 3, 25 for another's place (save reading one that is lent) or, except
 -- when loading, an empty one, put in this order before any question on a header." Then the header's, and 8 for the area's length or the slice's.
-both-yes : (t : Bool) → both t true ≡ t
-both-yes true = refl
-both-yes false = refl
-
 pub load-asks : (area : List ℕ) (c o p : ℕ) (header : List ℕ)
     → says area (callOf c o p (Load header))
     ≡ then (ask (both (ltb c 4) (ltb o 4)) 23 0)

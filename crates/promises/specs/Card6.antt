@@ -16,17 +16,18 @@ use lib.ListN.{length}
 use borrow.Author.Tests.{ne-eqb}
 use Rattle.bits.specs.Pack.{val, bitAt, Bytes, bytesOf, cut}
 use Rattle.bits.specs.Table.{tab, both}
-use Rattle.answers.specs.Answer.{ask, then, after, then-then}
+use Rattle.answers.specs.Answer.{ask, then, after}
 use Rattle.answers.specs.declared.Answer.{Answer}
 use Rattle.answers.specs.declared.Answer.the-variants.{Done, No}
 use Rattle.header.specs.Header.{field, fieldsOf, spareOf, oldSpareOf, withCopies}
-use Rattle.header.specs.declared.Fields.{Fields}
-use Rattle.questions.specs.Questions.{question1, oldQuestion1, question2, question3, question4, question5, question6, question7, copiesGood, fieldsSay, formSays, headerSays, oldSays}
+use Rattle.questions.specs.Questions.{question1, oldQuestion1, question2, question3, question4, question5, question6, question7, copiesGood, formSays, headerSays, oldSays}
+use Rattle.questions.specs.InOrder.{asks-on}
 use Rattle.convert.specs.Convert.{widened, narrowed, widenSays, narrowSays}
 use Rattle.convert.specs.Theorems as trips
 use Rattle.parameters.specs.Marks.{marksGood, runSays}
 use Rattle.search.specs.Search.{findSays}
 use Rattle.cut.specs.Cut.{cutSays}
+use Rattle.delay.specs.Delay.{stepSays}
 use Rattle.calls.specs.After.{tenAfter, eightAfter}
 
 -- ---- "The old 48 bits, then the factor in 6 bits, then 26 zero bits, ten bytes in all, and question 1 reads accordingly"
@@ -50,45 +51,22 @@ pub ten-bytes : (header : List ℕ) → question1 header ≡ both (eqb (length h
 unfolding question1 spareOf field
 ten-bytes header = refl
 
--- ---- "Question 20 is put to every call that is lent a header, Card 1's search too": the run calls have it in Demand1 and Card5, and the others here,
--- where what comes before it passes
+-- ---- "Question 20 is put to every call that is lent a header, Card 1's search too": of the search, the cut, the steps of the delay lines and the way
+-- back, where what comes before it passes. The run calls have it in Demand1 and Card5; any other call that is lent ten bytes of header puts all of
+-- `headerSays`, which ends with it, in its card's `..-asks`
 
-pub factor-refused : (header marker capture : List ℕ) (captureLength s n : ℕ) → formSays header ≡ Done → copiesGood (fieldsOf header .copies) ≡ false
+pub factor-refused : (header marker capture : List ℕ) (captureLength s n q : ℕ) → formSays header ≡ Done → copiesGood (fieldsOf header .copies) ≡ false
     → (marksGood (fieldsOf header) marker ≡ true → findSays header marker capture ≡ No 20 0)
     × (cutSays header captureLength s n ≡ No 20 0)
+    × (stepSays header q n ≡ No 20 0)
     × (narrowSays header n ≡ No 20 0)
-unfolding findSays runSays cutSays narrowSays headerSays
-factor-refused header marker capture captureLength s n e bad = (λ marks. rw (e, marks, bad) refl, rw (e, bad) refl, rw (e, bad) refl)
+unfolding findSays runSays cutSays stepSays narrowSays headerSays
+factor-refused header marker capture captureLength s n q e bad =
+    (λ marks. rw (e, marks, bad) refl, rw (e, bad) refl, rw (e, bad) refl, rw (e, bad) refl)
 
--- ---- "Both trips first put the header questions that `runsheet` puts, an eight-byte header being held to the old question 1"
+-- ---- "Both trips first put the header questions that `runsheet` puts, an eight-byte header being held to the old question 1": those are `headerSays`, one
+-- by one `header-asks` (questions/specs/InOrder.antt)
 
--- questions in order need no brackets
-flat : (a b c d e f g rest : Answer) → then (then a (then b (then c (then d (then e (then f g)))))) rest ≡ then a (then b (then c (then d (then e (then f (then g rest))))))
-flat a b c d e f g rest =
-    then-then a (then b (then c (then d (then e (then f g))))) rest
-    ∙ ap (then a) (then-then b (then c (then d (then e (then f g)))) rest
-    ∙ ap (then b) (then-then c (then d (then e (then f g))) rest
-    ∙ ap (then c) (then-then d (then e (then f g)) rest
-    ∙ ap (then d) (then-then e (then f g) rest ∙ ap (then e) (then-then f g rest)))))
-
--- what `runsheet` puts
-pub header-asks : (header : List ℕ)
-    → headerSays header
-    ≡ then (ask (question1 header) 1 0)
-    (then (ask (question2 (fieldsOf header)) 2 0)
-    (then (ask (question3 (fieldsOf header)) 3 0)
-    (then (ask (question4 (fieldsOf header)) 4 0)
-    (then (ask (question5 (fieldsOf header)) 5 0)
-    (then (ask (question6 (fieldsOf header)) 6 0)
-    (then (ask (question7 (fieldsOf header)) 7 0)
-    (ask (copiesGood (fieldsOf header .copies)) 20 0)))))))
-unfolding headerSays formSays fieldsSay
-header-asks header =
-    let f : Fields = fieldsOf header in
-    flat (ask (question1 header) 1 0) (ask (question2 f) 2 0) (ask (question3 f) 3 0) (ask (question4 f) 4 0) (ask (question5 f) 5 0) (ask (question6 f) 6 0) (ask (question7 f) 7 0)
-    (ask (copiesGood (f .copies)) 20 0)
-
--- and the two trips
 pub widen-asks : (old : List ℕ) (n : ℕ)
     → widenSays old n
     ≡ then (ask (both (eqb (length old) 8) (eqb (val (λ t. bitAt old (48 + t)) 16) 0)) 1 0)
@@ -99,11 +77,8 @@ pub widen-asks : (old : List ℕ) (n : ℕ)
     (then (ask (question6 (fieldsOf old)) 6 0)
     (then (ask (question7 (fieldsOf old)) 7 0)
     (ask (eqb n 10) 8 0)))))))
-unfolding widenSays oldSays oldQuestion1 oldSpareOf field fieldsSay
-widen-asks old n =
-    let f : Fields = fieldsOf old in
-    flat (ask (oldQuestion1 old) 1 0) (ask (question2 f) 2 0) (ask (question3 f) 3 0) (ask (question4 f) 4 0) (ask (question5 f) 5 0) (ask (question6 f) 6 0) (ask (question7 f) 7 0)
-    (ask (eqb n 10) 8 0)
+unfolding widenSays oldSays oldQuestion1 oldSpareOf field
+widen-asks old n = asks-on (oldQuestion1 old) (fieldsOf old) (ask (eqb n 10) 8 0)
 
 -- "21 on the way back when the factor is not 1, put last"
 pub narrow-asks : (header : List ℕ) (n : ℕ)
@@ -137,10 +112,11 @@ archived-trips old ten eight b e long short =
       ap (λ (h : List ℕ). eightAfter h eight) wide ∙ ap (λ (a : Answer). after a (narrowed (widened old)) eight) back ∙ r .1,
     )
 
--- ---- "Every valid ten-byte header with factor 1 makes the same two trips"
+-- ---- "Every valid ten-byte header with factor 1 makes the same two trips": eight bytes have its fields but for the factor, where zeros stand
 
 pub valid-trips : (header eight ten : List ℕ) → Bytes header → headerSays header ≡ Done → fieldsOf header .copies ≡ 1 → length eight ≡ 8 → length ten ≡ 10
     → (narrowSays header (length eight) ≡ Done)
+    × (fieldsOf (eightAfter header eight) ≡ withCopies 0 (fieldsOf header))
     × (widenSays (eightAfter header eight) (length ten) ≡ Done)
     × (tenAfter (eightAfter header eight) ten ≡ header)
 valid-trips header eight ten b e one short long =
@@ -149,6 +125,7 @@ valid-trips header eight ten b e one short long =
     let r = trips.narrow-widen header (length eight) b there in
     let back : widenSays (narrowed header) (length ten) ≡ Done = ap (widenSays (narrowed header)) long ∙ r .0 in (
       there,
+      ap fieldsOf narrow ∙ trips.narrow-fields header,
       ap (λ (h : List ℕ). widenSays h (length ten)) narrow ∙ back,
       ap (λ (h : List ℕ). tenAfter h ten) narrow ∙ ap (λ (a : Answer). after a (widened (narrowed header)) ten) back ∙ r .1,
     )

@@ -58,7 +58,7 @@ fade-end fades i = refl
 
 pub list-rules : (n : ℕ) (fades : List ℕ) → listGood n fades ≡ true
     → (length fades % 2 ≡ 0)
-    × ((i : ℕ) → 2 * i < length fades → (firstOf fades i + 1 ≤ endOf fades i) × (endOf fades i ≤ n))
+    × ((i : ℕ) → 2 * i < length fades → (1 ≤ getD fades (2 * i + 1) 0) × (endOf fades i ≤ n))
     × ((i : ℕ) → 2 * i + 2 < length fades → endOf fades i ≤ firstOf fades (i + 1))
 list-rules n fades e =
     let r = laws.good-rules n fades e in
@@ -67,7 +67,7 @@ list-rules n fades e =
 -- and every list that keeps these rules is right
 pub rules-list : (n : ℕ) (fades : List ℕ)
     → length fades % 2 ≡ 0
-    → ((i : ℕ) → 2 * i < length fades → (firstOf fades i + 1 ≤ endOf fades i) × (endOf fades i ≤ n))
+    → ((i : ℕ) → 2 * i < length fades → (1 ≤ getD fades (2 * i + 1) 0) × (endOf fades i ≤ n))
     → ((i : ℕ) → 2 * i + 2 < length fades → endOf fades i ≤ firstOf fades (i + 1))
     → listGood n fades ≡ true
 rules-list n fades pairs each ascending =

@@ -3,7 +3,7 @@
 --
 -- `callSays` is questions 1 to 7, 20 and 8 of a call that is lent frames and slots (plan/specs/Lengths.antt); the fill bits are what the C blocks of k bits
 -- hold behind the A marked frames.
-use mathlib.Core.Path.{_≡_, refl, sym, ap, _∙_}
+use mathlib.Core.Path.{_≡_, refl}
 use mathlib.Core.List.{List}
 use Prim.Native.Nat.{ℕ, _+_, _*_, _<_}
 use lib.Dec.{ltb, eqb}
@@ -24,7 +24,6 @@ use Rattle.convert.specs.Theorems as trip-laws
 use Rattle.plan.specs.Plan.{planIn}
 use Rattle.plan.specs.Lengths.{callSays}
 use Rattle.plan.specs.Accepted.{ready}
-use Rattle.plan.specs.declared.Plan.{Plan}
 use Rattle.frames.specs.Frames.{firstUnmarked, fillZero, framesSay}
 use Rattle.capture.specs.Capture.{wordOut}
 use Rattle.capture.specs.Answer.{slotsSay}
@@ -38,6 +37,8 @@ use Rattle.pass.specs.Pass as passes
 use Rattle.pass.specs.Answers as pass-laws
 use Rattle.spread.specs.Spread.{spreadSays}
 use Rattle.spread.specs.Answers as spread-laws
+use Rattle.fades.specs.Fades.{fadesSay}
+use Rattle.fades.specs.Laws as fade-laws
 
 -- Where these are passed, the marked frames and the fill bits are all bits of the blocks, and the fill bits are fewer than k.
 pub few-fill-bits : (header marker : List ℕ) (framesLength slotsLength : ℕ) → callSays header marker framesLength slotsLength ≡ Done
@@ -66,7 +67,7 @@ asked-17 header marker slots n f word ef ew =
     let yes : asked ≡ Done = ask-yes _ 17 0 (lt-ltb (fillBits (fieldsOf header)) (infoBits (fieldsOf header .rate)) few) in
     rw yes refl))
 
--- No call answers 17: `Fits`, which every answer to C must meet, has it as a field.
+-- No call answers 17: `Fits`, which every answer to C must meet, has it as a field. Cards 10, 11 and 14 say it of theirs.
 pub word-write-not-17 : (rate : ℕ) (block : List ℕ) (n : ℕ) → numberOf (words.writeSays rate block n) ≡ 17 → ⊥
 word-write-not-17 rate block n = word-laws.write-fits rate block n .listed
 
@@ -99,3 +100,6 @@ widen-not-17 old n = trip-laws.widen-fits old n .listed
 
 pub narrow-not-17 : (header : List ℕ) (n : ℕ) → numberOf (narrowSays header n) ≡ 17 → ⊥
 narrow-not-17 header n = trip-laws.narrow-fits header n .listed
+
+pub fades-not-17 : (header fades : List ℕ) (n : ℕ) → numberOf (fadesSay header fades n) ≡ 17 → ⊥
+fades-not-17 header fades n = fade-laws.fades-fit header fades n .listed

@@ -5,7 +5,7 @@ use native.Mathlib.Omega.{arith}
 use native.Mathlib.Nat.{mul-le-mul, mul-le-mul-left, mul-le-mul-right, mul-assoc, div-mul-le-self, lt-div-mul-add, lt-of-mul-lt-mul-right, div-add-mod', mul-add-mod-self-right}
 use Rattle.sizes.specs.Rate.{infoBits, by-rate}
 use Rattle.sizes.specs.Sizes.{wordBits, wordBytes, span}
-use Rattle.quantities.specs.Quantities.{symbolsPerWord, markedBits, blockCount, fillBits, spread, sequenceLength, lineCount, symbolCount, sentSymbols, slotsPerSymbol, slotCount, slotBytes, frameBytes}
+use Rattle.quantities.specs.Quantities.{symbolsPerWord, markedBits, blockCount, fillBits, spread, sequenceLength, lineCount, symbolCount, sentSymbols, slotsPerSymbol, slotCount, frameBytes}
 use Rattle.quantities.specs.Valid.{Valid}
 use Rattle.quantities.specs.Shape.{word-symbols, symbols-least, symbols-most, group-most, spread-most, spread-steps}
 use Rattle.header.specs.declared.Fields.{Fields}
@@ -187,7 +187,3 @@ module _ (f : Fields) (v : Valid f) where
 
     pub slot-most : slotCount f < 2 ^ 36
     slot-most = let m = slot-bound in omega arith
-
-    pub slot-bytes-most : slotBytes f < 2 ^ 33
-    unfolding slotBytes
-    slot-bytes-most = let m = slot-bound in omega arith

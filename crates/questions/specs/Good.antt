@@ -1,5 +1,5 @@
 -- What a header is known to be whose questions are all answered yes.
-use mathlib.Core.Path.{_≡_, refl, sym, ap, _∙_}
+use mathlib.Core.Path.{_≡_, refl, ap, _∙_}
 use mathlib.Core.Bool.{Bool, true, false}
 use mathlib.Core.List.{List}
 use mathlib.Core.Logic.{⊎-elim}
@@ -9,15 +9,15 @@ use native.Mathlib.Nat.{zero-mod, mod-eq-of-lt}
 use lib.Dec.{leb, eqb}
 use lib.ListN.{length}
 use borrow.Author.Tests.{ltb-true, leb-true, eqb-true, lt-ltb, le-leb, eq-eqb, ne-eqb}
-use Rattle.bits.specs.Choice.{bool, lt-or-le}
-use Rattle.bits.specs.Table.{both-true}
+use Rattle.bits.specs.Choice.{lt-or-le}
+use Rattle.bits.specs.Table.{true-false, both-true}
 use Rattle.header.specs.Header.{fieldsOf, spareOf, oldSpareOf}
 use Rattle.header.specs.declared.Fields.{Fields}
 use Rattle.quantities.specs.Quantities.{symbolsPerWord, spread}
 use Rattle.quantities.specs.Valid.{Shaped, Valid}
 use Rattle.quantities.specs.Shape.{symbols-least}
 use Rattle.questions.specs.Questions.{within, question1, oldQuestion1, question2, question3, question4, question5, question6, question7, copiesGood, question20, fieldsSay, formSays, headerSays, oldSays}
-use Rattle.answers.specs.Answer.{ask, then, then-done, ask-done, Fits, fits-ask, fits-then}
+use Rattle.answers.specs.Answer.{placeOf, ask, then, then-done, ask-done, Fits, fits-ask, fits-then, placeless-ask, placeless-then}
 use Rattle.answers.specs.declared.Answer.the-variants.{Done}
 
 -- a range, from its test and to it
@@ -158,12 +158,12 @@ good-old old g =
 pub copies-range : (copies : ℕ) → copiesGood copies ≡ true → (1 ≤ copies) × (copies ≤ 32)
 unfolding copiesGood
 copies-range copies e = (
-  ⊎-elim (λ (l : copies < 1). let z : copies ≡ 0 = omega arith in absurd (no (sym (rw z refl) ∙ e))) (λ (l : 1 ≤ copies). l) (lt-or-le copies 1),
+  ⊎-elim (λ (l : copies < 1). let z : copies ≡ 0 = omega arith in absurd (true-false (copiesGood copies) e (rw z refl))) (λ (l : 1 ≤ copies). l) (lt-or-le copies 1),
   ⊎-elim
       (λ (l : copies < 33). let m : copies ≤ 32 = omega arith in m)
       (λ (l : 33 ≤ copies).
       let other : (k : ℕ) → k < 33 → eqb copies k ≡ false = λ k h. ne-eqb copies k (λ q. omega arith) in
-      absurd (no (sym (rw (
+      absurd (true-false (copiesGood copies) e (rw (
         other 1 (omega arith),
         other 2 (omega arith),
         other 3 (omega arith),
@@ -172,13 +172,9 @@ copies-range copies e = (
         other 16 (omega arith),
         other 32 (omega arith),
       )
-      refl)
-      ∙ e)))
+      refl)))
       (lt-or-le copies 33),
 )
-  where
-    no : false ≡ true → ⊥
-    no z = let y : _≡_ {A = ℕ} 0 1 = ap bool z in omega arith
 
 -- 1 is a factor
 pub once-good : (copies : ℕ) → copies ≡ 1 → copiesGood copies ≡ true
@@ -213,6 +209,20 @@ header-fits header =
 pub old-fits : (old : List ℕ) → Fits (oldSays old)
 unfolding oldSays
 old-fits old = after-1 (oldQuestion1 old) (fieldsOf old)
+
+-- and no refusal has a place
+pub header-placeless : (header : List ℕ) → placeOf (headerSays header) ≡ 0
+unfolding headerSays formSays fieldsSay
+header-placeless header =
+    let f : Fields = fieldsOf header in
+    placeless-then (formSays header) (ask (question20 f) 20 0)
+    (placeless-then (ask (question1 header) 1 0) (fieldsSay f) (placeless-ask (question1 header) 1)
+    (placeless-then (ask (question2 f) 2 0) _ (placeless-ask (question2 f) 2)
+    (placeless-then (ask (question3 f) 3 0) _ (placeless-ask (question3 f) 3)
+    (placeless-then (ask (question4 f) 4 0) _ (placeless-ask (question4 f) 4)
+    (placeless-then (ask (question5 f) 5 0) _ (placeless-ask (question5 f) 5)
+    (placeless-then (ask (question6 f) 6 0) (ask (question7 f) 7 0) (placeless-ask (question6 f) 6) (placeless-ask (question7 f) 7)))))))
+    (placeless-ask (question20 f) 20)
 
 -- ---- question 5
 

@@ -1,3 +1,4 @@
 pub mod Questions
+pub mod InOrder
 pub mod Good
 pub mod Edges

@@ -1,17 +1,15 @@
 -- The answers fit the number that C gets: their place is 0, and their numbers are these.
 use mathlib.Core.Path.{_≡_, refl}
-use mathlib.Core.Bool.{Bool, true, false}
+use mathlib.Core.Bool.{Bool, true}
 use mathlib.Core.List.{List, [], _∷_}
 use Prim.Native.Nat.{ℕ}
 use native.Mathlib.Omega.{arith}
 use lib.ListN.{length}
-use Rattle.answers.specs.declared.Answer.{Answer}
-use Rattle.answers.specs.declared.Answer.the-variants.{Done, No}
-use Rattle.answers.specs.Answer.{numberOf, placeOf, ask, then, Fits, fits-done, fits-ask, fits-then}
+use Rattle.answers.specs.Answer.{numberOf, placeOf, ask, Fits, fits-done, fits-ask, fits-then, placeless-ask, placeless-then}
 use Rattle.answers.specs.Numbers.{among, among-ask, among-then}
 use Rattle.header.specs.Header.{fieldsOf}
 use Rattle.questions.specs.Questions.{question1, question2, question3, question4, question5, question6, question7, question20, fieldsSay, formSays, headerSays}
-use Rattle.questions.specs.Good.{header-fits}
+use Rattle.questions.specs.Good.{header-fits, header-placeless}
 use Rattle.rack.specs.Rack.{Task, Load, Read, Drop, Lend, Call, callOf, missionsRight, placeRight, allowed, headerAsked, lengthsRight, entryFor, says}
 
 -- ---- C's number
@@ -35,29 +33,8 @@ says-fits area call =
 
 -- ---- place 0
 
-place-ask : (t : Bool) (number : ℕ) → placeOf (ask t number 0) ≡ 0
-place-ask true number = refl
-place-ask false number = refl
-
-place-then : (a b : Answer) → placeOf a ≡ 0 → placeOf b ≡ 0 → placeOf (then a b) ≡ 0
-place-then Done b e f = f
-place-then (No number place) b e f = e
-
-header-place : (header : List ℕ) → placeOf (headerSays header) ≡ 0
-unfolding headerSays formSays fieldsSay
-header-place header =
-    let f = fieldsOf header in
-    place-then (formSays header) (ask (question20 f) 20 0)
-    (place-then (ask (question1 header) 1 0) _ (place-ask (question1 header) 1)
-    (place-then (ask (question2 f) 2 0) _ (place-ask (question2 f) 2)
-    (place-then (ask (question3 f) 3 0) _ (place-ask (question3 f) 3)
-    (place-then (ask (question4 f) 4 0) _ (place-ask (question4 f) 4)
-    (place-then (ask (question5 f) 5 0) _ (place-ask (question5 f) 5)
-    (place-then (ask (question6 f) 6 0) (ask (question7 f) 7 0) (place-ask (question6 f) 6) (place-ask (question7 f) 7)))))))
-    (place-ask (question20 f) 20)
-
 header-task-place : (task : Task) → placeOf (headerAsked task) ≡ 0
-header-task-place (Load header) = header-place header
+header-task-place (Load header) = header-placeless header
 header-task-place (Read slice) = refl
 header-task-place Drop = refl
 header-task-place (Lend to) = refl
@@ -67,10 +44,10 @@ unfolding says
 says-place area call =
     let may : Bool = allowed (call .caller) (call .owner) (call .task) (entryFor area call) in
     let long : Bool = lengthsRight (length area) (call .task) in
-    place-then (ask (missionsRight call) 23 0) _ (place-ask (missionsRight call) 23)
-    (place-then (ask (placeRight call) 24 0) _ (place-ask (placeRight call) 24)
-    (place-then (ask may 25 0) _ (place-ask may 25)
-    (place-then (headerAsked (call .task)) (ask long 8 0) (header-task-place (call .task)) (place-ask long 8))))
+    placeless-then (ask (missionsRight call) 23 0) _ (placeless-ask (missionsRight call) 23)
+    (placeless-then (ask (placeRight call) 24 0) _ (placeless-ask (placeRight call) 24)
+    (placeless-then (ask may 25 0) _ (placeless-ask may 25)
+    (placeless-then (headerAsked (call .task)) (ask long 8 0) (header-task-place (call .task)) (placeless-ask long 8))))
 
 -- ---- the numbers
 

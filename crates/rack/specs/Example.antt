@@ -6,19 +6,22 @@ use Prim.Native.Nat.{ℕ}
 use lib.Dec.{T}
 use lib.ListN.{replicate}
 use Rattle.bits.specs.Pack.{val, bitAt}
-use Rattle.bits.specs.Table.{tab, allBelow, below-all}
+use Rattle.bits.specs.Table.{tab, true-false, allBelow, below-all}
 use Rattle.header.specs.Header.{field, fieldsOf, spareOf}
 use Rattle.header.specs.Example.{example}
 use Rattle.quantities.specs.Quantities.{symbolsPerWord, spread}
 use Rattle.questions.specs.Questions.{question1, question2, question3, question4, question5, question6, question7, copiesGood, fieldsSay, formSays, headerSays}
 use Rattle.rack.specs.Rack.{emptyRack, entryAt, put, loaded, lentTo, Load, Read, Drop, Lend, Call, callOf, missionsRight, placeRight, says, stepOf, Told, toldOf}
 use Rattle.rack.specs.Traces.{afterAll, heard, lent, everLent, concerns, kept}
-use Rattle.rack.specs.Laws.{true-false}
 use Rattle.rack.specs.Unseen.{ever-rack, told-same}
 
 -- 50 04 02 1B E1 01 04 00 00 00
 abbrev pub other : List ℕ
 other = 80 ∷ 4 ∷ 2 ∷ 27 ∷ 225 ∷ 1 ∷ 4 ∷ 0 ∷ 0 ∷ 0 ∷ []
+
+-- 59 50 F0 1B E8 02 14 00 00 00: the factor is 5
+abbrev fivefold : List ℕ
+fivefold = 89 ∷ 80 ∷ 240 ∷ 27 ∷ 232 ∷ 2 ∷ 20 ∷ 0 ∷ 0 ∷ 0 ∷ []
 
 abbrev nine : List ℕ
 nine = replicate 9 0
@@ -59,6 +62,7 @@ day =
     ∷ callOf 1 1 4 (Read room)
     ∷ callOf 1 1 0 (Load nine)
     ∷ callOf 1 2 0 (Load nine)
+    ∷ callOf 1 1 0 (Load fivefold)
     ∷ []
 
 -- what all callers are told
@@ -90,6 +94,7 @@ pub day-told : (toldAll emptyRack day
     ∷ reading 24 room
     ∷ number 1
     ∷ number 25
+    ∷ number 20
     ∷ [])
     × (afterAll emptyRack day ≡ replicate 11 0 ++ (1 ∷ example) ++ replicate 154 0)
 unfolding afterAll says stepOf entryAt put loaded lentTo missionsRight placeRight tab headerSays formSays fieldsSay question1 question2 question3 question4 question5 question6 question7 copiesGood fieldsOf field spareOf val bitAt spread symbolsPerWord

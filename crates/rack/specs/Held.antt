@@ -9,13 +9,13 @@ use lib.Dec.{eqb}
 use lib.ListN.{length, getD, replicate, getD-replicate, List·getD-eq-default}
 use borrow.Author.Tests.{eq-eqb, ne-eqb, not-true}
 use Rattle.bits.specs.Choice.{pick, lt-or-le, eq-or-ne}
-use Rattle.bits.specs.Table.{both-true, tab-made}
+use Rattle.bits.specs.Table.{true-false, both-true, tab-made}
 use Rattle.answers.specs.declared.Answer.{Answer}
 use Rattle.answers.specs.declared.Answer.the-variants.{Done, No}
 use Rattle.questions.specs.Questions.{headerSays}
 use Rattle.rack.specs.Rack.{emptyRack, entryNumber, entryAt, statusIn, headerIn, loaded, lentTo, Task, Load, Read, Drop, Lend, Call, callOf, allowed, headerAsked, entryFor, says, filled, entryAfter, stepOf, toldOf}
 use Rattle.rack.specs.Traces.{afterAll, loadsOrDrops, replaces, untouched, lent}
-use Rattle.rack.specs.Laws.{true-false, accepted, step-other, step-refused, length-step, step-elsewhere, same-or-other}
+use Rattle.rack.specs.Laws.{accepted, step-other, step-refused, length-step, step-elsewhere, same-or-other}
 use Rattle.rack.specs.Places.{step-made, header-told}
 
 pub length-all : (calls : List Call) (area : List ℕ) → length (afterAll area calls) ≡ length area

@@ -1,6 +1,6 @@
 -- A call looks at one entry and changes no other.
 use mathlib.Core.Path.{_≡_, refl, sym, ap, _∙_}
-use mathlib.Core.Bool.{Bool, true, false, _||_}
+use mathlib.Core.Bool.{Bool, true, false}
 use mathlib.Core.List.{List}
 use mathlib.Core.Logic.{_⊎_, inl, inr, ⊎-elim}
 use Prim.Native.Nat.{ℕ, _+_, _*_, _/_, _%_, _≤_, _<_}
@@ -9,35 +9,11 @@ use lib.Dec.{ltb, eqb}
 use lib.ListN.{length, getD, List·getD-eq-default}
 use borrow.Author.Tests.{ltb-true, eqb-true, eq-eqb, ne-eqb}
 use Rattle.bits.specs.Choice.{pick, lt-or-le, eq-or-ne}
-use Rattle.bits.specs.Table.{tab, both, both-true, length-tab, getD-tab, getD-tab-past, tab-made, tab-same}
+use Rattle.bits.specs.Table.{tab, both, both-true, both-false, length-tab, getD-tab, getD-tab-past, tab-made, tab-same}
 use Rattle.answers.specs.declared.Answer.{Answer}
 use Rattle.answers.specs.declared.Answer.the-variants.{Done, No}
 use Rattle.answers.specs.Answer.{ask, after, then-done, then-when, ask-done}
 use Rattle.rack.specs.Rack.{entryNumber, entryAt, put, loaded, lentTo, Task, Load, Read, Drop, Lend, Call, callOf, loanRight, missionsRight, placeRight, allowed, headerAsked, lengthsRight, entryFor, says, entryAfter, stepOf}
-
--- ---- tests
-
-pub either-true : (a b : Bool) → a || b ≡ true → (a ≡ true → ⊥) → b ≡ true
-either-true true b e n = absurd (n refl)
-either-true false b e n = e
-
-pub either-left : (a b : Bool) → a ≡ true → a || b ≡ true
-either-left a b e = rw e refl
-
-pub either-right : (a b : Bool) → b ≡ true → a || b ≡ true
-either-right true b e = refl
-either-right false b e = e
-
-pub either-false : (a b : Bool) → a || b ≡ false → (a ≡ false) × (b ≡ false)
-either-false true b e = absurd (let z : _≡_ {A = ℕ} 0 1 = cc in omega arith)
-either-false false b e = (refl, e)
-
-pub true-false : (t : Bool) → t ≡ true → t ≡ false → ⊥
-true-false t a b = let z : _≡_ {A = ℕ} 0 1 = cc in omega arith
-
-pub both-false : (t : Bool) → both t false ≡ false
-both-false true = refl
-both-false false = refl
 
 -- ---- entries
 

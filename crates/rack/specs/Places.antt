@@ -9,7 +9,7 @@ use lib.Dec.{ltb, eqb}
 use lib.ListN.{length, getD, replicate, length-drop}
 use borrow.Author.Tests.{ltb-true, lt-ltb, eqb-true, eq-eqb, ne-eqb, not-false}
 use Rattle.bits.specs.Choice.{pick, eq-or-ne}
-use Rattle.bits.specs.Table.{both, both-true, length-tab, tab-made}
+use Rattle.bits.specs.Table.{both, both-true, both-false, either-right, length-tab, tab-made}
 use Rattle.answers.specs.declared.Answer.{Answer}
 use Rattle.answers.specs.declared.Answer.the-variants.{Done, No}
 use Rattle.answers.specs.Answer.{ask, then}
@@ -17,7 +17,7 @@ use Rattle.questions.specs.Questions.{headerSays}
 use Rattle.questions.specs.Good.{header-good}
 use Rattle.rack.specs.Rack.{entryNumber, entryAt, statusIn, headerIn, loaded, lentTo, Task, Load, Read, Drop, Lend, Call, callOf, missionsRight, placeRight, allowed, headerAsked, entryFor, says, entryAfter, stepOf, toldOf}
 use Rattle.rack.specs.Traces.{lent}
-use Rattle.rack.specs.Laws.{either-right, both-false, not-allowed, accepted, step-refused, step-elsewhere, step-here, same-or-other}
+use Rattle.rack.specs.Laws.{not-allowed, accepted, step-refused, step-elsewhere, step-here, same-or-other}
 
 -- ---- entries made
 

@@ -9,13 +9,13 @@ use lib.Dec.{ltb, eqb}
 use lib.ListN.{length, getD}
 use borrow.Author.Tests.{ltb-true, lt-ltb, eqb-true, eqb-false, eq-eqb, ne-eqb}
 use Rattle.bits.specs.Choice.{pick, eq-or-ne}
-use Rattle.bits.specs.Table.{tab, both, both-true}
+use Rattle.bits.specs.Table.{tab, both, true-false, both-true, either-left, either-right, either-true, either-false}
 use Rattle.answers.specs.declared.Answer.{Answer}
 use Rattle.answers.specs.declared.Answer.the-variants.{Done, No}
 use Rattle.answers.specs.Answer.{codeOf}
 use Rattle.rack.specs.Rack.{entryAt, headerIn, lentTo, Task, Load, Read, Drop, Lend, Call, allowed, entryFor, says, entryAfter, stepOf, handed, Told, toldOf}
 use Rattle.rack.specs.Traces.{heard, lent, everLent, concerns, kept}
-use Rattle.rack.specs.Laws.{either-true, either-left, either-right, either-false, true-false, not-allowed, accepted, says-same, step-other, step-refused, length-step, step-elsewhere, step-here, same-or-other}
+use Rattle.rack.specs.Laws.{not-allowed, accepted, says-same, step-other, step-refused, length-step, step-elsewhere, step-here, same-or-other}
 
 handed-same : (task : Task) (answer : Answer) (e f : List ℕ) → (answer ≡ Done → e ≡ f) → handed task answer e ≡ handed task answer f
 handed-same (Load header) answer e f h = refl

@@ -6,13 +6,13 @@ use Prim.Native.Nat.{ℕ, _≤_, _<_}
 use lib.Dec.{ltb, eqb}
 use lib.ListN.{length}
 use borrow.Author.Tests.{ltb-true, eqb-true, lt-ltb, le-ltb, eq-eqb, ne-eqb}
-use Rattle.bits.specs.Table.{both, both-true}
+use Rattle.bits.specs.Table.{both, both-true, both-false}
 use Rattle.answers.specs.declared.Answer.{Answer}
 use Rattle.answers.specs.declared.Answer.the-variants.{Done, No}
 use Rattle.answers.specs.Answer.{ask, then, after}
 use Rattle.answers.proofs.Refused.{Refusal, stands, kept}
 use Rattle.questions.specs.Good.{header-good}
-use Rattle.rack.specs.Laws.{both-false, accepted}
+use Rattle.rack.specs.Laws.{accepted}
 use Rattle.rack_keeper.specs.Needs.{Place}
 use Rattle.rack.specs.Rack.{entryAt, put, statusIn, loaded, Task, Load, Read, Drop, Lend, Call, callOf, loanRight, missionsRight, placeRight, allowed, headerAsked, lengthsRight, entryFor, says, entryAfter, stepOf}
 

@@ -18,6 +18,7 @@ fn filled(status: u8) -> u8
     status
 }
 
+// Puts a header into a place of the caller's, over what was there.
 pub fn load(area: &mut [u8], caller: u64, owner: u64, place: u64, header: &[u8]) -> Answer
     ensures { λ r. ⌜ r ≡ says (now (area .entry)) (callOf caller owner place (racks.Load (now (header .entry)))) ⌝ }
     ensures { λ _. ⌜ now (area .exit) ≡ stepOf (now (area .entry)) (callOf caller owner place (racks.Load (now (header .entry)))) ⌝ }
@@ -31,6 +32,7 @@ pub fn load(area: &mut [u8], caller: u64, owner: u64, place: u64, header: &[u8])
     answer
 }
 
+// Hands out the header of a place that is the caller's or lent to it.
 pub fn read(area: &[u8], caller: u64, owner: u64, place: u64, header: &mut [u8]) -> Answer
     ensures { λ r. ⌜ r ≡ says (now (area .entry)) (callOf caller owner place (racks.Read (now (header .entry)))) ⌝ }
     ensures { λ r. ⌜ now (header .exit) ≡ handed (racks.Read (now (header .entry))) r (entryAt (now (area .entry)) owner place) ⌝ }
@@ -43,6 +45,7 @@ pub fn read(area: &[u8], caller: u64, owner: u64, place: u64, header: &mut [u8])
     answer
 }
 
+// Empties a place of the caller's: nothing of the header stays, and no loan.
 pub fn drop(area: &mut [u8], caller: u64, owner: u64, place: u64) -> Answer
     ensures { λ r. ⌜ r ≡ says (now (area .entry)) (callOf caller owner place racks.Drop) ⌝ }
     ensures { λ _. ⌜ now (area .exit) ≡ stepOf (now (area .entry)) (callOf caller owner place racks.Drop) ⌝ }
@@ -56,6 +59,7 @@ pub fn drop(area: &mut [u8], caller: u64, owner: u64, place: u64) -> Answer
     answer
 }
 
+// Lends reading of a place of the caller's to one other mission, and ends the loan before.
 pub fn lend(area: &mut [u8], caller: u64, owner: u64, place: u64, to: u64) -> Answer
     ensures { λ r. ⌜ r ≡ says (now (area .entry)) (callOf caller owner place (racks.Lend to)) ⌝ }
     ensures { λ _. ⌜ now (area .exit) ≡ stepOf (now (area .entry)) (callOf caller owner place (racks.Lend to)) ⌝ }

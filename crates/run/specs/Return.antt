@@ -2,13 +2,13 @@
 use mathlib.Core.Path.{_≡_, refl, sym, ap, _∙_}
 use mathlib.Core.Bool.{true}
 use mathlib.Core.List.{List}
-use Prim.Native.Nat.{ℕ, _+_, _*_, _≤_, _<_, _^_}
+use Prim.Native.Nat.{ℕ, _*_, _≤_, _<_}
 use native.Mathlib.Omega.{arith}
 use lib.ListN.{length}
 use borrow.Author.Tests.{lt-ltb, le-ltb}
 use Rattle.bits.specs.First.{found-at}
 use Rattle.bits.specs.Pack.{Bytes, Bits}
-use Rattle.answers.specs.Answer.{then, then-done, Fits, fits-then}
+use Rattle.answers.specs.Answer.{then-done, Fits, fits-then}
 use Rattle.answers.specs.InOrder.{all-done, done-all, fits-order}
 use Rattle.answers.specs.declared.Answer.the-variants.{Done, No}
 use Rattle.sizes.specs.Rate.{infoBits, blockBytes}
@@ -29,7 +29,7 @@ use Rattle.plan.specs.Lengths.{callSays}
 use Rattle.plan.specs.Accepted.{Ready, ready, plan-words, let-in, call-fits}
 use Rattle.stream.specs.Stream.{streamBit, blockAt}
 use Rattle.stream.specs.Laws.{stream-bits, block-packed, block-same}
-use Rattle.frames.specs.Frames.{joined, framesSay}
+use Rattle.frames.specs.Frames.{joined}
 use Rattle.frames.specs.Blocks.{joined-bits, joined-same, joined-blocks, blocks-made}
 use Rattle.frames.specs.Back.{frames-fit, frames-are, frames-back, stream-made}
 use Rattle.slots.specs.Slots.{slotsOf}

@@ -16,7 +16,8 @@ use Rattle.word.specs.Word.{wordOf}
 use Rattle.header.specs.Header.{fieldsOf}
 use Rattle.quantities.specs.Quantities as quantities
 use Rattle.header.specs.declared.Fields.{Fields}
-use Rattle.questions.specs.Questions.{question1, question2, question3, question4, question5, question6, question7, question20, fieldsSay, formSays}
+use Rattle.questions.specs.Questions.{question1, question2, question3, question4, question5, question6, question7, question20, formSays}
+use Rattle.questions.specs.InOrder.{asks-on}
 use Rattle.parameters.specs.Marks.{marksGood, runSays, parametersOf}
 use Rattle.plan.specs.declared.Plan.{Plan}
 use Rattle.plan.specs.Lengths.{lengthsRight, callSays}
@@ -157,18 +158,11 @@ pub called-in-order : (header marker : List ℕ) (n s : ℕ)
     (then (ask (marksGood (fieldsOf header) marker) 7 0)
     (then (ask (question20 (fieldsOf header)) 20 0)
     (ask (lengthsRight (fieldsOf header) (length marker) n s) 8 0)))))))))
-unfolding callSays runSays formSays fieldsSay
+unfolding callSays runSays formSays
 called-in-order header marker n s =
     let f : Fields = fieldsOf header in
-    flat (ask (question1 header) 1 0) (ask (question2 f) 2 0) (ask (question3 f) 3 0) (ask (question4 f) 4 0) (ask (question5 f) 5 0) (ask (question6 f) 6 0) (ask (question7 f) 7 0)
-    (ask (marksGood f marker) 7 0) (ask (question20 f) 20 0) (ask (lengthsRight f (length marker) n s) 8 0)
-  where
-    flat : (a b c d e f g h k rest : Answer)
-        → then (then (then a (then b (then c (then d (then e (then f g)))))) (then h k)) rest ≡ then a (then b (then c (then d (then e (then f (then g (then h (then k rest))))))))
-    flat a b c d e f g h k rest =
-        let r1 : Answer = then b (then c (then d (then e (then f g)))) in
-        let r2 : Answer = then c (then d (then e (then f g))) in
-        let r3 : Answer = then d (then e (then f g)) in
-        let last : Answer = then h (then k rest) in
-        then-then (then a r1) (then h k) rest ∙ ap (then (then a r1)) (then-then h k rest) ∙ then-then a r1 last
-        ∙ ap (then a) (then-then b r2 last ∙ ap (then b) (then-then c r3 last ∙ ap (then c) (then-then d (then e (then f g)) last ∙ ap (then d) (then-then e (then f g) last ∙ ap (then e) (then-then f g last)))))
+    let marks : Answer = ask (marksGood f marker) 7 0 in
+    let factor : Answer = ask (question20 f) 20 0 in
+    let lengths : Answer = ask (lengthsRight f (length marker) n s) 8 0 in
+    then-then (formSays header) (then marks factor) lengths ∙ ap (then (formSays header)) (then-then marks factor lengths)
+    ∙ asks-on (question1 header) f (then marks (then factor lengths))

@@ -2,14 +2,14 @@
 use mathlib.Core.Path.{_≡_, refl}
 use mathlib.Core.Bool.{Bool, true}
 use mathlib.Core.List.{List}
-use Prim.Native.Nat.{ℕ, _+_, _-_, _*_, _^_, _≤_, _<_}
+use Prim.Native.Nat.{ℕ, _-_, _*_, _^_, _≤_, _<_}
 use native.Mathlib.Omega.{arith}
 use native.Mathlib.Nat.{mul-le-mul}
 use lib.Dec.{ltb, leb, eqb}
 use lib.ListN.{length}
 use borrow.Author.Tests.{ltb-true, leb-true, eqb-true, eq-eqb, lt-ltb, le-ltb, le-leb}
 use Rattle.bits.specs.Table.{both-true}
-use Rattle.answers.specs.Answer.{ask, then, then-done, ask-done, ask-yes, ask-no, Fits, fits-ask, fits-then}
+use Rattle.answers.specs.Answer.{ask, then-done, ask-done, ask-yes, ask-no, Fits, fits-ask, fits-then}
 use Rattle.answers.specs.declared.Answer.the-variants.{Done, No}
 use Rattle.header.specs.Header.{fieldsOf}
 use Rattle.header.specs.declared.Fields.{Fields}

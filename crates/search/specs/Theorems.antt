@@ -10,6 +10,7 @@ use lib.Arith.{digits-lt}
 use lib.Dec.{eqb}
 use lib.ListN.{length, getD}
 use Rattle.bits.specs.Choice.{bool, lt-or-le}
+use Rattle.bits.specs.Table.{true-false}
 use Rattle.bits.specs.Pack.{bitAt}
 use Rattle.answers.specs.Answer.{numberOf, ask, then, ask-done, no-done}
 use Rattle.answers.specs.declared.Answer.{Answer}
@@ -120,8 +121,7 @@ earliest-slot header marker b e =
           (earliest-stands (markerSlot p) (markerSlots p) b (f .there)),
       λ x l at.
           let here = marker-fits header marker (f .header-is) (f .marker-is) b x at in
-          let z : _≡_ {A = Bool} true false = sym (here .1) ∙ none-earlier (markerSlot p) (markerSlots p) b x l in
-          absurd (let w : _≡_ {A = ℕ} 1 0 = ap bool z in omega arith),
+          true-false (fits p b x) (here .1) (none-earlier (markerSlot p) (markerSlots p) b x l),
     )
 
 -- Where it stands at a slot and at none before, that slot is the answer.
@@ -186,9 +186,7 @@ no-slot header marker b e x at =
     ⊎-elim
     (λ (l : firstFit p b < starts (markerSlots p) b). no-done (sym (q8 .1) ∙ slot-yes p b l))
     (λ (l : starts (markerSlots p) b ≤ firstFit p b).
-    let z : _≡_ {A = Bool} true false = sym (here .1) ∙ none-earlier (markerSlot p) (markerSlots p) b x (omega (arith, here .0)) in
-    let w : _≡_ {A = ℕ} 1 0 = ap bool z in
-    omega arith)
+    true-false (fits p b x) (here .1) (none-earlier (markerSlot p) (markerSlots p) b x (omega (arith, here .0))))
     (lt-or-le (firstFit p b) (starts (markerSlots p) b))
 
 -- and is the answer where it stands at none.

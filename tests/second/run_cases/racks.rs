@@ -134,7 +134,7 @@ fn compare_call(
     };
     let mut lent = Lent::new(rng, slice);
     let told = rack.told(call);
-    let area_should = match told.number {
+    let area_should = match told.answer {
         0 => rack.pack(),
         _ => area.slice().to_vec(),
     };
@@ -144,7 +144,7 @@ fn compare_call(
     };
     let answer = put(call, area.slice(), lent.slice());
     let slices = [(&*area, &area_should[..]), (&lent, slice_should)];
-    tally.judge(kind(call), [answer, told.number.into()], &slices, || {
+    tally.judge(kind(call), [answer, told.answer], &slices, || {
         format!("{what}, {call:?}")
     });
     area.slice().copy_from_slice(&area_should); // a fault stays where it is
@@ -191,10 +191,10 @@ impl Takes for Library {
             Request::Read { slice } => slice.clone(),
             _ => Vec::new(),
         };
-        let number = (put(call, &mut self.0, &mut slice) % 256) as u8;
+        let answer = put(call, &mut self.0, &mut slice);
         let read = matches!(call.request, Request::Read { .. });
         Told {
-            number,
+            answer,
             slice: if read { slice } else { Vec::new() },
         }
     }
@@ -309,7 +309,7 @@ impl Takes for Counting {
         let told = self.0.told(call);
         if self.0.loaded() > before.loaded().max(6) {
             self.0 = before;
-            return Told { number: 8, ..told };
+            return Told { answer: 8, ..told };
         }
         told
     }
@@ -345,7 +345,7 @@ impl Takes for EmptyToldApart {
         let loaded = self.0.is_loaded_at(call);
         let told = self.0.told(call);
         match call.request {
-            Request::Read { .. } if told.number == 25 && !loaded => Told { number: 24, ..told },
+            Request::Read { .. } if told.answer == 25 && !loaded => Told { answer: 24, ..told },
             _ => told,
         }
     }
@@ -367,10 +367,10 @@ impl Takes for LentToAll {
         });
         let others = borrowers.filter(|other| other.caller != call.owner);
         match call.request {
-            Request::Read { .. } if told.number == 25 => {
+            Request::Read { .. } if told.answer == 25 => {
                 let read = others.map(|other| self.0.told(&other));
                 read.into_iter()
-                    .find(|told| told.number == 0)
+                    .find(|told| told.answer == 0)
                     .unwrap_or(told)
             }
             _ => told,

@@ -1,6 +1,6 @@
 -- Up to four all but 0, and then three numbers more.
 use mathlib.Core.Path.{_≡_, refl, sym}
-use mathlib.Core.Bool.{Bool, true, false, _||_}
+use mathlib.Core.Bool.{true, false, or-false}
 use Prim.Native.Nat.{ℕ, _<_}
 use native.Mathlib.Omega.{arith}
 use lib.Dec.{ltb, eqb, eqb→eq}
@@ -10,10 +10,6 @@ use Rattle.bits.specs.Table.{below-all}
 use Rattle.questions.specs.Questions.{copiesGood}
 use Rattle.questions.proofs.question20.Statement.{statement}
 use Rattle.questions.proofs.question20.Tie as tie
-
-or-false : (b : Bool) → (b || false) ≡ b
-or-false true = refl
-or-false false = refl
 
 few : (k : ℕ) → 0 < k → k < 5 → copiesGood k ≡ true
 unfolding copiesGood

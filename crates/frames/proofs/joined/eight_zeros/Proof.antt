@@ -1,5 +1,6 @@
 -- A byte that is zero has eight zeros.
 use mathlib.Core.Path.{_≡_, sym, ap, _∙_}
+use mathlib.Core.Bool.{false≢true}
 use Prim.Native.Nat.{ℕ, _+_, _*_, _≤_}
 use native.Mathlib.Omega.{arith}
 use borrow.Author.Tests.{eqb-true}
@@ -26,8 +27,7 @@ info-bits-requires : tie.Need-info-bits-requires
 info-bits-requires c κs = search needs
 
 returns : tie.Need-returns
-returns c =
-    λ e. absurd (let z : _≡_ {A = ℕ} 0 1 = cc in omega arith)
+returns c = λ e. absurd (false≢true e)
 
 packed-bit-requires : tie.Need-packed-bit-requires
 packed-bit-requires c κs =

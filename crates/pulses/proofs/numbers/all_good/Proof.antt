@@ -1,5 +1,6 @@
 -- Those passed have a symbol.
-use mathlib.Core.Path.{_≡_, refl, sym, ap, _∙_}
+use mathlib.Core.Path.{_≡_}
+use mathlib.Core.Bool.{false≢true}
 use mathlib.Core.Logic.{⊎-elim}
 use Prim.Native.Nat.{ℕ, _+_, _-_, _*_, _≤_, _<_}
 use native.Mathlib.Omega.{arith}
@@ -31,7 +32,7 @@ symbol-requires c κs =
     (fewer (a .order) (a .group) (a .to) (a .b .now) (s .pre .0) (l .s + 1) up, omega arith)
 
 returns : tie.Need-returns Inv-loop μ-loop
-returns c = λ e. absurd (let z : _≡_ {A = ℕ} 0 1 = cc in omega arith)
+returns c = λ e. absurd (false≢true e)
 
 add-s : tie.Need-add-s Inv-loop μ-loop
 add-s c = search needs
