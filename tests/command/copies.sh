@@ -72,7 +72,7 @@ test_copies_captured() {
     local h
     h=$(factor 2)
     run 0 write "$h" "$marker" frames sent
-    "$tool" "$h" capture 13 5 1 <sent >capture
+    "$tool" "$h" "capture" 13 5 1 <sent >capture
     run 0 cut "$h" capture 13 out
     alike 'a run of two copies, cut out' sent out
     logged "$said/err" "cut header=$h marker=- frames=- slots=56775 capture=$(stat -c %s capture) \
@@ -188,8 +188,8 @@ once_copies_many() {
     same 'results of it' 1 "$(wc -l <list.results)"
     run 0 -q show "$h" many 844487 1
     same 'the copies of its last symbol' 32 "$(wc -l <"$said/out")"
-    cat many <(echo) >more
-    run 1 verify "$h" "$example_marker" more
-    has 'one byte more' 'more: the slots have 270236161 bytes or more, and the header implies 270236160' \
+    cat many <(echo) >longer
+    run 1 verify "$h" "$example_marker" longer
+    has 'one byte more' 'longer: the slots have 270236161 bytes or more, and the header implies 270236160' \
         "$err"
 }

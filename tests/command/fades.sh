@@ -65,7 +65,9 @@ worst: word 1, 42 of 3780 symbols' "$(out)"
     has 'symbols without copies' 'of 7568 symbols' "$(out)"
     counted "$example" '0 844488' 2520
     counted "$example" '400000 5000' 0
-    counted "$largest" '0 4553218' $(yes 1890 | head -n 210)
+    local all
+    mapfile -t all < <(yes 1890 | head -n 210)
+    counted "$largest" '0 4553218' "${all[@]}"
     run 0 -q fades header empty
     has 'the header from a file' '2 words of 3780 symbols' "$(out)"
 }
@@ -189,7 +191,7 @@ test_fades_tried() {
 test_fades_pairs() {
     begin_fades
     local pairs
-    for pairs in x 1 1: :1 1:1, ,1:1 1:1,,2:2 '' 1:1:1 1:x all,1:1 ALL -1:1 '1: 1' \
+    for pairs in x 1 1: :1 '1:1,' ',1:1' 1:1,,2:2 '' 1:1:1 1:x all,1:1 ALL -1:1 '1: 1' \
         99999999999999999999:1; do
         unharmed 2 '--pairs: pairs of numbers such as 21:36,36:180, or all' \
             fades --try "--pairs=$pairs" "$three" list

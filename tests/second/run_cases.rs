@@ -81,7 +81,7 @@ pub fn compare_any(tally: &mut Tally, rng: &mut Rng, sizes: &Sizes, index: u64) 
     let what = format!("any header {index}");
     let header = any_header(rng, sizes);
     match header.run() {
-        Ok(run) if run.is_factor() && run.slots_len() <= ANY_MOST => {
+        Ok(run) if header.spare == 0 && run.is_factor() && run.slots_len() <= ANY_MOST => {
             let sample = Sample::new(rng, header);
             let sound = (rng.below(4) == 0).then_some(&NONE);
             let damages = sound.into_iter().chain(damages_from(rng.next()));

@@ -1,6 +1,11 @@
--- Step 6 a byte at a time: eight places on from any place, by the bit before it.
-use Prim.Native.Nat.{ℕ, zero, suc, _-_, _/_, _%_, _^_}
+-- Step 6 some places at a time: those from any place on, by the bit before it.
+use mathlib.Core.Path.{_≡_}
+use mathlib.Core.List.{List}
+use Prim.Native.Nat.{ℕ, zero, suc, _+_, _-_, _*_, _/_, _%_, _^_, _≤_, _<_}
 use lib.Bits.{bitXor}
+use lib.ListN.{length, getD}
+use Rattle.bits.specs.Pack.{val, bitAt}
+use Rattle.accumulator.specs.Accumulator.{accumulate}
 
 -- bit t of a byte
 abbrev pub bitOf : ℕ → ℕ → ℕ
@@ -18,3 +23,18 @@ accumulateFrom p f (suc j) = bitXor (f (suc j)) (accumulateFrom p f j)
 
 unfoldable pub differentiateFrom : ℕ → (ℕ → ℕ) → ℕ → ℕ
 differentiateFrom p g j = bitXor (g j) (behind p g j)
+
+-- byte k of the outputs
+abbrev pub outputs : List ℕ → ℕ → ℕ
+outputs xs k = val (λ t. accumulate (bitAt xs) (8 * k + t)) 8
+
+-- a list changed in place up to i: the first i elements are made, the others as they were given
+pub record Made (f : ℕ → ℕ) (given out : List ℕ) (i : ℕ) : Type 0 where
+  pub size : length out ≡ length given
+  pub done : (k : ℕ) → k < i → getD out k 0 ≡ f k
+  pub rest : (k : ℕ) → i ≤ k → getD out k 0 ≡ getD given k 0
+
+-- the first i bytes hold their outputs, and `last` is the output before bit 8 i
+pub record SoFar (given out : List ℕ) (i last : ℕ) : Type 0 where
+  pub made : Made (outputs given) given out i
+  pub before : last ≡ behind 0 (accumulate (bitAt given)) (8 * i)

@@ -66,14 +66,15 @@ flip-bit xs x y h =
 
 -- ---- bytes copied
 
--- n bytes from `at` on stand at `to` and behind it; what stood before is as it was
+-- n bytes from `at` on stand at `to` and behind it; what stood before them and behind them is as it was
 pub record Copied (from : List ℕ) (at : ℕ) (before : List ℕ) (to n : ℕ) (after : List ℕ) : Type 0 where
   pub long : length after ≡ length before
   pub earlier : (k : ℕ) → k < to → getD after k 0 ≡ getD before k 0
   pub here : (t : ℕ) → t < n → getD after (to + t) 0 ≡ getD from (at + t) 0
+  pub later : (k : ℕ) → to + n ≤ k → getD after k 0 ≡ getD before k 0
 
 pub copied-none : (from : List ℕ) (at : ℕ) (before : List ℕ) (to : ℕ) → Copied from at before to 0 before
-copied-none from at before to = record { long = refl; earlier = λ k l. refl; here = λ t l. absurd (omega arith) }
+copied-none from at before to = record { long = refl; earlier = λ k l. refl; here = λ t l. absurd (omega arith); later = λ k l. refl }
 
 pub copied-more : (from : List ℕ) (at : ℕ) (before after : List ℕ) (to t : ℕ) → to + t < length after → Copied from at before to t after
     → Copied from at before to (t + 1) (set after (to + t) (getD from (at + t) 0))
@@ -86,6 +87,7 @@ copied-more from at before after to t l c =
           (λ (q : u ≡ t). rw q (getD-set-same after (to + t) v 0 l))
           (λ (q : u ≡ t → ⊥). getD-set-other after (to + t) (to + u) v 0 (λ r. q (omega arith)) ∙ c .here u (omega arith))
           (eq-or-ne u t);
+      later = λ k m. getD-set-other after (to + t) k v 0 (λ q. omega arith) ∙ c .later k (omega arith);
     }
 
 -- ---- spare bits

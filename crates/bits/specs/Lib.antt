@@ -16,3 +16,4 @@ pub mod Leading
 pub mod Window
 pub mod Needs
 pub mod Change
+pub mod Doubling

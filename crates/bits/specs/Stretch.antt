@@ -11,14 +11,15 @@ use Rattle.bits.specs.Choice.{lt-or-le, eq-or-ne}
 use Rattle.bits.specs.Pack.{Bits, Bytes, val, bitAt, bytesOf, bit-lt, val-same, val-lt, bytes-by-byte}
 use Rattle.bits.specs.Parts.{val-split, byte-val}
 
--- the n bytes from `at` on have the bits f 0, f 1, ..; what stood before is as it was
+-- the n bytes from `at` on have the bits f 0, f 1, ..; what stood before them and behind them is as it was
 pub record Laid (before : List ℕ) (at n : ℕ) (f : ℕ → ℕ) (after : List ℕ) : Type 0 where
   pub long : length after ≡ length before
   pub earlier : (k : ℕ) → k < at → getD after k 0 ≡ getD before k 0
   pub here : (t : ℕ) → t < n → getD after (at + t) 0 ≡ val (λ u. f (8 * t + u)) 8
+  pub later : (k : ℕ) → at + n ≤ k → getD after k 0 ≡ getD before k 0
 
 pub laid-none : (before : List ℕ) (at : ℕ) (f : ℕ → ℕ) → Laid before at 0 f before
-laid-none before at f = record { long = refl; earlier = λ k l. refl; here = λ t l. absurd (omega arith) }
+laid-none before at f = record { long = refl; earlier = λ k l. refl; here = λ t l. absurd (omega arith); later = λ k l. refl }
 
 -- more bytes behind those that are laid
 pub laid-on : (before middle after : List ℕ) (at m n : ℕ) (f g : ℕ → ℕ) → Laid before at m f middle → Laid middle (at + m) n g after
@@ -34,6 +35,7 @@ laid-on before middle after at m n f g p q same =
           ap (λ (i : ℕ). getD after i 0) e ∙ q .here (t - m) (omega arith)
           ∙ val-same (λ u. g (8 * (t - m) + u)) (λ u. f (8 * t + u)) 8 (λ u k. same (8 * (t - m) + u) (omega arith) ∙ ap f (omega arith)))
           (lt-or-le t m);
+      later = λ k l. q .later k (omega arith) ∙ p .later k (omega arith);
     }
 
 -- the same bits
@@ -43,6 +45,7 @@ laid-same before after at n f g same l =
       long = l .long;
       earlier = l .earlier;
       here = λ t h. l .here t h ∙ val-same (λ u. f (8 * t + u)) (λ u. g (8 * t + u)) 8 (λ u k. same (8 * t + u) (omega arith));
+      later = l .later;
     }
 
 -- one byte
@@ -54,6 +57,7 @@ laid-one before at v f l e =
       here = λ t h.
           let z : at + t ≡ at = omega arith in
           ap (λ (i : ℕ). getD (set before at v) i 0) z ∙ getD-set-same before at v 0 l ∙ e ∙ val-same f (λ u. f (8 * t + u)) 8 (λ u k. ap f (omega arith));
+      later = λ k h. getD-set-other before at k v 0 (λ q. omega arith);
     }
 
 -- all of them

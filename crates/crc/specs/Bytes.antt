@@ -1,4 +1,4 @@
--- The check register, a byte at a time: it shifts up by eight, and what a table says is added.
+-- The check register, a byte at a time: it shifts up by eight, and what the byte makes of a register of zeros is added.
 -- One step is linear, so the register's top byte and the byte itself act as their sum.
 use mathlib.Core.Path.{_≡_, refl, sym, ap, ap₂, _∙_}
 use mathlib.Core.List.{List}
@@ -6,10 +6,10 @@ use Prim.Native.Nat.{ℕ, zero, suc, _+_, _-_, _*_, _/_, _%_, _^_, _<_}
 use native.Mathlib.Omega.{arith}
 use native.Mathlib.Nat.{add-zero, add-suc}
 use lib.Bits.{bitXor, xor-zero-r, xor-lt, xor-shifted, xor-comm}
-use lib.Dec.{T, eqb, eqb→eq}
+use lib.Dec.{eqb, eqb→eq}
 use lib.ListN.{getD}
 use Rattle.bits.specs.Sum.{xor-cancel, xor-digit}
-use Rattle.bits.specs.Table.{allBelow, below-all}
+use Rattle.bits.specs.Table.{below-all}
 use Rattle.bits.specs.Pack.{Bits, bitAt, bit-lt}
 use Rattle.crc.specs.Check.{advance, register, advance-lt, register-lt, advance-plus}
 
@@ -25,10 +25,6 @@ byteBit v t = v / 2 ^ (7 - t) % 2
 -- what the bits of a byte make of a register of zeros
 unfoldable pub change : ℕ → ℕ
 change v = advances 0 (byteBit v) 8
-
--- the table's rule
-pub record Changes (table : List ℕ) : Type 0 where
-  pub entry : (v : ℕ) → v < 256 → getD table v 0 ≡ change v
 
 -- ---- laws
 
@@ -139,25 +135,17 @@ module _ (xs : List ℕ) (i r : ℕ) (byte : getD xs i 0 < 256) (so-far : r ≡ 
   register-fits : r < 2 ^ 32
   register-fits = rw so-far (register-lt (bitAt xs) (bit-lt xs) (8 * i))
 
-  -- its place in the table
-  pub place-lt : bitXor (r / 2 ^ 24) (getD xs i 0) < 256
-  place-lt =
+  -- what is added to it is a byte's change
+  pub byte-lt : bitXor (r / 2 ^ 24) (getD xs i 0) < 256
+  byte-lt =
       let h : r < 2 ^ 32 = register-fits in
       xor-lt 8 (r / 2 ^ 24) (getD xs i 0) (omega arith) byte
 
   -- one byte more
-  pub register-byte : (table : List ℕ) → Changes table
-      → bitXor (r * 2 ^ 8 % 2 ^ 32) (getD table (bitXor (r / 2 ^ 24) (getD xs i 0)) 0) ≡ register (bitAt xs) (8 * (i + 1))
-  register-byte table h =
+  pub register-byte : bitXor (r * 2 ^ 8 % 2 ^ 32) (change (bitXor (r / 2 ^ 24) (getD xs i 0))) ≡ register (bitAt xs) (8 * (i + 1))
+  register-byte =
       let e : 8 * (i + 1) ≡ 8 * i + 8 = omega arith in
-      ap (bitXor (r * 2 ^ 8 % 2 ^ 32)) (h .entry (bitXor (r / 2 ^ 24) (getD xs i 0)) place-lt)
-      ∙ sym (eight-steps r (getD xs i 0) register-fits)
+      sym (eight-steps r (getD xs i 0) register-fits)
       ∙ sym (advances-same r (λ t. bitAt xs (8 * i + t)) (byteBit (getD xs i 0)) 8 (block-byte xs i))
       ∙ ap (λ (q : ℕ). advances q (λ t. bitAt xs (8 * i + t)) 8) so-far
       ∙ sym (ap (register (bitAt xs)) e ∙ register-on (bitAt xs) (8 * i) 8)
-
--- a table is right where this test passes, which antt computes
-pub table-right : (table : List ℕ) → T (allBelow 256 (λ v. eqb (getD table v 0) (change v))) → Changes table
-table-right table t = record {
-  entry = λ v h. eqb→eq (getD table v 0) (change v) (below-all 256 (λ v. eqb (getD table v 0) (change v)) t v h);
-}

@@ -49,7 +49,7 @@ zero-before r h e =
 -- ---- several
 
 -- zeros stay zeros
-zeros-stay : (x : ℕ → ℕ) (n : ℕ) → ((i : ℕ) → i < n → x i ≡ 0) → advances 0 x n ≡ 0
+pub zeros-stay : (x : ℕ → ℕ) (n : ℕ) → ((i : ℕ) → i < n → x i ≡ 0) → advances 0 x n ≡ 0
 unfolding advances
 zeros-stay x zero h = refl
 zeros-stay x (suc n) h =
@@ -79,7 +79,7 @@ meets r hr (suc j) h =
     ∙ ap (λ (n : ℕ). n % 2 ^ 32) (mul-assoc r (2 ^ j) 2 ∙ ap (λ (n : ℕ). r * n) (sym (pow-suc 2 j)))
 
 -- and is gone after all 32
-field-meets : (r : ℕ) → r < 2 ^ 32 → advances r (checkBit r) 32 ≡ 0
+pub field-meets : (r : ℕ) → r < 2 ^ 32 → advances r (checkBit r) 32 ≡ 0
 field-meets r h = meets r h 32 (omega arith) ∙ omega arith
 
 -- 32 bits that a register of zeros turns into zeros are zeros: their number v meets them too, so zero bits turn v into zeros

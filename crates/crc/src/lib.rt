@@ -1,9 +1,11 @@
-// Step 2, the check: whole bytes of the block by a table, the last bits one by one.
+// Step 2, the check: eight bytes of the block at a time by tables, then byte by byte, and the last bits one by one.
 ghost use mathlib.Core.Path.{_≡_};
 ghost use Prim.Native.Nat.{_*_, _≤_, _<_};
 ghost use lib.ListN.{length};
-ghost use Rattle.bits.specs.Pack.{bitAt};
+ghost use Rattle.bits.specs.Pack.{bitAt, bitOf};
 ghost use Rattle.crc.specs.Check.{advance, register};
+ghost use Rattle.crc.specs.Bytes.{advances, change};
+ghost use Rattle.crc.specs.Tables.{Tables};
 
 mod table;
 
@@ -18,19 +20,63 @@ fn advance_bit(r: u32, b: u32) -> u32
     (r << 1) ^ (((r >> 31) ^ b) * 0x2004_4009)
 }
 
+// What the 64 bits of v make of a register of zeros: the sum of what each four of them and the zeros behind them make of it.
+fn sixteen(table: &[u32], v: u64) -> u32
+    requires { ⌜ Tables (now table) ⌝ }
+    ensures { λ r. ⌜ r ≡ advances 0 (bitOf v) 64 ⌝ }
+{
+    let mut r: u32 = 0;
+    let mut k = 0usize;
+    while k < 16 {
+        r = r ^ table[16 * k + ((v >> (4 * k)) % 16) as usize];
+        k += 1;
+    }
+    r
+}
+
+// And the bits of a byte.
+fn two(table: &[u32], b: u32) -> u32
+    requires { ⌜ Tables (now table) × (b < 256) ⌝ }
+    ensures { λ r. ⌜ r ≡ change b ⌝ }
+{
+    table[(b % 16) as usize] ^ table[(16 + b / 16) as usize]
+}
+
+// The register after the first 8 n bytes: it acts as if it were added to the first 32 bits that come.
+fn by_eights(block: &[u8], table: &[u32], n: usize) -> u32
+    requires { ⌜ Tables (now table) × (8 * n ≤ length (now block)) ⌝ }
+    ensures { λ r. ⌜ r ≡ register (bitAt (now (block .entry))) (64 * n) ⌝ }
+{
+    let mut r: u32 = 0xFFFF_FFFF;
+    let mut j = 0;
+    while j < n {
+        r = sixteen(table, ((r as u64) << 32) ^ packing::eight(block, 8 * j));
+        j += 1;
+    }
+    r
+}
+
 // The register after the first n bytes.
+fn by_tables(block: &[u8], table: &[u32], n: usize) -> u32
+    requires { ⌜ Tables (now table) × (n ≤ length (now block)) ⌝ }
+    ensures { λ r. ⌜ r ≡ register (bitAt (now (block .entry))) (8 * n) ⌝ }
+{
+    let eights = n / 8;
+    let mut r = by_eights(block, table, eights);
+    let mut i = 8 * eights;
+    while i < n {
+        r = (r << 8) ^ two(table, (r >> 24) ^ block[i] as u32);
+        i += 1;
+    }
+    r
+}
+
 fn whole_bytes(block: &[u8], n: usize) -> u32
     requires { ⌜ n ≤ length (now block) ⌝ }
     ensures { λ r. ⌜ r ≡ register (bitAt (now (block .entry))) (8 * n) ⌝ }
 {
     let table = CHANGES;
-    let mut r: u32 = 0xFFFF_FFFF;
-    let mut i = 0;
-    while i < n {
-        r = (r << 8) ^ table[((r >> 24) ^ block[i] as u32) as usize];
-        i += 1;
-    }
-    r
+    by_tables(block, &table, n)
 }
 
 // Step 2. The check register after the first k bits of a packed block.

@@ -1,2 +1,5 @@
 pub mod Rows
-pub mod Spots
+pub mod Exchanges
+pub mod Numbers
+pub mod Writing
+pub mod Reading

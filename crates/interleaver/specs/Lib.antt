@@ -1,4 +1,5 @@
 pub mod Interleaver
 pub mod Squares
-pub mod Rows
-pub mod Spread
+pub mod Planes
+pub mod Sevens
+pub mod Needs

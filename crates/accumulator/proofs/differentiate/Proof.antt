@@ -8,8 +8,8 @@ use lib.ListN.{length, getD}
 use borrow.Author.Needs.{needs}
 use Rattle.bits.specs.Pack.{val, bitAt, bit-lt, bytes-by-byte}
 use Rattle.accumulator.specs.Accumulator.{differentiate}
-use Rattle.accumulator.specs.Bytes.{bitOf, behind, differentiateFrom}
-use Rattle.accumulator.proofs.Places.{behind-bit, differentiated-byte, given-last, Made, made-none, made-more}
+use Rattle.accumulator.specs.Bytes.{bitOf, behind, differentiateFrom, Made}
+use Rattle.accumulator.proofs.Places.{behind-bit, differentiated-byte, given-last, made-none, made-more}
 use Rattle.accumulator.proofs.differentiate.Statement.{statement}
 use Rattle.accumulator.proofs.differentiate.Tie as tie
 

@@ -1,7 +1,13 @@
--- `deinterleave` meets its contract: once every bit stands at its spot, the two places of coded bit x join to word bit placeBack x.
-use mathlib.Core.Path.{_∙_}
+-- `deinterleave` meets its contract: the planes hold seven bits of the word in a number, and the columns take them to the coded bits.
+use mathlib.Core.Path.{_≡_, _∙_}
+use Prim.Native.Nat.{ℕ}
+use lib.ListN.{length, getD}
+use Rattle.bits.specs.Table.{tab-made}
 use Rattle.bits.specs.Pack.{bitAt}
-use Rattle.interleaver.proofs.Spots.{spread-zeros, spread-joined}
+use Rattle.sizes.specs.Sizes.{wordBits}
+use Rattle.interleaver.specs.Interleaver.{deinterleave}
+use Rattle.interleaver.proofs.Numbers.{row-made}
+use Rattle.interleaver.proofs.Reading.{fresh, coded-made}
 use borrow.Author.Needs.{needs}
 use Rattle.interleaver.proofs.deinterleave.Statement.{statement}
 use Rattle.interleaver.proofs.deinterleave.Tie as tie
@@ -12,31 +18,53 @@ slice-aggregate-first-row c = search needs
 first-row-requires : tie.Need-first-row-requires
 first-row-requires c κs = search needs
 
-slice-aggregate-scatter : tie.Need-slice-aggregate-scatter
-slice-aggregate-scatter c = search needs
+slice-aggregate-rows : tie.Need-slice-aggregate-rows
+slice-aggregate-rows c = search needs
 
-slice-aggregate-scatter-2 : tie.Need-slice-aggregate-scatter-2
-slice-aggregate-scatter-2 c = search needs
+rows-requires : tie.Need-rows-requires
+rows-requires c κs = search needs
 
-scatter-requires : tie.Need-scatter-requires
-scatter-requires c κs =
-    let s = c .before .before .before .before .before .before .before in
-    (s .pre .0, c .before .before .before .first-row .ensures, spread-zeros (bitAt (s .args .word .now)))
+slice-aggregate-transposed : tie.Need-slice-aggregate-transposed
+slice-aggregate-transposed c = search needs
 
-slice-aggregate-joined : tie.Need-slice-aggregate-joined
-slice-aggregate-joined c = search needs
+transposed-requires : tie.Need-transposed-requires
+transposed-requires c κs = search needs
 
-joined-requires : tie.Need-joined-requires
-joined-requires c κs = search needs
+slice-aggregate-doubled : tie.Need-slice-aggregate-doubled
+slice-aggregate-doubled c = search needs
+
+slice-aggregate-doubled-2 : tie.Need-slice-aggregate-doubled-2
+slice-aggregate-doubled-2 c = search needs
+
+doubled-requires : tie.Need-doubled-requires
+doubled-requires c κs = search needs
+
+slice-aggregate-given : tie.Need-slice-aggregate-given
+slice-aggregate-given c = search needs
+
+slice-aggregate-given-2 : tie.Need-slice-aggregate-given-2
+slice-aggregate-given-2 c = search needs
+
+given-requires : tie.Need-given-requires
+given-requires c κs =
+    let row = c .before .before .before .before .before .before .before .before .before .before .before .before .before .before in
+    (search needs, row-made (row .first-row .last .0) (row .first-row .ensures), row .before .before .before .before .pre .1)
 
 same-length : tie.Need-same-length
 same-length c = search needs
 
 returns : tie.Need-returns
 returns c =
-    let o = c .before .before .before .before .before .before in
-    let a = o .before .before .before .before .before .before .before .before .args in
-    c .before .before .joined .ensures ∙ spread-joined (bitAt (a .word .now)) (o .scatter .last .1 .1 .0) (o .scatter .ensures)
+    let end = c .before .before in
+    let double = end .before .before .before .before .before in
+    let turn = double .before .before .before .before in
+    let order = turn .before .before .before in
+    let s = order .before .before .before .before .before .before .before in
+    let word = s .args .word .now in
+    tab-made wordBits (deinterleave (bitAt word)) (end .given .last .1 .1 .0) (end .given .kept .1 .1 .0 ∙ s .pre .1) (λ x h.
+    end .given .ensures x h
+    ∙ coded-made word (order .rows .last .1 .0) (turn .transposed .last .0) (double .doubled .last .1 .0)
+    (order .rows .ensures .0) (λ k g. order .rows .ensures .1 k g ∙ fresh 2160 k) (turn .transposed .ensures) (double .doubled .ensures) x h)
 
 pub deinterleave-spec : {M : Type 1} → statement M
 deinterleave-spec =
@@ -44,10 +72,15 @@ deinterleave-spec =
     (tie.spec
     slice-aggregate-first-row
     first-row-requires
-    slice-aggregate-scatter
-    slice-aggregate-scatter-2
-    scatter-requires
-    slice-aggregate-joined
-    joined-requires
+    slice-aggregate-rows
+    rows-requires
+    slice-aggregate-transposed
+    transposed-requires
+    slice-aggregate-doubled
+    slice-aggregate-doubled-2
+    doubled-requires
+    slice-aggregate-given
+    slice-aggregate-given-2
+    given-requires
     same-length
     returns)

@@ -1,15 +1,12 @@
--- `interleave` meets its contract: the bits laid out twice make the same word.
-use mathlib.Core.Path.{_∙_}
-use Rattle.interleaver.proofs.Rows.{ready, same-word}
+-- `interleave` meets its contract: the numbers of seven bits stand where the word has them, so they are its bytes once rows and bits have changed.
+use mathlib.Core.Path.{_≡_, _∙_}
+use Prim.Native.Nat.{ℕ}
+use lib.ListN.{length, getD}
+use Rattle.interleaver.proofs.Numbers.{row-made}
+use Rattle.interleaver.proofs.Writing.{gathered, in-order, word-made}
 use borrow.Author.Needs.{needs}
 use Rattle.interleaver.proofs.interleave.Statement.{statement}
 use Rattle.interleaver.proofs.interleave.Tie as tie
-
-slice-aggregate-doubled : tie.Need-slice-aggregate-doubled
-slice-aggregate-doubled c = search needs
-
-doubled-requires : tie.Need-doubled-requires
-doubled-requires c κs = search needs
 
 slice-aggregate-first-row : tie.Need-slice-aggregate-first-row
 slice-aggregate-first-row c = search needs
@@ -17,39 +14,79 @@ slice-aggregate-first-row c = search needs
 first-row-requires : tie.Need-first-row-requires
 first-row-requires c κs = search needs
 
+slice-aggregate-taken : tie.Need-slice-aggregate-taken
+slice-aggregate-taken c = search needs
+
+slice-aggregate-taken-2 : tie.Need-slice-aggregate-taken-2
+slice-aggregate-taken-2 c = search needs
+
+taken-requires : tie.Need-taken-requires
+taken-requires c κs =
+    let row = c .before .before .before in
+    let s = row .before .before .before .before in
+    (record { size = s .pre .0; bits = s .pre .1 }, row-made (row .first-row .last .0) (row .first-row .ensures), search needs)
+
 slice-aggregate-columns : tie.Need-slice-aggregate-columns
 slice-aggregate-columns c = search needs
 
 slice-aggregate-columns-2 : tie.Need-slice-aggregate-columns-2
 slice-aggregate-columns-2 c = search needs
 
+slice-aggregate-columns-3 : tie.Need-slice-aggregate-columns-3
+slice-aggregate-columns-3 c = search needs
+
 columns-requires : tie.Need-columns-requires
 columns-requires c κs =
-    let row = c .before .before .before .before in
-    let copy = row .before .before .before in
-    let s = copy .before .before .before .before in
-    (ready (s .args .coded .now) (copy .doubled .last .1 .0) (row .first-row .last .0) (s .pre .1) (copy .doubled .ensures) (row .first-row .ensures), s .pre .2)
+    let row = c .before .before .before .before .before .before .before .before in
+    (search needs, row-made (row .first-row .last .0) (row .first-row .ensures), search needs)
+
+slice-aggregate-transposed : tie.Need-slice-aggregate-transposed
+slice-aggregate-transposed c = search needs
+
+transposed-requires : tie.Need-transposed-requires
+transposed-requires c κs = search needs
+
+slice-aggregate-rows : tie.Need-slice-aggregate-rows
+slice-aggregate-rows c = search needs
+
+rows-requires : tie.Need-rows-requires
+rows-requires c κs = search needs
 
 same-length : tie.Need-same-length
 same-length c = search needs
 
 returns : tie.Need-returns
 returns c =
-    let o = c .before .before in
-    let copy = o .before .before .before .before .before .before .before .before in
-    let s = copy .before .before .before .before in
-    o .columns .ensures ∙ same-word (s .args .coded .now) (copy .doubled .last .1 .0) (copy .doubled .ensures)
+    let end = c .before .before in
+    let turn = end .before .before .before .before in
+    let cols = turn .before .before .before in
+    let take = cols .before .before .before .before .before in
+    let s = take .before .before .before .before .before .before .before .before in
+    let f : ℕ → ℕ = λ j. getD (s .args .coded .now) j 0 in
+    let seen = cols .columns .last .1 .1 .0 in
+    let ordered = turn .transposed .last .0 in
+    word-made f (s .pre .1) ordered (end .rows .last .1 .0) (end .rows .kept .1 .0 ∙ s .pre .2)
+    (in-order f (s .pre .1) seen ordered
+    (gathered f (s .pre .1) (take .taken .last .1 .1 .0) seen (take .taken .ensures) (cols .columns .ensures))
+    (turn .transposed .ensures))
+    (end .rows .ensures)
 
 pub interleave-spec : {M : Type 1} → statement M
 interleave-spec =
     tie.close
     (tie.spec
-    slice-aggregate-doubled
-    doubled-requires
     slice-aggregate-first-row
     first-row-requires
+    slice-aggregate-taken
+    slice-aggregate-taken-2
+    taken-requires
     slice-aggregate-columns
     slice-aggregate-columns-2
+    slice-aggregate-columns-3
     columns-requires
+    slice-aggregate-transposed
+    transposed-requires
+    slice-aggregate-rows
+    rows-requires
     same-length
     returns)

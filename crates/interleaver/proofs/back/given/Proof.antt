@@ -1,0 +1,80 @@
+-- Starts and bytes of the columns, their numbers in order, and the bits of these.
+use mathlib.Core.Path.{_≡_, refl, sym, ap, ap₂, _∙_}
+use mathlib.Core.List.{List}
+use Prim.Native.Nat.{ℕ, _+_, _-_, _*_, _/_, _%_, _^_, _≤_, _<_}
+use native.Mathlib.Omega.{arith}
+use lib.ListN.{length, getD, set, length-set}
+use borrow.Author.Needs.{needs}
+use Rattle.interleaver.specs.Sevens.{upIn, splitIn, codedIn}
+use Rattle.interleaver.proofs.Numbers.{masks-rolled}
+use Rattle.interleaver.proofs.Reading.{in-lt}
+use Rattle.interleaver.proofs.back.given.Statement.{statement}
+use Rattle.interleaver.proofs.back.given.Tie as tie
+
+slice-aggregate-starts : tie.Need-slice-aggregate-starts
+slice-aggregate-starts c = search needs
+
+slice-aggregate-starts-2 : tie.Need-slice-aggregate-starts-2
+slice-aggregate-starts-2 c = search needs
+
+starts-requires : tie.Need-starts-requires
+starts-requires c κs = search needs
+
+slice-aggregate-rolled : tie.Need-slice-aggregate-rolled
+slice-aggregate-rolled c = search needs
+
+rolled-requires : tie.Need-rolled-requires
+rolled-requires c κs = search needs
+
+slice-aggregate-all-rows : tie.Need-slice-aggregate-all-rows
+slice-aggregate-all-rows c = search needs
+
+slice-aggregate-all-rows-2 : tie.Need-slice-aggregate-all-rows-2
+slice-aggregate-all-rows-2 c = search needs
+
+all-rows-requires : tie.Need-all-rows-requires
+all-rows-requires c κs =
+    let first = c .before .before .before .before .before .before .before in
+    (first .before .before .before .before .before .before .pre .0, first .starts .ensures .0, search needs)
+
+slice-aggregate-split : tie.Need-slice-aggregate-split
+slice-aggregate-split c = search needs
+
+slice-aggregate-split-2 : tie.Need-slice-aggregate-split-2
+slice-aggregate-split-2 c = search needs
+
+split-requires : tie.Need-split-requires
+split-requires c κs =
+    let roll = c .before .before .before .before .before .before .before .before in
+    let first = roll .before .before .before .before in
+    let s = first .before .before .before .before .before .before in
+    (search needs, masks-rolled upIn in-lt _ _ (first .starts .ensures .1) (roll .rolled .ensures), s .pre .2)
+
+same-length : tie.Need-same-length
+same-length c = search needs
+
+returns : tie.Need-returns
+unfolding splitIn codedIn
+returns c = λ x h.
+    let end = c .before .before in
+    let rows = end .before .before .before .before .before in
+    end .split .ensures x h
+    ∙ ap (λ (v : ℕ). v / 2 ^ ((x / 2160 + upIn (x % 72)) % 7) % 2) (rows .all-rows .ensures (x % 2160) (omega arith))
+
+pub given-spec : {M : Type 1} → statement M
+given-spec =
+    tie.close
+    (tie.spec
+    slice-aggregate-starts
+    slice-aggregate-starts-2
+    starts-requires
+    slice-aggregate-rolled
+    rolled-requires
+    slice-aggregate-all-rows
+    slice-aggregate-all-rows-2
+    all-rows-requires
+    slice-aggregate-split
+    slice-aggregate-split-2
+    split-requires
+    same-length
+    returns)

@@ -1,0 +1,61 @@
+-- The columns' bytes, the rows, and the rows turned.
+use mathlib.Core.Path.{_≡_, refl, sym, ap, ap₂, _∙_}
+use mathlib.Core.List.{List}
+use Prim.Native.Nat.{ℕ, _+_, _-_, _*_, _/_, _%_, _^_, _≤_, _<_}
+use native.Mathlib.Omega.{arith}
+use lib.ListN.{length, getD, set, length-set}
+use borrow.Author.Needs.{needs}
+use Rattle.interleaver.specs.Sevens.{upOut}
+use Rattle.interleaver.proofs.Numbers.{masks-rolled, out-lt}
+use Rattle.interleaver.proofs.Writing.{out-turned}
+use Rattle.interleaver.proofs.out.taken.Statement.{statement}
+use Rattle.interleaver.proofs.out.taken.Tie as tie
+
+slice-aggregate-first-masks : tie.Need-slice-aggregate-first-masks
+slice-aggregate-first-masks c = search needs
+
+first-masks-requires : tie.Need-first-masks-requires
+first-masks-requires c κs = search needs
+
+slice-aggregate-rolled : tie.Need-slice-aggregate-rolled
+slice-aggregate-rolled c = search needs
+
+rolled-requires : tie.Need-rolled-requires
+rolled-requires c κs = search needs
+
+slice-aggregate-all-rows : tie.Need-slice-aggregate-all-rows
+slice-aggregate-all-rows c = search needs
+
+all-rows-requires : tie.Need-all-rows-requires
+all-rows-requires c κs =
+    let roll = c .before .before .before in
+    let first = roll .before .before .before in
+    let s = first .before .before .before .before .before in
+    (s .pre .0, masks-rolled upOut out-lt _ _ (first .first-masks .ensures) (roll .rolled .ensures), s .pre .2)
+
+turned-requires : tie.Need-turned-requires
+turned-requires c κs = search needs
+
+same-length : tie.Need-same-length
+same-length c = search needs
+
+returns : tie.Need-returns
+returns c =
+    let last = c .before .before in
+    let rows = last .before .before .before .before in
+    let s = rows .before .before .before .before .before .before .before .before .before .before .before .before in
+    out-turned (λ j. getD (s .args .coded .now) j 0) (s .pre .0 .bits) _ _ (rows .all-rows .ensures) (last .turned .ensures)
+
+pub taken-spec : {M : Type 1} → statement M
+taken-spec =
+    tie.close
+    (tie.spec
+    slice-aggregate-first-masks
+    first-masks-requires
+    slice-aggregate-rolled
+    rolled-requires
+    slice-aggregate-all-rows
+    all-rows-requires
+    turned-requires
+    same-length
+    returns)
