@@ -83,6 +83,7 @@ help:
 	@echo 'make soak       all calls against the second implementation, on all cores for'
 	@echo '                SECONDS=n, with a fresh seed or SEED=n'
 	@echo 'make fuzz       all calls under libFuzzer and the sanitizers, likewise'
+	@echo 'make stack      the most stack that each call takes, read from the machine code'
 	@echo 'make mutants    COUNT=n small changes of the code of each crate, which the prover has to'
 	@echo '                refuse; CRATES=name for one crate'
 
@@ -92,6 +93,11 @@ test:
 PYTHON_TEST = if ! command -v python3 >/dev/null; then \
     echo 'python: no python3 here; the module is not tried'; \
     else MAHYREI_LIBRARY=$(abspath $(SHARED)) tests/python/module $(PROGRAM) $(HOST)/slots; fi
+# The stack of each call by the machine code, where it is the library's own and can be read.
+STACK_TEST = if [ '$(LIBS)' != '$(LIBRARY)' ]; then true; \
+    elif ! command -v python3 >/dev/null || ! command -v objdump >/dev/null; then \
+    echo 'stack: no python3 or no objdump here; the frames are not read'; \
+    else tests/stack $(SHARED) >/dev/null && echo 'stack: no call takes more than 1 MiB'; fi
 HOST_TESTS = $(SHARED) $(addprefix $(HOST)/,mahyrei_lying word_calls pass_calls spread_calls \
     run_calls long_calls find_calls header_calls fades_calls delay_calls rack_calls uplink_calls \
     plain_calls sha256_vectors second_test compare_words compare_passes compare_spreads \
@@ -125,6 +131,7 @@ host-test: $(HOST_TESTS)
 	@$(STACK) && SEED=$(SEED) UPLINKS=$(UPLINKS) $(HOST)/compare_uplinks
 	@$(STACK) && tests/command/run $(COMMAND_TESTS)
 	@$(PYTHON_TEST)
+	@$(STACK_TEST)
 	@echo 'tests outside the proofs: passed'
 
 demo: $(PROGRAM) $(HOST)/slots
@@ -334,14 +341,18 @@ fuzz: $(HOST)/fuzz_drive
 	@tests/fuzz/run $(SECONDS) $< $(LIBS)
 
 # The crates of the product that have code.
-CRATES ?= bits answers sizes crc convolution interleaver accumulator randomizer word pass spread \
-    header quantities questions convert parameters plan stream frames pulses pool channel fades \
-    delay slots capture starts search cut run_writer run_reader rack_keeper ldpc uplink \
-    uplink_writer uplink_reader calls sheet runsheet
+CRATES ?= bits answers sizes crc convolution decoder sevens interleaver accumulator randomizer \
+    word pass spread header quantities questions convert parameters plan stream frames pulses \
+    pool channel fades delay slots capture starts search cut run_writer run_reader rack_keeper \
+    ldpc uplink uplink_writer uplink_reader calls sheet runsheet
 COUNT ?= 60
 .PHONY: mutants
 mutants:
 	@for crate in $(CRATES); do tests/mutate $$crate $(COUNT) $(SEED) || exit; done
+
+.PHONY: stack
+stack: $(SHARED)
+	@tests/stack $<
 
 # A moment of soak and fuzz, within the tests, so that both stay fit to be run.
 host-test: evidence-test

@@ -1,6 +1,6 @@
 -- Step 6, the accumulator: each output is the input plus the output before it, starting from 0.
 use mathlib.Core.Path.{_≡_, refl, ap, ap₂, _∙_}
-use Prim.Native.Nat.{ℕ, zero, suc, _-_, _≤_}
+use Prim.Native.Nat.{ℕ, zero, suc, _≤_}
 use native.Mathlib.Omega.{arith}
 use lib.Bits.{bitXor}
 use Rattle.bits.specs.Sum.{xor-cancel-r, xor-cross, xor-bit}

@@ -1,4 +1,4 @@
-// Step 6, the accumulator, on packed bits and in place.
+// Step 6, the accumulator, on packed bits: in place, and its way back into another slice.
 ghost use mathlib.Core.Path.{_≡_};
 ghost use Prim.Native.Nat.{_*_, _≤_, _<_};
 ghost use lib.ListN.{length};
@@ -72,15 +72,16 @@ fn stepped(b: u8, prior: u8) -> u8
     b ^ (b >> 1) ^ (prior << 7)
 }
 
-// Back to the inputs. A byte's last bit is kept, since its place is overwritten before the next byte asks for it.
-pub fn differentiate(word: &mut [u8])
-    ensures { λ _. ⌜ now (word .exit) ≡ bytesOf (length (now (word .entry))) (step.differentiate (bitAt (now (word .entry)))) ⌝ }
+// Back to the inputs.
+pub fn differentiate(word: &[u8], inputs: &mut [u8])
+    requires { ⌜ length (now inputs) ≡ length (now word) ⌝ }
+    ensures { λ _. ⌜ now (inputs .exit) ≡ bytesOf (length (now (word .entry))) (step.differentiate (bitAt (now (word .entry)))) ⌝ }
 {
     let mut prior: u8 = 0;
     let mut i = 0;
     while i < word.len() {
         let outputs = word[i];
-        word[i] = stepped(outputs, prior);
+        inputs[i] = stepped(outputs, prior);
         prior = outputs & 1;
         i += 1;
     }

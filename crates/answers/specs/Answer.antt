@@ -101,10 +101,6 @@ pub done-is : (a : Answer) → isDone a ≡ true → a ≡ Done
 done-is Done e = refl
 done-is (No number place) e = absurd (false≢true e)
 
--- no acceptance has another number than 0
-pub number-no : (a : Answer) → (numberOf a ≡ 0 → ⊥) → a ≡ Done → ⊥
-number-no a n e = n (ap numberOf e)
-
 -- what C gets goes by the answer, and by what an acceptance gives
 pub with-same : (a b : Answer) (s t : ℕ) → a ≡ b → (a ≡ Done → s ≡ t) → codeWith a s ≡ codeWith b t
 with-same Done b s t e h = ap (codeWith Done) (h refl) ∙ ap (λ (x : Answer). codeWith x t) e
@@ -122,10 +118,6 @@ fits-ask false number place a b c = record { number = a; place = b; listed = c }
 pub fits-then : (a b : Answer) → Fits a → (a ≡ Done → Fits b) → Fits (then a b)
 fits-then Done b s f = f refl
 fits-then (No number place) b s f = s
-
-pub fits-moved : (piece : ℕ) (a : Answer) → Fits a → piece < 2 ^ 56 → Fits (movedTo piece a)
-fits-moved piece Done s h = s
-fits-moved piece (No number place) s h = record { number = s .number; place = h; listed = s .listed }
 
 -- ---- questions that have no place
 

@@ -1,6 +1,6 @@
 -- Pieces of one kind, asked one after another: the first that is refused gives its number, and its index is the place.
 use mathlib.Core.Path.{_≡_, refl, sym, ap, _∙_}
-use mathlib.Core.Bool.{Bool, true, false}
+use mathlib.Core.Bool.{Bool, false}
 use Prim.Native.Nat.{ℕ, _≤_, _<_, _^_}
 use native.Mathlib.Omega.{arith}
 use lib.Dec.{eqb}
@@ -8,7 +8,7 @@ use borrow.Author.Tests.{eq-eqb, ne-eqb, eqb-true}
 use Rattle.bits.specs.First.{upTo, up-to-le, first-here, first-end, all-pass, none-fails}
 use Rattle.answers.specs.declared.Answer.{Answer}
 use Rattle.answers.specs.declared.Answer.the-variants.{Done, No}
-use Rattle.answers.specs.Answer.{numberOf, placeOf, ask, isDone, movedTo, Fits, ask-done, done-is, fits-ask}
+use Rattle.answers.specs.Answer.{numberOf, ask, isDone, Fits, ask-done, done-is, fits-ask}
 
 -- the first of n pieces that is refused, n where none is
 unfoldable pub firstRefused : ℕ → (ℕ → Answer) → ℕ

@@ -12,11 +12,6 @@ abbrev pub pick : {A : Type 0} → Bool → A → A → A
 pick true a b = a
 pick false a b = b
 
--- what was picked is not the second
-pub pick-yes : {A : Type 0} (b : Bool) (x y z : A) → pick b x y ≡ z → (y ≡ z → ⊥) → (b ≡ true) × (x ≡ z)
-pick-yes true x y z e n = (refl, e)
-pick-yes false x y z e n = absurd (n e)
-
 -- a test as a number: 1 where it holds
 abbrev pub bool : Bool → ℕ
 bool true = 1

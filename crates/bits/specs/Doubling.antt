@@ -1,6 +1,6 @@
 -- Sums of digits by doubling: a number whose digits are sums of n digits, plus itself shifted down past them, has the sums of 2 n.
 -- Digits are counted from below.
-use mathlib.Core.Path.{_≡_, refl, sym, ap, ap₂, _∙_}
+use mathlib.Core.Path.{_≡_, sym, ap, ap₂, _∙_}
 use Prim.Native.Nat.{ℕ, zero, suc, _+_, _*_, _/_, _%_, _^_}
 use native.Mathlib.Omega.{arith}
 use native.Mathlib.Nat.{add-zero, add-suc, mul-add}

@@ -1,6 +1,6 @@
 -- The zeros in front of a number's first one.
 use mathlib.Core.Path.{_≡_, sym, ap, _∙_}
-use Prim.Native.Nat.{ℕ, suc, _+_, _-_, _*_, _/_, _%_, _^_, _≤_, _<_}
+use Prim.Native.Nat.{ℕ, suc, _-_, _*_, _/_, _%_, _^_, _≤_, _<_}
 use native.Mathlib.Omega.{arith}
 use native.Mathlib.Nat.{pow-suc, zero-div, div-eq-of-lt, div-lt-iff-lt-mul, le-div-iff-mul-le}
 use lib.Pow.{pow-pos, pow-mono}

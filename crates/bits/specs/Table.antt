@@ -3,11 +3,11 @@ use mathlib.Core.Path.{_≡_, refl, sym, ap, ap₂, _∙_}
 use mathlib.Core.Bool.{Bool, true, false, _||_, true≢false, false≢true}
 use mathlib.Core.List.{List, [], _∷_, _++_, append-nil}
 use mathlib.Core.Logic.{⊎-elim}
-use Prim.Native.Nat.{ℕ, zero, suc, _+_, _-_, _≤_, _<_}
+use Prim.Native.Nat.{ℕ, zero, suc, _+_, _≤_, _<_}
 use native.Mathlib.Omega.{arith}
 use lib.Dec.{T}
 use lib.ListN.{length, getD, set, take, drop}
-use lib.Seq.{ext-getD, length-take-le, getD-take, take-length, drop-length, getD-set-same, getD-set-other}
+use lib.Seq.{ext-getD, take-length, drop-length, getD-set-same, getD-set-other}
 use Rattle.bits.specs.Choice.{lt-or-le, eq-or-ne}
 
 -- the list f 0, f 1, .. f (n - 1)
@@ -38,10 +38,6 @@ tab-made n f xs e h =
     ext-getD 0 xs (tab n f) (e ∙ sym (length-tab n f)) (λ i l.
     let k : i < n = omega arith in
     h i k ∙ sym (getD-tab n f i k))
-
--- so is the front of a longer list
-pub front-made : (n : ℕ) (f : ℕ → ℕ) (xs : List ℕ) → n ≤ length xs → ((i : ℕ) → i < n → getD xs i 0 ≡ f i) → take n xs ≡ tab n f
-front-made n f xs l h = tab-made n f (take n xs) (length-take-le n xs l) (λ i k. getD-take n xs i 0 k ∙ h i k)
 
 -- functions that agree make the same list
 pub tab-same : (n : ℕ) (f g : ℕ → ℕ) → ((i : ℕ) → i < n → f i ≡ g i) → tab n f ≡ tab n g

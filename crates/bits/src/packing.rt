@@ -1,9 +1,8 @@
-// Packed bytes to one bit a byte, and back.
+// Bits of packed bytes, fields and numbers of them, and bits one to a place packed.
 ghost use mathlib.Core.Path.{_≡_};
 ghost use Prim.Native.Nat.{ℕ, _+_, _*_, _^_, _≤_, _<_};
 ghost use lib.ListN.{length, getD};
 ghost use Rattle.bits.specs.Pack.{val, bitAt, bitOf, bytesOf};
-ghost use Rattle.bits.specs.Loops.{Spread};
 ghost use Rattle.bits.specs.Put.{putBit};
 ghost use Rattle.bits.specs.Stretch.{Laid};
 
@@ -60,46 +59,8 @@ pub fn put_eight(out: &mut [u8], at: usize, v: u64)
     }
 }
 
-// The lowest `width` bits of v, the highest first, one to a place from `at` on.
-pub fn put_number(out: &mut [u8], at: usize, width: usize, v: u64)
-    requires { ⌜ (at + width ≤ length (now out)) × (width ≤ 64) ⌝ }
-    ensures { λ _. ⌜ Spread (now (out .entry)) at width v width (now (out .exit)) ⌝ }
-{
-    let mut t = 0usize;
-    while t < width {
-        out[at + t] = ((v >> (width - 1 - t)) & 1) as u8;
-        t += 1;
-    }
-}
-
-// The bits of the first `whole` bytes.
-fn unpack_bytes(packed: &[u8], whole: usize, out: &mut [u8])
-    requires { ⌜ (whole ≤ length (now packed)) × (8 * whole ≤ length (now out)) ⌝ }
-    ensures { λ _. ⌜ ((k : ℕ) → k < 8 * whole → getD (now (out .exit)) k 0 ≡ bitAt (now (packed .entry)) k) ⌝ }
-{
-    let mut i = 0;
-    while i < whole {
-        put_number(out, 8 * i, 8, packed[i] as u64);
-        i += 1;
-    }
-}
-
-// The first n bits, one to a place.
-pub fn unpack(packed: &[u8], n: usize, out: &mut [u8])
-    requires { ⌜ (n ≤ 8 * length (now packed)) × (n ≤ length (now out)) ⌝ }
-    ensures { λ _. ⌜ ((k : ℕ) → k < n → getD (now (out .exit)) k 0 ≡ bitAt (now (packed .entry)) k) ⌝ }
-{
-    let whole = n / 8;
-    unpack_bytes(packed, whole, out);
-    let mut j = 8 * whole;
-    while j < n {
-        out[j] = bit_at(packed, j);
-        j += 1;
-    }
-}
-
 // The number that n bits make, from `at` on.
-pub fn number(bits: &[u8], at: usize, n: usize) -> u64
+fn number(bits: &[u8], at: usize, n: usize) -> u64
     requires { ⌜ (at + n ≤ length (now bits)) × (n ≤ 32) × ((i : ℕ) → getD (now bits) i 0 < 2) ⌝ }
     ensures { λ r. ⌜ r ≡ val (λ t. getD (now (bits .entry)) (at + t) 0) n ⌝ }
 {

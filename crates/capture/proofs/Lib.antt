@@ -1,3 +1,4 @@
 pub mod Taken
 pub mod Passing
 pub mod Once
+pub mod Said

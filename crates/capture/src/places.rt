@@ -1,6 +1,6 @@
 // Question 12, and the words: a place that is hit has a symbol of theirs, and the others hold 0.
 ghost use mathlib.Core.Path.{_≡_};
-ghost use Prim.Native.Nat.{ℕ, _+_, _-_, _*_, _%_, _≤_, _<_};
+ghost use Prim.Native.Nat.{_+_, _-_, _*_, _%_, _≤_, _<_};
 ghost use Rattle.bits.specs.Choice.{bool};
 ghost use Rattle.bits.specs.First.{upTo};
 ghost use Rattle.plan.specs.Plan.{unit};

@@ -1,6 +1,6 @@
 -- What the calls ask of their numbers.
 use mathlib.Core.Path.{_≡_}
-use Prim.Native.Nat.{ℕ, _*_, _%_, _^_, _≤_, _<_}
+use Prim.Native.Nat.{ℕ, _%_, _^_, _≤_, _<_}
 
 -- N and B of a header, fewer symbols than any run has slots, and a place with its remainder modulo N
 pub record Placing (rows step total x r : ℕ) : Type 0 where

@@ -1,15 +1,15 @@
 -- Laws of step 8: the symbols of words, and the words of symbols.
-use mathlib.Core.Path.{_≡_, refl, sym, ap, ap₂, _∙_}
+use mathlib.Core.Path.{_≡_, sym, ap, ap₂, _∙_}
 use mathlib.Core.List.{List}
 use mathlib.Core.Logic.{⊎-elim}
 use Prim.Native.Nat.{ℕ, _+_, _-_, _*_, _/_, _%_, _^_, _≤_, _<_}
 use native.Mathlib.Omega.{arith}
 use native.Mathlib.Nat.{le-refl, mul-le-mul, mul-comm, mul-assoc, mul-add, mod-lt, div-add-mod', div-lt-iff-lt-mul}
 use lib.Arith.{digits-lt, digits-div, digits-mod}
-use lib.ListN.{length, getD, take, drop}
+use lib.ListN.{length, getD, drop}
 use lib.Seq.{getD-take, getD-drop}
 use Rattle.bits.specs.Choice.{lt-or-le, eq-or-ne}
-use Rattle.bits.specs.Pack.{val, bitAt, Bits, Bytes, val-lt, val-same, val-bits, bit-lt, bit-val, length-bytes, bytes-are, bit-bytes, bytes-made}
+use Rattle.bits.specs.Pack.{val, bitAt, Bits, Bytes, val-lt, val-same, val-bits, bit-lt, bit-val, bytes-are, bit-bytes, bytes-made}
 use Rattle.bits.specs.Pieces.{piece}
 use Rattle.sizes.specs.Sizes.{wordBits, wordBytes}
 use Rattle.channel.specs.Channel.{dataAt, wordBit, wordOf}
@@ -54,10 +54,6 @@ symbols-least bits symbols size =
 pub word-bit-lt : (bits symbols : ℕ) (symbol : ℕ → ℕ) (j : ℕ) → Bits (wordBit bits symbols symbol j)
 unfolding wordBit
 word-bit-lt bits symbols symbol j y = omega arith
-
-pub word-length : (bits symbols : ℕ) (symbol : ℕ → ℕ) (j : ℕ) → length (wordOf bits symbols symbol j) ≡ wordBytes
-unfolding wordOf
-word-length bits symbols symbol j = length-bytes wordBytes (wordBit bits symbols symbol j)
 
 pub word-bytes : (bits symbols : ℕ) (symbol : ℕ → ℕ) (j : ℕ) → Bytes (wordOf bits symbols symbol j)
 unfolding wordOf

@@ -1,7 +1,7 @@
 // Step 9, the channel interleaver: which symbol goes to a place, and ways through the places that
 // need no division. Step 8 undone: symbols laid into words.
 ghost use mathlib.Core.Path.{_≡_};
-ghost use Prim.Native.Nat.{ℕ, _+_, _^_, _%_, _≤_, _<_};
+ghost use Prim.Native.Nat.{_+_, _^_, _%_, _≤_, _<_};
 ghost use Rattle.channel.specs.Channel.{hitBy};
 ghost use Rattle.channel.specs.Needs.{Placing};
 ghost use Rattle.channel.specs.Putting.{Puts, Put};

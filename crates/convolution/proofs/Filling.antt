@@ -1,21 +1,14 @@
--- Places filled a turn at a time, and the turn of three coded bits.
-use mathlib.Core.Path.{_≡_, refl, ap, _∙_}
+-- Places filled from the front, one at a time or several.
+use mathlib.Core.Path.{_≡_, refl, sym, ap, _∙_}
 use mathlib.Core.List.{List}
 use mathlib.Core.Logic.{⊎-elim}
-use Prim.Native.Nat.{ℕ, _+_, _-_, _*_, _≤_, _<_}
+use Prim.Native.Nat.{ℕ, _+_, _-_, _≤_, _<_}
 use native.Mathlib.Omega.{arith}
 use lib.ListN.{length, getD, set, length-set}
-use Rattle.bits.specs.Choice.{lt-or-le}
+use lib.Seq.{getD-set-same, getD-set-other}
+use Rattle.bits.specs.Choice.{lt-or-le, eq-or-ne}
 use Rattle.bits.specs.Table.{tab, tab-made, fill}
-use Rattle.convolution.specs.Code.{first, second, encode, third-first, third-second, third-third, two-first, two-second, two-odd}
-use Rattle.convolution.specs.Turns.{putTwo, putThree}
-
-pub put-two : (f : ℕ → ℕ) (xs : List ℕ) (i a b : ℕ) → a ≡ f i → b ≡ f (i + 1) → set (set xs i a) (i + 1) b ≡ putTwo xs i f
-put-two f xs i a b ea eb = rw (ea, eb) refl
-
-pub put-three : (f : ℕ → ℕ) (xs : List ℕ) (i a b c : ℕ) → a ≡ f i → b ≡ f (i + 1) → c ≡ f (i + 2)
-    → set (set (set xs i a) (i + 1) b) (i + 2) c ≡ putThree xs i f
-put-three f xs i a b c ea eb ec = rw (ea, eb, ec) refl
+use Rattle.convolution.specs.Turns.{Put}
 
 -- of n places, those below i hold f's values
 pub record Filled (f : ℕ → ℕ) (n : ℕ) (xs : List ℕ) (i : ℕ) : Type 0 where
@@ -34,47 +27,53 @@ module _ (f : ℕ → ℕ) (n : ℕ) (xs ys : List ℕ) where
       let b : i < length xs = omega (arith, h .size) in
       rw m (record { size = length-set xs i v ∙ h .size; below = fill xs f i v b e (h .below) })
 
-module _ (f : ℕ → ℕ) (n : ℕ) (xs ys : List ℕ) (q : ℕ) where
-  pub fill-two : 2 * q + 2 ≤ n → ys ≡ putTwo xs (2 * q) f → Filled f n xs (2 * q) → Filled f n ys (2 * (q + 1))
-  fill-two l m h =
-      let i : ℕ = 2 * q in
-      let one = fill-one f n xs (set xs i (f i)) i (f i) (omega arith) refl refl h in
-      let two = fill-one f n (set xs i (f i)) ys (i + 1) (f (i + 1)) (omega arith) refl m one in
-      let e : i + 1 + 1 ≡ 2 * (q + 1) = omega arith in
-      rw e at two
+  -- the places that were put behind those that are filled
+  pub fill-put : (i m : ℕ) (g : ℕ → ℕ) → Put xs i m g ys → ((t : ℕ) → t < m → g t ≡ f (i + t)) → Filled f n xs i → Filled f n ys (i + m)
+  fill-put i m g p same h =
+      record {
+        size = p .long ∙ h .size;
+        below = λ k b. ⊎-elim
+            (λ (l : k < i). p .earlier k l ∙ h .below k l)
+            (λ (l : i ≤ k).
+            let e : i + (k - i) ≡ k = omega arith in
+            ap (λ (j : ℕ). getD ys j 0) (sym e) ∙ p .here (k - i) (omega arith) ∙ same (k - i) (omega arith) ∙ ap f e)
+            (lt-or-le k i);
+      }
 
-  pub fill-three : 3 * q + 3 ≤ n → ys ≡ putThree xs (3 * q) f → Filled f n xs (3 * q) → Filled f n ys (3 * (q + 1))
-  fill-three l m h =
-      let i : ℕ = 3 * q in
-      let one = fill-one f n xs (set xs i (f i)) i (f i) (omega arith) refl refl h in
-      let two = fill-one f n (set xs i (f i)) (putTwo xs i f) (i + 1) (f (i + 1)) (omega arith) refl refl one in
-      let e : i + 1 + 1 ≡ i + 2 = omega arith in
-      let three = fill-one f n (putTwo xs i f) ys (i + 2) (f (i + 2)) (omega arith) refl m (rw e at two) in
-      let g : i + 2 + 1 ≡ 3 * (q + 1) = omega arith in
-      rw g at three
+-- ---- places that are put
 
--- ---- a turn of three coded bits: at 1/3 it is made of one input bit, at 2/3 of two
+pub put-none : (before : List ℕ) (at : ℕ) (f : ℕ → ℕ) → Put before at 0 f before
+put-none before at f = record { long = refl; earlier = λ k l. refl; here = λ t l. absurd (omega arith) }
 
-module _ (x : ℕ → ℕ) (per q : ℕ) (low : 1 ≤ per) (high : per ≤ 2) where
-  by-per : (P : ℕ → Type 0) → P 1 → P 2 → P per
-  by-per P one two =
-      ⊎-elim (λ (l : per < 2). let e : 1 ≡ per = omega arith in rw e at one) (λ (l : 2 ≤ per). let e : 2 ≡ per = omega arith in rw e at two) (lt-or-le per 2)
+pub put-more : (before after : List ℕ) (at n v : ℕ) (f : ℕ → ℕ) → at + n < length after → v ≡ f n → Put before at n f after
+    → Put before at (n + 1) f (set after (at + n) v)
+put-more before after at n v f l e p =
+    record {
+      long = length-set after (at + n) v ∙ p .long;
+      earlier = λ k b. getD-set-other after (at + n) k v 0 (λ q. omega arith) ∙ p .earlier k b;
+      here = λ t b. ⊎-elim
+          (λ (q : t ≡ n). rw q (getD-set-same after (at + n) v 0 l ∙ e))
+          (λ (q : t ≡ n → ⊥). getD-set-other after (at + n) (at + t) v 0 (λ r. q (omega arith)) ∙ p .here t (omega arith))
+          (eq-or-ne t n);
+    }
 
-  pub threes-first : encode (2 * per - 2) x (3 * q) ≡ first x (per * q)
-  threes-first =
-      let e : q ≡ 1 * q = omega arith in
-      by-per (λ (p : ℕ). encode (2 * p - 2) x (3 * q) ≡ first x (p * q)) (third-first x q ∙ ap (first x) e) (two-first x q)
+-- more behind those
+pub put-on : (before middle after : List ℕ) (at m n : ℕ) (f g : ℕ → ℕ) → Put before at m f middle → Put middle (at + m) n g after
+    → ((u : ℕ) → u < n → g u ≡ f (m + u)) → Put before at (m + n) f after
+put-on before middle after at m n f g p q same =
+    record {
+      long = q .long ∙ p .long;
+      earlier = λ k b. q .earlier k (omega arith) ∙ p .earlier k b;
+      here = λ t b. ⊎-elim
+          (λ (l : t < m). q .earlier (at + t) (omega arith) ∙ p .here t l)
+          (λ (l : m ≤ t).
+          let e : at + t ≡ at + m + (t - m) = omega arith in
+          let d : m + (t - m) ≡ t = omega arith in
+          ap (λ (i : ℕ). getD after i 0) e ∙ q .here (t - m) (omega arith) ∙ same (t - m) (omega arith) ∙ ap f d)
+          (lt-or-le t m);
+    }
 
-  pub threes-second : encode (2 * per - 2) x (3 * q + 1) ≡ second x (per * q)
-  threes-second =
-      let e : q ≡ 1 * q = omega arith in
-      by-per (λ (p : ℕ). encode (2 * p - 2) x (3 * q + 1) ≡ second x (p * q)) (third-second x q ∙ ap (second x) e) (two-second x q)
-
-  pub threes-last : encode (2 * per - 2) x (3 * q + 2) ≡ second x (per * q + per - 1)
-  threes-last =
-      let e : q ≡ 1 * q + 1 - 1 = omega arith in
-      let f : 2 * q + 1 ≡ 2 * q + 2 - 1 = omega arith in
-      by-per (λ (p : ℕ). encode (2 * p - 2) x (3 * q + 2) ≡ second x (p * q + p - 1)) (third-third x q ∙ ap (second x) e) (two-odd x q ∙ ap (second x) f)
-
-  pub threes-fit : q < 5040 → per * q + per ≤ 5040 * per
-  threes-fit l = by-per (λ (p : ℕ). p * q + p ≤ 5040 * p) (omega arith) (omega arith)
+-- the same values
+pub put-same : (before after : List ℕ) (at n : ℕ) (f g : ℕ → ℕ) → Put before at n f after → ((t : ℕ) → t < n → f t ≡ g t) → Put before at n g after
+put-same before after at n f g p same =
+    record { long = p .long; earlier = p .earlier; here = λ t b. p .here t b ∙ same t b }

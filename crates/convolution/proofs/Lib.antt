@@ -1,5 +1,4 @@
-pub mod Taps
 pub mod Filling
-pub mod Decoding
+pub mod Turning
 pub mod Rates
-pub mod Agreeing
+pub mod Ending

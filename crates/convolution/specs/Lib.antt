@@ -2,5 +2,5 @@ pub mod Code
 pub mod Distance
 pub mod Near
 pub mod Needs
+pub mod Ends
 pub mod Turns
-pub mod Compare

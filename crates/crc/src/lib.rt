@@ -20,15 +20,15 @@ fn advance_bit(r: u32, b: u32) -> u32
     (r << 1) ^ (((r >> 31) ^ b) * 0x2004_4009)
 }
 
-// What the 64 bits of v make of a register of zeros: the sum of what each four of them and the zeros behind them make of it.
-fn sixteen(table: &[u32], v: u64) -> u32
+// What the 64 bits of v make of a register of zeros: the sum of what each six of them and the zeros behind them make of it.
+fn eleven(table: &[u32], v: u64) -> u32
     requires { ⌜ Tables (now table) ⌝ }
     ensures { λ r. ⌜ r ≡ advances 0 (bitOf v) 64 ⌝ }
 {
     let mut r: u32 = 0;
     let mut k = 0usize;
-    while k < 16 {
-        r = r ^ table[16 * k + ((v >> (4 * k)) % 16) as usize];
+    while k < 11 {
+        r = r ^ table[64 * k + ((v >> (6 * k)) % 64) as usize];
         k += 1;
     }
     r
@@ -39,7 +39,7 @@ fn two(table: &[u32], b: u32) -> u32
     requires { ⌜ Tables (now table) × (b < 256) ⌝ }
     ensures { λ r. ⌜ r ≡ change b ⌝ }
 {
-    table[(b % 16) as usize] ^ table[(16 + b / 16) as usize]
+    table[(b % 64) as usize] ^ table[(64 + b / 64) as usize]
 }
 
 // The register after the first 8 n bytes: it acts as if it were added to the first 32 bits that come.
@@ -50,7 +50,7 @@ fn by_eights(block: &[u8], table: &[u32], n: usize) -> u32
     let mut r: u32 = 0xFFFF_FFFF;
     let mut j = 0;
     while j < n {
-        r = sixteen(table, ((r as u64) << 32) ^ packing::eight(block, 8 * j));
+        r = eleven(table, ((r as u64) << 32) ^ packing::eight(block, 8 * j));
         j += 1;
     }
     r

@@ -4,7 +4,7 @@ use mathlib.Core.List.{List}
 use mathlib.Core.Logic.{⊎-elim}
 use Prim.Native.Nat.{ℕ, _+_, _-_, _*_, _/_, _%_, _^_, _≤_, _<_}
 use native.Mathlib.Omega.{arith}
-use native.Mathlib.Nat.{zero-div}
+use native.Mathlib.Nat.{zero-div, mul-le-mul}
 use lib.Dec.{leb}
 use lib.ListN.{length, getD, set, length-set, List·getD-eq-default}
 use lib.Seq.{getD-set-same, getD-set-other}
@@ -14,6 +14,11 @@ use Rattle.bits.specs.Change.{Ends}
 use Rattle.bits.specs.Pack.{val, bitAt, bytesOf, cut, Bits, Bytes, val-same, bit-lt, bit-bytes, bytes-made, bytes-by-byte, cut-in, cut-past, cut-same}
 use Rattle.bits.specs.Parts.{byte-val, val-shift}
 use Rattle.bits.specs.Stretch.{Laid}
+use Rattle.header.specs.declared.Fields.{Fields}
+use Rattle.quantities.specs.Quantities.{symbolsPerWord, symbolCount, slotsPerSymbol, slotCount}
+use Rattle.quantities.specs.Valid.{Valid}
+use Rattle.quantities.specs.Shape.{symbols-least, group-least}
+use Rattle.quantities.specs.Bounds.{lines-least}
 
 -- the last byte of a capture, shifted up to slot y: behind it all is zero
 pub end-byte : (b : List ℕ) (y : ℕ) → getD b (y / 8) 0 < 256 → length b ≤ y / 8 + 1
@@ -74,3 +79,11 @@ room-is s count end h =
     let c : end < s + count = omega arith in
     lt-leb s (end - count) a ∙ sym (lt-leb (s + count) end c))
     (lt-or-le s (end - count + 1))
+
+-- a run has slots
+pub slots-some : (f : Fields) → Valid f → 1 ≤ f .copies → 1 ≤ slotCount f
+unfolding slotCount symbolCount
+slots-some f v k =
+    let s : 1 ≤ symbolsPerWord f + f .markers = let l = symbols-least f (v .shaped) in omega arith in
+    let g : 1 ≤ slotsPerSymbol f = let l = group-least f (v .shaped) in omega arith in
+    mul-le-mul {n₁ = 1} (mul-le-mul {n₁ = 1} (mul-le-mul {n₁ = 1} (lines-least f v) s) k) g

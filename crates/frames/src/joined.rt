@@ -5,7 +5,7 @@ use bits::places::Place;
 use bits::stretch;
 ghost use mathlib.Core.Path.{_≡_};
 ghost use mathlib.Core.Bool.{true};
-ghost use Prim.Native.Nat.{_+_, _*_, _^_, _≤_, _<_};
+ghost use Prim.Native.Nat.{_+_, _*_, _≤_, _<_};
 ghost use Rattle.bits.specs.Pack.{val};
 ghost use Rattle.bits.specs.Pieces.{piece};
 ghost use Rattle.sizes.specs.Rate.{infoBits, blockBytes};

@@ -1,23 +1,20 @@
 -- The laws of seven bits as one number, of the columns, and of the bytes that take each bit to its place.
 use mathlib.Core.Path.{_≡_, refl, sym, ap, ap₂, _∙_}
-use mathlib.Core.Bool.{Bool}
 use mathlib.Core.List.{List}
 use mathlib.Core.Logic.{⊎-elim}
 use Prim.Native.Nat.{ℕ, zero, suc, _+_, _-_, _*_, _/_, _%_, _^_, _≤_, _<_}
 use native.Mathlib.Omega.{arith}
 use native.Mathlib.Nat.{mod-lt}
 use lib.Dec.{eqb, eqb→eq}
-use lib.ListN.{length, getD, set, length-set}
-use lib.Seq.{getD-set-same, getD-set-other}
+use lib.ListN.{length, getD}
 use borrow.Author.Tests.{eq-eqb, ne-eqb}
 use Rattle.bits.specs.Choice.{pick, lt-or-le, eq-or-ne}
-use Rattle.bits.specs.Change.{Copied}
 use Rattle.bits.specs.Table.{below-all, tab, length-tab, getD-tab}
 use Rattle.bits.specs.Pack.{val, Bits, val-lt, val-same, val-bits, bit-val}
 use Rattle.sizes.specs.Sizes.{wordBits}
 use Rattle.interleaver.specs.Interleaver.{place, placeBack}
-use Rattle.interleaver.specs.Needs.{Row}
-use Rattle.interleaver.specs.Sevens.{seven, turn, Filled, Turned, columnOf, Masks, First, roll, Rolled, upOut, codedOut}
+use Rattle.sevens.specs.Sevens.{turn, roll, Rolled, Light, mixSum, mixedAt, Filled}
+use Rattle.interleaver.specs.Columns.{seven, Row, columnOf, First, upOut, codedOut}
 
 -- ---- seven bits
 
@@ -48,22 +45,6 @@ seven-turn f b p =
     val-same (λ k. f ((p + 2160 + 2160 * (6 - k)) % wordBits)) (λ k. h ((7 - k) % 7)) 7 (λ k l. ap f (omega arith))
     ∙ turned-val h (b ((p + 2160 * 0) % wordBits))
 
--- one number more, turned
-pub turned-none : (at n : ℕ) (xs : List ℕ) → Turned at n 0 xs xs
-turned-none at n xs = record { long = refl; earlier = λ k l. refl; here = λ x l. absurd (omega arith) }
-
-pub turned-more : (at n m v : ℕ) (before after : List ℕ) → m < n → at + n + m < length after → v ≡ turn (getD after (at + m) 0) → Turned at n m before after
-    → Turned at n (m + 1) before (set after (at + n + m) v)
-turned-more at n m v before after h l e t =
-    record {
-      long = length-set after (at + n + m) v ∙ t .long;
-      earlier = λ k a. getD-set-other after (at + n + m) k v 0 (λ q. omega arith) ∙ t .earlier k a;
-      here = λ x a. ⊎-elim
-          (λ (q : x ≡ m). rw q (getD-set-same after (at + n + m) v 0 l ∙ e ∙ ap turn (t .earlier (at + m) (omega arith))))
-          (λ (q : x ≡ m → ⊥). getD-set-other after (at + n + m) (at + n + x) v 0 (λ w. q (omega arith)) ∙ t .here x (omega arith))
-          (eq-or-ne x m);
-    }
-
 -- bytes with the same bits are the same
 pub byte-same : (a b : ℕ) → a < 256 → b < 256 → ((d : ℕ) → d < 8 → a / 2 ^ d % 2 ≡ b / 2 ^ d % 2) → a ≡ b
 byte-same a b ha hb h =
@@ -71,16 +52,7 @@ byte-same a b ha hb h =
     ∙ val-same (λ i. a / 2 ^ (8 - 1 - i) % 2) (λ i. b / 2 ^ (8 - 1 - i) % 2) 8 (λ i l. h (8 - 1 - i) (omega arith))
     ∙ val-bits b 8 hb
 
--- ---- seven bits, each in its place
-
-unfoldable pub mixSum : (ℕ → ℕ) → ℕ → ℕ → ℕ
-mixSum h u zero = 0
-mixSum h u (suc n) = mixSum h u n + h n * 2 ^ ((n + u) % 7)
-
-pub mix-le : (h : ℕ → ℕ) (u n d : ℕ) → mixSum h u n ≤ mixSum h u (n + d)
-unfolding mixSum
-mix-le h u n zero = let e : n + 0 ≡ n = omega arith in rw e (omega arith)
-mix-le h u n (suc d) = let e : n + suc d ≡ suc (n + d) = omega arith in rw e (let r = mix-le h u n d in omega arith)
+-- ---- seven bits, each times a power of 2
 
 below-seven : (P : ℕ → Type 0) → P 0 → P 1 → P 2 → P 3 → P 4 → P 5 → P 6 → (u : ℕ) → u < 7 → P u
 below-seven P a b c d e f g zero l = a
@@ -92,23 +64,23 @@ below-seven P a b c d e f g (suc (suc (suc (suc (suc zero))))) l = f
 below-seven P a b c d e f g (suc (suc (suc (suc (suc (suc zero)))))) l = g
 below-seven P a b c d e f g (suc (suc (suc (suc (suc (suc (suc u))))))) l = absurd (omega arith)
 
-mix-all : (h : ℕ → ℕ) (u : ℕ) → u < 7 → mixSum h u 7 ≡ val (λ k. h ((13 - k - u) % 7)) 7
-unfolding mixSum val
-mix-all h = below-seven (λ u. mixSum h u 7 ≡ val (λ k. h ((13 - k - u) % 7)) 7) (omega arith) (omega arith) (omega arith) (omega arith) (omega arith) (omega arith) (omega arith)
+abbrev power : ℕ → ℕ → ℕ
+power u i = 2 ^ ((i + u) % 7)
 
-pub mix-seven : (f : ℕ → ℕ) (x u : ℕ) → x < 2160 → u < 7 → mixSum (λ i. f (x + 2160 * i)) u 7 ≡ seven f (x + 2160 * (7 - u))
+mix-all : (h : ℕ → ℕ) (u : ℕ) → u < 7 → mixSum h (power u) 7 ≡ val (λ k. h ((13 - k - u) % 7)) 7
+unfolding mixSum val
+mix-all h = below-seven (λ u. mixSum h (power u) 7 ≡ val (λ k. h ((13 - k - u) % 7)) 7) (omega arith) (omega arith) (omega arith) (omega arith) (omega arith) (omega arith) (omega arith)
+
+mix-seven : (f : ℕ → ℕ) (x u : ℕ) → x < 2160 → u < 7 → mixSum (λ i. f (x + 2160 * i)) (power u) 7 ≡ seven f (x + 2160 * (7 - u))
 unfolding seven
 mix-seven f x u l h =
     mix-all (λ i. f (x + 2160 * i)) u h
     ∙ val-same (λ k. f (x + 2160 * ((13 - k - u) % 7))) (λ k. f ((x + 2160 * (7 - u) + 2160 * (6 - k)) % wordBits)) 7 (λ k m. ap f (omega arith))
 
--- it fits seven bits
-pub mix-fits : (f : ℕ → ℕ) → Bits f → (x u i : ℕ) → x < 2160 → u < 7 → i < 7 → mixSum (λ i. f (x + 2160 * i)) u i + f (x + 2160 * i) * 2 ^ ((i + u) % 7) < 128
+mix-same : (h w w' : ℕ → ℕ) (n : ℕ) → ((i : ℕ) → i < n → w i ≡ w' i) → mixSum h w n ≡ mixSum h w' n
 unfolding mixSum
-mix-fits f b x u i hx hu hi =
-    let e : suc i + (6 - i) ≡ 7 = omega arith in
-    let m : mixSum (λ i. f (x + 2160 * i)) u (suc i) ≤ mixSum (λ i. f (x + 2160 * i)) u 7 = rw e at (mix-le (λ i. f (x + 2160 * i)) u (suc i) (6 - i)) in
-    omega (arith, mix-seven f x u hx hu, seven-lt f b (x + 2160 * (7 - u)))
+mix-same h w w' zero e = refl
+mix-same h w w' (suc n) e = ap₂ (λ (a b : ℕ). a + h n * b) (mix-same h w w' n (λ i l. e i (omega arith))) (e n (omega arith))
 
 -- ---- columns: each of the 72 is taken once, a test of all of them, which antt computes
 
@@ -148,50 +120,13 @@ columns-more f c y v old new h e n so-far l =
         absurd (q (sym (place-column (y % 72) (omega arith)) ∙ ap (λ (j : ℕ). place j % 72) w)))
         (lt-or-le (columnOf (y % 72)) c)
 
--- a column of the first two rows
-one-up : (e : ℕ) → e < 7 → 1 * 2 ^ e % 2 ^ 8 ≡ 2 ^ e
-one-up e h = eqb→eq (1 * 2 ^ e % 2 ^ 8) (2 ^ e) (below-all 7 (λ e. eqb (1 * 2 ^ e % 2 ^ 8) (2 ^ e)) tt e h)
-
-pub mask-put : (mask : List ℕ) (b e : ℕ) → length mask ≡ 1008 → b < 72 → e < 7 → (y : ℕ) → y < 144
-    → getD (set (set mask b (1 * 2 ^ e % 2 ^ 8)) (b + 72) (1 * 2 ^ e % 2 ^ 8)) y 0 ≡ pick (eqb (y % 72) b) (2 ^ e) (getD mask y 0)
-mask-put mask b e n hb he y l =
-    let v : ℕ = 1 * 2 ^ e % 2 ^ 8 in
-    let room : b + 72 < length (set mask b v) = omega (arith, length-set mask b v) in
-    ⊎-elim
-    (λ (q : y ≡ b + 72).
-    let w : y % 72 ≡ b = omega arith in
-    rw (eq-eqb (y % 72) b w, q) (getD-set-same (set mask b v) (b + 72) v 0 room ∙ one-up e he))
-    (λ (q : y ≡ b + 72 → ⊥). getD-set-other (set mask b v) (b + 72) y v 0 q ∙ ⊎-elim
-    (λ (z : y ≡ b).
-    let w : y % 72 ≡ b = omega arith in
-    rw (eq-eqb (y % 72) b w, z) (getD-set-same mask b v 0 (omega arith) ∙ one-up e he))
-    (λ (z : y ≡ b → ⊥). rw (ne-eqb (y % 72) b (other q z)) (getD-set-other mask b y v 0 z))
-    (eq-or-ne y b))
-    (eq-or-ne y (b + 72))
-  where
-    other : (y ≡ b + 72 → ⊥) → (y ≡ b → ⊥) → y % 72 ≡ b → ⊥
-    other q z w = ⊎-elim (λ (h : y < 72). z (omega arith)) (λ (h : 72 ≤ y). q (omega arith)) (lt-or-le y 72)
-
-pub rolled-none : (mask : List ℕ) → Rolled 0 mask mask
-rolled-none mask = record { long = refl; first = λ y l. refl; next = λ x l. absurd (omega arith) }
-
-pub rolled-more : (before after : List ℕ) (m v : ℕ) → m + 144 < length after → v ≡ roll (getD after m 0) → Rolled m before after
-    → Rolled (m + 1) before (set after (m + 144) v)
-rolled-more before after m v l e r =
-    record {
-      long = length-set after (m + 144) v ∙ r .long;
-      first = λ y h. apart y (λ q. omega arith) ∙ r .first y h;
-      next = λ x h. ⊎-elim
-          (λ (q : x ≡ m). rw q (getD-set-same after (m + 144) v 0 l ∙ e ∙ sym (ap roll (apart m (λ w. omega arith)))))
-          (λ (q : x ≡ m → ⊥). apart (x + 144) (λ w. q (omega arith)) ∙ r .next x (omega arith) ∙ sym (ap roll (apart x (λ w. omega arith))))
-          (eq-or-ne x m);
-    }
-  where
-    apart : (k : ℕ) → (k ≡ m + 144 → ⊥) → getD (set after (m + 144) v) k 0 ≡ getD after k 0
-    apart k q = getD-set-other after (m + 144) k v 0 q
-
 rolled-power : (a : ℕ) → a < 7 → roll (2 ^ a) ≡ 2 ^ ((a + 1) % 7)
 rolled-power a h = eqb→eq (roll (2 ^ a)) (2 ^ ((a + 1) % 7)) (below-all 7 (λ a. eqb (roll (2 ^ a)) (2 ^ ((a + 1) % 7))) tt a h)
+
+-- the masks by which the bits of column b go up by `up` b rows, for two rows of 72
+pub record Masks (up : ℕ → ℕ) (mask : List ℕ) : Type 0 where
+  pub size : length mask ≡ 1008
+  pub entry : (i y : ℕ) → i < 7 → y < 144 → getD mask (144 * i + y) 0 ≡ 2 ^ ((i + up (y % 72)) % 7)
 
 pub masks-rolled : (up : ℕ → ℕ) → ((b : ℕ) → up b < 7) → (before after : List ℕ) → First up before → Rolled 864 before after → Masks up after
 masks-rolled up small before after first r = record { size = r .long ∙ first .size; entry = entry }
@@ -210,21 +145,6 @@ masks-rolled up small before after first r = record { size = r .long ∙ first .
         ∙ rolled-power ((i + up (y % 72)) % 7) (omega arith)
         ∙ ap (λ (k : ℕ). 2 ^ k) u
 
--- ---- rows of nine bytes: one more is copied
-
-pub row-copied : (from before after : List ℕ) (g : ℕ → ℕ) (r at : ℕ) → Copied from at before (9 * r) 9 after → ((t : ℕ) → t < 9 → g (9 * r + t) ≡ at + t)
-    → ((k : ℕ) → k < 9 * r → getD before k 0 ≡ getD from (g k) 0) → (k : ℕ) → k < 9 * (r + 1) → getD after k 0 ≡ getD from (g k) 0
-row-copied from before after g r at c e h k l =
-    ⊎-elim
-    (λ (q : k < 9 * r). c .earlier k q ∙ h k q)
-    (λ (q : 9 * r ≤ k).
-    let t : ℕ = k - 9 * r in
-    let w : k ≡ 9 * r + t = omega arith in
-    ap (λ (j : ℕ). getD after j 0) w
-    ∙ c .here t (omega arith)
-    ∙ ap (λ (j : ℕ). getD from j 0) (sym (e t (omega arith)) ∙ ap g (sym w)))
-    (lt-or-le k (9 * r))
-
 -- ---- writing
 
 pub out-lt : (b : ℕ) → upOut b < 7
@@ -234,3 +154,27 @@ out-lt b = mod-lt (7 - place (columnOf b) / 2160) (omega arith)
 pub out-place : (c : ℕ) → c < 72 → upOut (place c % 72) ≡ (7 - place c / 2160) % 7
 unfolding upOut
 out-place c h = ap (λ (j : ℕ). (7 - place j / 2160) % 7) (column-place c h)
+
+-- masks of different bits fit a byte
+pub masks-light : (up : ℕ → ℕ) → ((b : ℕ) → up b < 7) → (mask : List ℕ) → Masks up mask → Light mask
+masks-light up small mask m =
+    record {
+      size = m .size;
+      fits = λ y l.
+          let u : ℕ = up (y % 72) in
+          let v : ℕ = val (λ k. 1) 7 in
+          let w : v < 128 = val-lt (λ k. 1) (λ k. omega arith) 7 in
+          omega (arith, mix-same (λ i. 1) (λ i. getD mask (144 * i + y) 0) (power u) 7 (λ i h. m .entry i y h l), mix-all (λ i. 1) u (small (y % 72)));
+    }
+
+-- with them the coded bits are mixed to the numbers that the columns ask for
+pub mixed-out : (coded mask v : List ℕ) → Masks upOut mask → Filled (mixedAt coded mask) v 2160 → Filled (codedOut (λ j. getD coded j 0)) v 2160
+unfolding mixedAt codedOut
+mixed-out coded mask v m h x l =
+    let f : ℕ → ℕ = λ j. getD coded j 0 in
+    let y : ℕ = x % 144 in
+    let col : y % 72 ≡ x % 72 = omega arith in
+    h x l
+    ∙ mix-same (λ i. f (x + 2160 * i)) (λ i. getD mask (144 * i + y) 0) (power (upOut (y % 72))) 7 (λ i k. m .entry i y k (omega arith))
+    ∙ mix-seven f x (upOut (y % 72)) l (out-lt (y % 72))
+    ∙ ap (λ (b : ℕ). seven f (x + 2160 * (7 - upOut b))) col

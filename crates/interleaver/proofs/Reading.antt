@@ -1,26 +1,26 @@
 -- The word, seven bits at a time, into the order of the coded bits.
-use mathlib.Core.Path.{_≡_, refl, sym, ap, ap₂, _∙_}
+use mathlib.Core.Path.{_≡_, sym, ap, ap₂, _∙_}
 use mathlib.Core.List.{List}
 use mathlib.Core.Logic.{⊎-elim}
 use Prim.Native.Nat.{ℕ, _+_, _-_, _*_, _/_, _%_, _^_, _≤_, _<_}
 use native.Mathlib.Omega.{arith}
 use native.Mathlib.Nat.{mod-lt, mod-eq-of-lt, pow-suc, zero-div, add-mod-mod, mod-add-mod, add-mul-mod-self-right}
 use lib.Bits.{bitAnd, and-high}
-use lib.Dec.{ltb, eqb, eqb→eq}
+use lib.Dec.{eqb, eqb→eq}
 use lib.ListN.{length, getD, set, replicate, length-replicate, getD-replicate, List·getD-eq-default}
 use lib.Pow.{pow-pos}
 use lib.Seq.{getD-set-same, getD-set-other}
 use borrow.Author.Tests.{lt-ltb, le-ltb, eq-eqb, ne-eqb}
 use Rattle.bits.specs.Choice.{pick, bit-cases, lt-or-le, eq-or-ne}
-use Rattle.bits.specs.Change.{Copied}
 use Rattle.bits.specs.Table.{below-all}
 use Rattle.bits.specs.Pack.{Bits, bitAt, bit-lt}
 use Rattle.sizes.specs.Sizes.{wordBits, wordBytes}
 use Rattle.interleaver.specs.Interleaver.{place, placeBack, place-lt, back-place, deinterleave}
-use Rattle.interleaver.specs.Planes.{Transposed}
-use Rattle.interleaver.specs.Sevens.{seven, turn, Filled, Turned, columnOf, rowIn, doubledAt, backRow, startIn, upIn, pickedIn, splitIn, codedIn}
+use Rattle.sevens.specs.Planes.{Transposed}
+use Rattle.sevens.specs.Sevens.{turn, Filled, doubledAt, nineOf, Starts, pickedAt, bitIn, splitAt}
+use Rattle.interleaver.specs.Columns.{seven, columnOf, backRow, startIn, upIn, codedIn}
+use Rattle.interleaver.proofs.Numbers.{Masks, seven-digit, seven-lt, seven-turn, byte-same, column-lt, column-place, place-column, columns-more}
 use Rattle.interleaver.proofs.Rows.{place-row}
-use Rattle.interleaver.proofs.Numbers.{seven-digit, seven-lt, seven-turn, byte-same, column-lt, column-place, place-column, columns-more}
 
 -- ---- bits
 
@@ -31,23 +31,18 @@ one-bit x d =
     let m : 2 ^ (1 + d) - 2 ^ d ≡ 2 ^ d = omega arith in
     ap (bitAnd x) (sym m) ∙ and-high x 1 d
 
-pub no-bit : (x d : ℕ) → bitAnd x (2 ^ d) ≡ 0 → 0 ≡ x / 2 ^ d % 2
-no-bit x d e =
-    ⊎-elim
-    (λ (q : x / 2 ^ d % 2 ≡ 0). sym q)
-    (λ (q : x / 2 ^ d % 2 ≡ 1).
+-- so the mask of bit d tells it
+bit-in : (x d : ℕ) → bitIn x (2 ^ d) ≡ x / 2 ^ d % 2
+unfolding bitIn
+bit-in x d =
     let p : 0 < 2 ^ d = pow-pos d in
-    let z : 0 ≡ 1 * 2 ^ d = sym e ∙ one-bit x d ∙ ap (λ (v : ℕ). v * 2 ^ d) q in
-    absurd (omega arith))
-    (bit-cases (x / 2 ^ d % 2) (omega arith))
-
-pub some-bit : (x d : ℕ) → 1 ≤ bitAnd x (2 ^ d) → 1 ≡ x / 2 ^ d % 2
-some-bit x d h =
     ⊎-elim
     (λ (q : x / 2 ^ d % 2 ≡ 0).
     let z : bitAnd x (2 ^ d) ≡ 0 = one-bit x d ∙ ap (λ (v : ℕ). v * 2 ^ d) q ∙ omega arith in
-    absurd (omega arith))
-    (λ (q : x / 2 ^ d % 2 ≡ 1). sym q)
+    rw (eq-eqb (bitAnd x (2 ^ d)) 0 z) (sym q))
+    (λ (q : x / 2 ^ d % 2 ≡ 1).
+    let z : bitAnd x (2 ^ d) ≡ 1 * 2 ^ d = one-bit x d ∙ ap (λ (v : ℕ). v * 2 ^ d) q in
+    rw (ne-eqb (bitAnd x (2 ^ d)) 0 (λ e. omega arith)) (sym q))
     (bit-cases (x / 2 ^ d % 2) (omega arith))
 
 -- a fresh array
@@ -57,35 +52,6 @@ fresh n k =
     (λ (h : k < n). getD-replicate {A = ℕ} n k 0 0 h)
     (λ (h : n ≤ k). List·getD-eq-default {A = ℕ} (replicate {A = ℕ} n 0) 0 (rw (length-replicate {A = ℕ} n 0) h))
     (lt-or-le k n)
-
--- ---- planes
-
--- a plane more, and its numbers turned
-pub doubled-more : (planes before copy after : List ℕ) (m : ℕ) → Copied planes (270 * m) before (540 * m) 270 copy → Turned (540 * m) 270 270 copy after
-    → Filled (doubledAt planes) before (540 * m) → (k : ℕ) → k < 540 * (m + 1) → getD after k 0 ≡ doubledAt planes k
-unfolding doubledAt
-doubled-more planes before copy after m c t h k l =
-    ⊎-elim
-    (λ (q : k < 540 * m). t .earlier k (omega arith) ∙ c .earlier k q ∙ h k q)
-    (λ (q : 540 * m ≤ k).
-    let x : ℕ = k % 540 in
-    let p : k / 540 ≡ m = omega arith in
-    let w : k ≡ 540 * m + x = omega arith in
-    ⊎-elim
-    (λ (z : x < 270).
-    ap (λ (j : ℕ). getD after j 0) w
-    ∙ t .earlier (540 * m + x) (omega arith)
-    ∙ c .here x z
-    ∙ sym (rw (lt-ltb x 270 z, p) refl))
-    (λ (z : 270 ≤ x).
-    let y : ℕ = x - 270 in
-    let u : 540 * m + x ≡ 540 * m + 270 + y = omega arith in
-    ap (λ (j : ℕ). getD after j 0) (w ∙ u)
-    ∙ t .here y (omega arith)
-    ∙ ap turn (c .here y (omega arith))
-    ∙ sym (rw (le-ltb x 270 z, p) refl))
-    (lt-or-le x 270))
-    (lt-or-le k (540 * m))
 
 -- ---- columns
 
@@ -123,6 +89,32 @@ start-more at c v size h e so-far b l k =
         rw (ne-eqb (b % 72) (place c % 72) (λ z. q (sym w ∙ z))) (getD-set-other at (place c % 72) b v 0 q))
         (eq-or-ne b (place c % 72))
 
+two-rows : (x : ℕ) → x % 144 % 72 ≡ x % 72
+two-rows x = omega arith
+
+thirty-rows : (x : ℕ) → x % 2160 % 72 ≡ x % 72
+thirty-rows x = omega arith
+
+-- what is picked and split are the coded bits
+pub starts-right : (at : List ℕ) → length at ≡ 72 → ((b : ℕ) → b < 72 → getD at b 0 ≡ startIn b) → Starts at
+starts-right at size h = record { size = size; room = λ b l. rw (h b l) (start-lt b) }
+
+pub given-bits : (v at seen mask coded : List ℕ) → ((b : ℕ) → b < 72 → getD at b 0 ≡ startIn b) → Masks upIn mask → Filled (pickedAt v at) seen 2160
+    → Filled (splitAt seen mask) coded wordBits → Filled (codedIn v) coded wordBits
+unfolding pickedAt splitAt codedIn
+given-bits v at seen mask coded start m p s x h =
+    let few : x / 2160 < 7 = omega arith in
+    let low : x % 144 < 144 = omega arith in
+    let y : ℕ = x % 144 in
+    let i : ℕ = x / 2160 in
+    let n : ℕ = x % 2160 / 72 in
+    let col : y % 72 ≡ x % 72 = two-rows x in
+    let b : x % 2160 % 72 ≡ x % 72 = thirty-rows x in
+    let number : getD seen (x % 2160) 0 ≡ getD v (9 * n + startIn (x % 72)) 0 =
+    p (x % 2160) (omega arith) ∙ ap (λ (k : ℕ). getD v (9 * n + k) 0) (ap (λ (k : ℕ). getD at k 0) b ∙ start (x % 72) (omega arith)) in
+    let bit : getD mask (144 * i + y) 0 ≡ 2 ^ ((i + upIn (x % 72)) % 7) = m .entry i y few low ∙ ap (λ (k : ℕ). 2 ^ ((i + upIn k) % 7)) col in
+    s x h ∙ ap₂ bitIn number bit ∙ bit-in (getD v (9 * n + startIn (x % 72)) 0) ((i + upIn (x % 72)) % 7)
+
 -- ---- all of them
 
 -- 191 rows of the word are one of the coded bits: a test of all rows, which antt computes
@@ -152,7 +144,7 @@ from-bit x p hx hp e =
     rw m (mod-add-mod (72 * s) wordBits p ∙ ap (λ (k : ℕ). k % wordBits) t ∙ add-mul-mod-self-right x 1 wordBits ∙ mod-eq-of-lt hx)
 
 module _ (word ordered planes v : List ℕ)
-    (rows : (k : ℕ) → k < wordBytes → getD ordered k 0 ≡ getD word (rowIn k) 0) (none : (k : ℕ) → wordBytes ≤ k → getD ordered k 0 ≡ 0)
+    (rows : (k : ℕ) → k < wordBytes → getD ordered k 0 ≡ getD word (nineOf 191 k) 0) (none : (k : ℕ) → wordBytes ≤ k → getD ordered k 0 ≡ 0)
     (turned : Transposed ordered planes) (double : Filled (doubledAt planes) v 4320) where
   -- the bits of the word with its rows in the order of the coded bits
   g : ℕ → ℕ
@@ -221,7 +213,7 @@ module _ (word ordered planes v : List ℕ)
 
   -- its bits are the coded bits
   pub coded-made : (x : ℕ) → x < wordBits → codedIn v x ≡ deinterleave (bitAt word) x
-  unfolding codedIn pickedIn upIn deinterleave
+  unfolding codedIn upIn deinterleave
   coded-made x h =
       let b : ℕ = x % 72 in
       let c : ℕ = columnOf b in
@@ -230,7 +222,6 @@ module _ (word ordered planes v : List ℕ)
       let a : ℕ = backRow b in
       let s : ℕ = (n + a + 30 * i) % 210 in
       let low : c < 72 = column-lt b in
-      let col : x % 2160 % 72 ≡ b = omega arith in
       let m : ℕ = (i + a / 30 % 7) % 7 in
       let at : 72 * (n + a % 30) + c + 2160 * m ≡ 72 * (n + a % 30 + 30 * m) + c = omega arith in
       let j : ℕ = 72 * (191 * s % 210) + c in
@@ -238,8 +229,7 @@ module _ (word ordered planes v : List ℕ)
       place-row (191 * s % 210) c
       ∙ ap (λ (k : ℕ). (k + place c) % wordBits) (one-row s (omega arith))
       ∙ from-bit x (place c) h (place-lt c) (place-column b (omega arith)) in
-      ap (λ (k : ℕ). getD v (9 * n + startIn k) 0 / 2 ^ m % 2) col
-      ∙ ap (λ (k : ℕ). k / 2 ^ m % 2) (picked b n (omega arith))
+      ap (λ (k : ℕ). k / 2 ^ m % 2) (picked b n (omega arith))
       ∙ seven-digit g bits (72 * (n + a % 30) + c) m (omega arith)
       ∙ ap (λ (k : ℕ). g (k % wordBits)) at
       ∙ ap g (row-bit (n + a % 30 + 30 * m) c low ∙ ap (λ (k : ℕ). 72 * k + c) (turned-row n a i))

@@ -5,14 +5,14 @@ use mathlib.Core.Logic.{⊎-elim}
 use Prim.Native.Nat.{ℕ, _+_, _-_, _*_, _/_, _%_, _^_, _≤_, _<_}
 use native.Mathlib.Omega.{arith}
 use native.Mathlib.Nat.{add-mul-mod-self-right}
-use lib.ListN.{length, getD, set, length-set}
-use lib.Seq.{getD-set-same, getD-set-other}
+use lib.ListN.{length, getD}
 use Rattle.bits.specs.Choice.{lt-or-le, eq-or-ne}
 use Rattle.bits.specs.Pack.{Bits, val, bytesOf, val-same, val-bits, bytes-by-byte}
 use Rattle.sizes.specs.Sizes.{wordBits, wordBytes}
 use Rattle.interleaver.specs.Interleaver.{place, place-lt, interleave}
-use Rattle.interleaver.specs.Sevens.{seven, turn, Filled, Turned, upOut, codedOut, columnAt, rowOut}
-use Rattle.interleaver.specs.Planes.{Transposed}
+use Rattle.sevens.specs.Sevens.{turn, Filled, Turned, Column, nineOf}
+use Rattle.sevens.specs.Planes.{Transposed}
+use Rattle.interleaver.specs.Columns.{seven, upOut, codedOut, columnAt}
 use Rattle.interleaver.proofs.Rows.{place-row}
 use Rattle.interleaver.proofs.Numbers.{seven-digit, seven-mod, seven-turn, out-place}
 
@@ -40,7 +40,7 @@ out-turned f b before after h t k l =
 -- ---- a column
 
 -- the place of its number n, and no other place has both
-abbrev pub spotOf : ℕ → ℕ → ℕ
+abbrev spotOf : ℕ → ℕ → ℕ
 spotOf c n = 270 * (7 - c % 8) + c / 8 + 9 * n
 
 -- plane t, row n, byte q
@@ -58,7 +58,7 @@ whole y =
     let e : y % 270 % 9 ≡ y % 9 = omega arith in
     omega arith
 
-pub spot-column : (c n : ℕ) → c < 72 → n < 30 → (columnAt (spotOf c n) ≡ c) × (spotOf c n % 270 / 9 ≡ n) × (spotOf c n < 2160)
+spot-column : (c n : ℕ) → c < 72 → n < 30 → (columnAt (spotOf c n) ≡ c) × (spotOf c n % 270 / 9 ≡ n) × (spotOf c n < 2160)
 spot-column c n h l =
     let q : c / 8 < 9 = omega arith in
     (rw (plane-of (7 - c % 8) n (c / 8) q l, byte-of (7 - c % 8) n (c / 8) q l) (omega arith), row-of (7 - c % 8) n (c / 8) q l, omega arith)
@@ -70,28 +70,13 @@ column-spot c n y h e z =
     let p : y / 270 ≡ 7 - c % 8 = omega arith in
     whole y ∙ ap₂ (λ (a b : ℕ). 270 * a + b + 9 * (y % 270 / 9)) p q ∙ ap (λ (k : ℕ). 270 * (7 - c % 8) + c / 8 + 9 * k) z
 
--- one number more: it, and those before it; and the other columns
-module _ (v seen : List ℕ) (from c n x : ℕ) (hc : c < 72) (hn : n < 30) (size : length seen ≡ 2160) (e : x ≡ getD v (from + 72 * n) 0) where
-  pub column-more : ((y : ℕ) → y < 2160 → columnAt y ≡ c → y % 270 / 9 < n → getD seen y 0 ≡ getD v (from + 72 * (y % 270 / 9)) 0)
-      → (y : ℕ) → y < 2160 → columnAt y ≡ c → y % 270 / 9 < n + 1 → getD (set seen (spotOf c n) x) y 0 ≡ getD v (from + 72 * (y % 270 / 9)) 0
-  column-more so-far y h q l =
-      ⊎-elim
-      (λ (z : y % 270 / 9 ≡ n).
-      let w : y ≡ spotOf c n = column-spot c n y h q z in
-      let s = spot-column c n hc hn in
-      ap (λ (k : ℕ). getD (set seen (spotOf c n) x) k 0) w
-      ∙ getD-set-same seen (spotOf c n) x 0 (omega arith)
-      ∙ e
-      ∙ ap (λ (k : ℕ). getD v (from + 72 * k) 0) (sym z))
-      (λ (z : y % 270 / 9 ≡ n → ⊥).
-      getD-set-other seen (spotOf c n) y x 0 (λ w. z (ap (λ (k : ℕ). k % 270 / 9) w ∙ spot-column c n hc hn .1)) ∙ so-far y h q (before y z l))
-      (eq-or-ne (y % 270 / 9) n)
-    where
-      before : (y : ℕ) → (y % 270 / 9 ≡ n → ⊥) → y % 270 / 9 < n + 1 → y % 270 / 9 < n
-      before y z l = ⊎-elim (λ (w : y % 270 / 9 < n). w) (λ (w : n ≤ y % 270 / 9). absurd (z (omega arith))) (lt-or-le (y % 270 / 9) n)
+-- a column more: its numbers, and the other columns
+module _ (v before after : List ℕ) (from c y : ℕ) (o : Column from (270 * (7 - c % 8) + c / 8) 30 v before after) where
+  pub column-made : y < 2160 → columnAt y ≡ c → getD after y 0 ≡ getD v (from + 72 * (y % 270 / 9)) 0
+  column-made h q = ap (λ (k : ℕ). getD after k 0) (column-spot c (y % 270 / 9) y h q refl) ∙ o .here (y % 270 / 9) (omega arith)
 
-  pub column-else : (y : ℕ) → (columnAt y ≡ c → ⊥) → getD (set seen (spotOf c n) x) y 0 ≡ getD seen y 0
-  column-else y q = getD-set-other seen (spotOf c n) y x 0 (λ w. q (ap columnAt w ∙ spot-column c n hc hn .0))
+  pub column-else : c < 72 → (columnAt y ≡ c → ⊥) → getD after y 0 ≡ getD before y 0
+  column-else h q = o .other y (λ n l w. q (ap columnAt w ∙ spot-column c n h l .0))
 
 -- ---- all of them
 
@@ -166,17 +151,17 @@ module _ (f : ℕ → ℕ) (bits : Bits f) where
 
   -- and with those rows in their order they are the word
   pub word-made : (after word : List ℕ) → length word ≡ wordBytes → Filled (inOrder f) after wordBytes
-      → ((k : ℕ) → k < wordBytes → getD word k 0 ≡ getD after (rowOut k) 0) → word ≡ bytesOf wordBytes (interleave f)
+      → ((k : ℕ) → k < wordBytes → getD word k 0 ≡ getD after (nineOf 11 k) 0) → word ≡ bytesOf wordBytes (interleave f)
   unfolding inOrder interleave
   word-made after word size h g =
       bytes-by-byte wordBytes (interleave f) word size (λ k l.
       let r : ℕ = k / 9 in
       let a : ℕ = 11 * r % 210 in
-      let row : rowOut k / 9 ≡ a = omega arith in
-      let byte : rowOut k % 9 ≡ k % 9 = omega arith in
+      let row : nineOf 11 k / 9 ≡ a = omega arith in
+      let byte : nineOf 11 k % 9 ≡ k % 9 = omega arith in
       g k l
-      ∙ h (rowOut k) (omega arith)
-      ∙ val-same (λ t. f ((72 * (rowOut k / 9) + place (8 * (rowOut k % 9) + t)) % wordBits)) (λ t. f (place (8 * k + t))) 8 (λ t q.
+      ∙ h (nineOf 11 k) (omega arith)
+      ∙ val-same (λ t. f ((72 * (nineOf 11 k / 9) + place (8 * (nineOf 11 k % 9) + t)) % wordBits)) (λ t. f (place (8 * k + t))) 8 (λ t q.
       let c : ℕ = 8 * (k % 9) + t in
       let j : 72 * r + c ≡ 8 * k + t = omega arith in
       ap₂ (λ (x y : ℕ). f ((72 * x + place (8 * y + t)) % wordBits)) row byte

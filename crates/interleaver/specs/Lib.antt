@@ -1,5 +1,3 @@
 pub mod Interleaver
 pub mod Squares
-pub mod Planes
-pub mod Sevens
-pub mod Needs
+pub mod Columns

@@ -11,18 +11,21 @@ ghost use Rattle.interleaver.specs.Squares.{Squares};
 
 mod back;
 mod out;
-mod planes;
-mod sevens;
 mod table;
 
 use table::SQUARES;
 
-// The coded bit that output place j takes; the square term is the table's.
+// The coded bit that output place j of the first row takes; the square term is the table's.
 fn place_at(squares: &[usize], j: usize) -> usize
-    requires { ⌜ Squares (now squares) × (j < wordBits) ⌝ }
+    requires { ⌜ Squares (now squares) × (j < 72) ⌝ }
     ensures { λ r. ⌜ r ≡ place j ⌝ }
 {
-    (11 * j + squares[j % 36]) % sizes::WORD_BITS
+    let p = 11 * j + squares[j % 36];
+    if p < sizes::WORD_BITS {
+        p
+    } else {
+        p - sizes::WORD_BITS
+    }
 }
 
 // The places of the first row of 72; each further row stands 792 places on.
@@ -49,8 +52,8 @@ pub fn interleave(coded: &[u8], word: &mut [u8])
     out::taken(coded, &off, &mut v);
     let mut seen = [0u8; 2160];
     out::columns(&v, &off, &mut seen);
-    planes::transposed(&mut seen);
-    out::rows(&seen, word);
+    sevens::planes::transposed(&mut seen);
+    sevens::rows::nines(&seen, 11, word);
 }
 
 // Back: coded bit x is word bit placeBack x.
@@ -61,9 +64,9 @@ pub fn deinterleave(word: &[u8], coded: &mut [u8])
     let mut off = [0usize; 72];
     first_row(&mut off);
     let mut ordered = [0u8; 2160];
-    back::rows(word, &mut ordered);
-    planes::transposed(&mut ordered);
+    sevens::rows::nines(word, 191, &mut ordered);
+    sevens::planes::transposed(&mut ordered);
     let mut v = [0u8; 4320];
-    back::doubled(&ordered, &mut v);
+    sevens::rows::doubled(&ordered, &mut v);
     back::given(&v, &off, coded);
 }

@@ -2,5 +2,4 @@ pub mod Code
 pub mod Passing
 pub mod Zero
 pub mod Exactly
-pub mod Table
 pub mod Example

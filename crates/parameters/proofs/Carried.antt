@@ -21,6 +21,11 @@ use Rattle.parameters.specs.declared.Checked.{Checked}
 use Rattle.answers.specs.Answer.{ask, then}
 use Rattle.answers.specs.declared.Answer.{Answer}
 use Rattle.answers.specs.declared.Answer.the-variants.{Done, No}
+use native.Mathlib.Nat.{min-le-left}
+
+pub lent-le : (f : Fields) (marker : List ℕ) → lentMarks f marker ≤ length marker
+unfolding lentMarks
+lent-le f marker = min-le-left (length marker) (f .markers)
 
 -- the loop over the symbols: one that is not below M, and the end
 pub under-no : (order n : ℕ) (marker : List ℕ) (i : ℕ) → i < n → order ≤ getD marker i 0 → upTo (below order marker) i n ≡ upTo (below order marker) 0 n

@@ -5,7 +5,7 @@ use mathlib.Core.List.{List}
 use mathlib.Core.Logic.{⊎-elim}
 use Prim.Native.Nat.{ℕ, _≤_, _<_}
 use native.Mathlib.Omega.{arith}
-use native.Mathlib.Nat.{min-le-left, min-le-right, min-eq-right}
+use native.Mathlib.Nat.{min-le-right, min-eq-right}
 use lib.Dec.{ltb, eqb}
 use lib.ListN.{length, getD}
 use borrow.Author.Tests.{ltb-true, eqb-true, ne-eqb}
@@ -19,17 +19,12 @@ use Rattle.quantities.specs.Quantities.{pulseOrder}
 use Rattle.quantities.specs.Valid.{Valid}
 use Rattle.quantities.specs.Shape.{order-least}
 use Rattle.questions.specs.Questions.{question20, formSays, headerSays}
-use Rattle.questions.specs.Good.{GoodHeader, header-good, form-fits}
+use Rattle.questions.specs.Good.{form-fits}
 use Rattle.parameters.specs.Marks.{lentMarks, below, allUnder, marksGood, runSays, parametersOf, checkedOf, checked}
 use Rattle.parameters.specs.declared.Parameters.{Parameters}
 use Rattle.parameters.specs.declared.Checked.{Checked}
 use Rattle.answers.specs.Answer.{ask, then, then-done, ask-done, Fits, fits-ask, fits-then}
-use Rattle.answers.specs.declared.Answer.{Answer}
 use Rattle.answers.specs.declared.Answer.the-variants.{Done}
-
-pub lent-le : (f : Fields) (marker : List ℕ) → lentMarks f marker ≤ length marker
-unfolding lentMarks
-lent-le f marker = min-le-left (length marker) (f .markers)
 
 pub lent-most : (f : Fields) (marker : List ℕ) → lentMarks f marker ≤ f .markers
 unfolding lentMarks
@@ -111,23 +106,6 @@ carries-marks f v marker g = record {
     outside : (i : ℕ) → n ≤ i → getD (tab 32 x) i 0 ≡ 0
     outside i l =
         ⊎-elim (λ (m : i < 32). getD-tab 32 x i m ∙ cut-past n (λ i. getD marker i 0) i l) (λ (m : 32 ≤ i). getD-tab-past 32 x i m) (lt-or-le i 32)
-
--- an accepted call, whole
-pub record Accepted (header marker : List ℕ) : Type 0 where
-  pub header-is : GoodHeader header
-  pub carries : CarriesMarks (fieldsOf header) marker (checked header marker .parameters)
-
-pub check-accepted : (header marker : List ℕ) → checked header marker .answer ≡ Done → Accepted header marker
-unfolding checked checkedOf
-check-accepted header marker e =
-    let r = run-good header marker e in
-    let g = header-good header (r .0) in
-    let p : checked header marker .parameters ≡ parametersOf (fieldsOf header) marker =
-    ap (λ (a : Answer). checkedOf a (parametersOf (fieldsOf header) marker) .parameters) e in
-    record {
-      header-is = g;
-      carries = rw p (carries-marks (fieldsOf header) (g .valid) marker (r .1));
-    }
 
 -- the answer is that of the questions
 pub check-answer : (header marker : List ℕ) → checked header marker .answer ≡ runSays header marker

@@ -1,4 +1,4 @@
--- The two calls' answers, case by case, and what an acceptance says.
+-- The two calls' answers, and what an acceptance says.
 use mathlib.Core.Path.{_≡_, refl, sym, ap, _∙_}
 use mathlib.Core.Bool.{Bool, true, false}
 use mathlib.Core.List.{List, [], _∷_}
@@ -6,7 +6,7 @@ use Prim.Native.Nat.{ℕ, _*_, _/_, _≤_, _<_}
 use native.Mathlib.Omega.{arith}
 use lib.Dec.{ltb, leb, eqb}
 use lib.ListN.{length}
-use borrow.Author.Tests.{lt-ltb, le-ltb, le-leb, eq-eqb, ltb-true, leb-true, eqb-true}
+use borrow.Author.Tests.{lt-ltb, le-leb, eq-eqb, ltb-true, leb-true, eqb-true}
 use Rattle.bits.specs.Table.{both, both-true}
 use Rattle.bits.specs.First.{first-here, found-at}
 use Rattle.bits.specs.Pieces.{piece, length-piece}
@@ -55,27 +55,18 @@ right-said n size b w e =
 
 -- ---- the writer
 
-module _ (rate : ℕ) (blocks : List ℕ) (m : ℕ) where
-  pub write-rate : 3 ≤ rate → writeSays rate blocks m ≡ No 2 0
+module _ (rate : ℕ) (blocks : List ℕ) (m : ℕ) (h : rate < 3) where
+  pub write-each : lengthsRight (blocksIn rate blocks) (blockBytes rate) (length blocks) m ≡ true → writeSays rate blocks m ≡ inOrder (blocksIn rate blocks) (blockSays rate blocks)
   unfolding writeSays
-  write-rate h = rw (le-ltb rate 3 h) refl
+  write-each e = rw (lt-ltb rate 3 h, e) refl
 
-  module _ (h : rate < 3) where
-    pub write-lengths : lengthsRight (blocksIn rate blocks) (blockBytes rate) (length blocks) m ≡ false → writeSays rate blocks m ≡ No 8 0
-    unfolding writeSays
-    write-lengths e = rw (lt-ltb rate 3 h, e) refl
-
-    pub write-each : lengthsRight (blocksIn rate blocks) (blockBytes rate) (length blocks) m ≡ true → writeSays rate blocks m ≡ inOrder (blocksIn rate blocks) (blockSays rate blocks)
-    unfolding writeSays
-    write-each e = rw (lt-ltb rate 3 h, e) refl
-
-    -- no block of the right length is refused
-    pub write-done : lengthsRight (blocksIn rate blocks) (blockBytes rate) (length blocks) m ≡ true → writeSays rate blocks m ≡ Done
-    write-done e =
-        let r = right-said (blocksIn rate blocks) (blockBytes rate) (length blocks) m e in
-        write-each e ∙ done-all (blocksIn rate blocks) (blockSays rate blocks) (λ j l.
-        word-laws.always-written rate (piece (blockBytes rate) blocks j) h
-        (length-piece (blockBytes rate) blocks j (omega (arith, inside (blocksIn rate blocks) (blockBytes rate) j l, r .blocks-are))))
+  -- no block of the right length is refused
+  pub write-done : lengthsRight (blocksIn rate blocks) (blockBytes rate) (length blocks) m ≡ true → writeSays rate blocks m ≡ Done
+  write-done e =
+      let r = right-said (blocksIn rate blocks) (blockBytes rate) (length blocks) m e in
+      write-each e ∙ done-all (blocksIn rate blocks) (blockSays rate blocks) (λ j l.
+      word-laws.always-written rate (piece (blockBytes rate) blocks j) h
+      (length-piece (blockBytes rate) blocks j (omega (arith, inside (blocksIn rate blocks) (blockBytes rate) j l, r .blocks-are))))
 
 -- what an acceptance says
 pub record Accepted (rate n blocksLength wordsLength : ℕ) (say : ℕ → Answer) : Type 0 where
@@ -104,19 +95,10 @@ write-all rate blocks n m h some few eb ew =
 
 -- ---- the reader
 
-module _ (rate : ℕ) (words : List ℕ) (m : ℕ) where
-  pub read-rate : 3 ≤ rate → readSays rate words m ≡ No 2 0
+module _ (rate : ℕ) (words : List ℕ) (m : ℕ) (h : rate < 3) where
+  pub read-each : lengthsRight (wordsIn words) (blockBytes rate) m (length words) ≡ true → readSays rate words m ≡ inOrder (wordsIn words) (wordSays rate words)
   unfolding readSays
-  read-rate h = rw (le-ltb rate 3 h) refl
-
-  module _ (h : rate < 3) where
-    pub read-lengths : lengthsRight (wordsIn words) (blockBytes rate) m (length words) ≡ false → readSays rate words m ≡ No 8 0
-    unfolding readSays
-    read-lengths e = rw (lt-ltb rate 3 h, e) refl
-
-    pub read-each : lengthsRight (wordsIn words) (blockBytes rate) m (length words) ≡ true → readSays rate words m ≡ inOrder (wordsIn words) (wordSays rate words)
-    unfolding readSays
-    read-each e = rw (lt-ltb rate 3 h, e) refl
+  read-each e = rw (lt-ltb rate 3 h, e) refl
 
 pub read-accepted : (rate : ℕ) (words : List ℕ) (m : ℕ) → readSays rate words m ≡ Done → Accepted rate (wordsIn words) m (length words) (wordSays rate words)
 unfolding readSays

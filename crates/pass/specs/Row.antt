@@ -2,7 +2,7 @@
 use mathlib.Core.Path.{_≡_, sym, ap, _∙_}
 use mathlib.Core.List.{List, _++_}
 use mathlib.Core.Logic.{⊎-elim}
-use Prim.Native.Nat.{ℕ, zero, suc, _+_, _-_, _*_, _/_, _%_, _≤_, _<_}
+use Prim.Native.Nat.{ℕ, zero, suc, _+_, _*_, _/_, _%_, _≤_, _<_}
 use native.Mathlib.Omega.{arith}
 use native.Mathlib.Nat.{mul-le-mul, le-refl, div-add-mod', mod-lt, div-lt-iff-lt-mul, mul-div-cancel}
 use lib.ListN.{length, getD, take, drop, length-append, length-take, length-drop, List·getD-eq-default}
@@ -15,12 +15,6 @@ use Rattle.pass.specs.Pass.{inRow}
 -- piece j of n lies in their bytes
 pub inside : (n size j : ℕ) → j < n → j * size + size ≤ n * size
 inside n size j l = let k : j + 1 ≤ n = omega arith in omega (arith, mul-le-mul k (le-refl size))
-
--- the part of a slice that is lent for it
-pub part-piece : (n size : ℕ) (xs : List ℕ) (j : ℕ) → n ≡ size → take (j * n + n - j * n) (drop (j * n) xs) ≡ piece size xs j
-part-piece n size xs j e =
-    let k : j * n + n - j * n ≡ n = omega arith in
-    ap (λ (x : ℕ). take x (drop (j * n) xs)) k ∙ ap (λ (x : ℕ). piece x xs j) e
 
 -- as many as their bytes hold
 pub whole : (n size : ℕ) → 0 < size → n * size / size ≡ n

@@ -2,7 +2,7 @@
 use mathlib.Core.Path.{_≡_, refl, sym, ap, _∙_}
 use mathlib.Core.Bool.{Bool, true}
 use mathlib.Core.List.{List}
-use Prim.Native.Nat.{ℕ, _-_}
+use Prim.Native.Nat.{ℕ}
 use native.Mathlib.Omega.{arith}
 use lib.Dec.{eqb}
 use lib.ListN.{length}
@@ -12,7 +12,7 @@ use Rattle.answers.specs.Answer.{ask, then-done, ask-done, Fits, fits-ask, fits
 use Rattle.answers.specs.declared.Answer.the-variants.{Done}
 use Rattle.header.specs.Header.{fieldsOf}
 use Rattle.quantities.specs.Quantities as quantities
-use Rattle.parameters.specs.Marks.{runSays, lentMarks, parametersOf}
+use Rattle.parameters.specs.Marks.{runSays, parametersOf}
 use Rattle.quantities.specs.Valid.{Valid, Shaped}
 use Rattle.questions.specs.Questions.{copiesGood}
 use Rattle.questions.specs.Good.{header-good, copies-range}

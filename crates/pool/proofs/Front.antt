@@ -1,13 +1,15 @@
 -- Which value is in front, value after value.
 use mathlib.Core.Path.{_≡_, sym, ap, _∙_}
+use mathlib.Core.Bool.{not}
 use mathlib.Core.Logic.{⊎-elim}
 use Prim.Native.Nat.{ℕ, _+_, _≤_, _<_, max}
 use native.Mathlib.Omega.{arith}
 use lib.Dec.{ltb, eqb}
 use borrow.Author.Tests.{lt-ltb, le-ltb, eq-eqb, ne-eqb}
 use Rattle.bits.specs.Choice.{pick, lt-or-le, eq-or-ne}
-use Rattle.pool.specs.Laws.{Above, peak-at, peak-got, peak-le}
-use Rattle.pool.specs.Pooled.{peak}
+use Rattle.bits.specs.First.{found}
+use Rattle.pool.specs.Laws.{Above, peak-at, peak-got}
+use Rattle.pool.specs.Pooled.{beats, peak}
 
 -- of the values before r, `top` is the largest: q alone has it, or, where q is n, no single one has
 pub record Front (f : ℕ → ℕ) (n r top q : ℕ) : Type 0 where
@@ -88,6 +90,10 @@ front-more f n r top q v h e a =
     }))
     (eq-or-ne v top))
     (lt-or-le top v)
+
+peak-le : (f : ℕ → ℕ) (n : ℕ) → peak f n ≤ n
+unfolding peak
+peak-le f n = found (λ i. not (beats f n i)) 0 n (omega arith) .most
 
 -- all were looked at
 pub front-end : (f : ℕ → ℕ) (n top q : ℕ) → 2 ≤ n → Front f n n top q → q ≡ peak f n

@@ -9,8 +9,8 @@ use native.Mathlib.Omega.{arith}
 use native.Mathlib.Nat.{zero-add}
 use lib.Arith.{digits-div, digits-lt}
 use lib.Dec.{ltb, eqb}
-use borrow.Author.Tests.{ltb-true, ltb-false, lt-ltb, eqb-true, eq-eqb, ne-eqb}
-use Rattle.bits.specs.Choice.{pick, bool, bool-true, bool-no, lt-or-le, eq-or-ne}
+use borrow.Author.Tests.{ltb-true, lt-ltb, eqb-true, eq-eqb, ne-eqb}
+use Rattle.bits.specs.Choice.{pick, bool, lt-or-le, eq-or-ne}
 use Rattle.bits.specs.First.{upTo, all-pass, none-fails, found, found-at, first-same}
 use Rattle.bits.specs.Pack.{Bits, bitAt, bit-lt}
 use Rattle.bits.specs.Weight.{weight, weight-same}
@@ -76,10 +76,6 @@ peak-got f n h = cases (beats f n q) refl (found (λ i. not (beats f n i)) 0 n (
     cases true e w = beats-got f n q h e
     cases false e w = absurd (true≢false w)
 
-pub peak-le : (f : ℕ → ℕ) (n : ℕ) → peak f n ≤ n
-unfolding peak
-peak-le f n = found (λ i. not (beats f n i)) 0 n (omega arith) .most
-
 -- the same values have it at the same place
 pub above-same : (f g : ℕ → ℕ) (n q : ℕ) → ((r : ℕ) → r < n → f r ≡ g r) → Above f n q → Above g n q
 above-same f g n q h a =
@@ -87,16 +83,6 @@ above-same f g n q h a =
       small = a .small;
       rest = λ r l w. let x = a .rest r l w in let y = h r l in let z = h q (a .small) in omega arith;
     }
-
-pub peak-same : (f g : ℕ → ℕ) (n : ℕ) → ((r : ℕ) → r < n → f r ≡ g r) → peak f n ≡ peak g n
-peak-same f g n h =
-    ⊎-elim
-    (λ (l : peak f n < n). sym (peak-at g n (peak f n) (above-same f g n (peak f n) h (peak-got f n l))))
-    (λ (l : n ≤ peak f n). ⊎-elim
-    (λ (k : peak g n < n). peak-at f n (peak g n) (above-same g f n (peak g n) (λ r u. sym (h r u)) (peak-got g n k)))
-    (λ (k : n ≤ peak g n). let x = peak-le f n in let y = peak-le g n in omega arith)
-    (lt-or-le (peak g n) n))
-    (lt-or-le (peak f n) n)
 
 -- ---- pooled symbols
 
@@ -195,22 +181,6 @@ pub weight-const : (v n : ℕ) → weight (λ c. v) n ≡ n * v
 unfolding weight
 weight-const v zero = omega arith
 weight-const v (suc n) = let r = weight-const v n in omega arith
-
--- no slot but q has a pulse, and that has one
-pub pooled-alone : (b : List ℕ) (copies group order s q : ℕ) → order ≤ group → q < order
-    → ((r : ℕ) → r < group → bool (ltb 0 (count b copies group s r)) ≡ bool (eqb r q)) → pooled b copies group order s ≡ q
-pooled-alone b copies group order s q big l h =
-    pooled-at b copies group order s q l
-    (record { small = omega arith; rest = λ r k e. let x = none r k e in let y = some in omega arith })
-  where
-    f : ℕ → ℕ
-    f = count b copies group s
-
-    none : (r : ℕ) → r < group → (r ≡ q → ⊥) → f r ≡ 0
-    none r k e = let z = ltb-false 0 (f r) (bool-no (ltb 0 (f r)) (h r k ∙ ap bool (ne-eqb r q e))) in omega arith
-
-    some : 0 < f q
-    some = ltb-true 0 (f q) (bool-true (ltb 0 (f q)) (h q (omega arith) ∙ ap bool (eq-eqb q q refl)))
 
 pub pooled-groups : (b : List ℕ) (copies group order s q : ℕ) → 1 ≤ copies → order ≤ group → q < order
     → ((c : ℕ) → c < copies → Group b order group ((s * copies + c) * group) q) → pooled b copies group order s ≡ q

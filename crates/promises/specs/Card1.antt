@@ -9,7 +9,7 @@
 -- from a slot on the capture has the slots of the run that is written for these frames. The contract of `run_find` is an equation with `findCode`,
 -- which is made of the answer `findSays` and, for an acceptance, of the slot `firstFit`. That of `run_cut`, which packs a run's slots anew, is one
 -- with `cutSays` and `cutOf`.
-use mathlib.Core.Path.{_≡_, refl, sym, ap, _∙_}
+use mathlib.Core.Path.{_≡_, refl, ap, _∙_}
 use mathlib.Core.List.{List}
 use Prim.Native.Nat.{ℕ, _+_, _-_, _*_, _/_, _^_, _≤_, _<_}
 use native.Mathlib.Omega.{arith}

@@ -3,7 +3,6 @@
 use mathlib.Core.Path.{_≡_, refl}
 use mathlib.Core.Bool.{true, false}
 use mathlib.Core.List.{[], _∷_}
-use Prim.Native.Nat.{ℕ}
 use Rattle.bits.specs.Pack.{val, bitAt}
 use Rattle.answers.specs.declared.Answer.the-variants.{Done, No}
 use Rattle.sizes.specs.Rate.{infoBits}

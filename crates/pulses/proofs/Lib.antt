@@ -1,3 +1,4 @@
 pub mod Lone
 pub mod Swept
 pub mod Seen
+pub mod Laying

@@ -9,12 +9,25 @@ use lib.Dec.{eqb}
 use borrow.Author.Tests.{lt-ltb, le-ltb, eq-eqb, ne-eqb, eqb-true}
 use Rattle.bits.specs.Choice.{bool, bool-true, eq-or-ne, lt-or-le}
 use Rattle.bits.specs.Leading.{Leads, first-one, no-one}
-use Rattle.bits.specs.Pack.{val, bitAt, cut, Bits, bit-lt, val-same, val-bits, cut-in, cut-past, cut-bits}
+use Rattle.bits.specs.Pack.{val, bitAt, cut, bit-lt, val-same, val-bits, cut-in, cut-past, cut-bits}
 use Rattle.bits.specs.Parts.{val-shift}
-use Rattle.bits.specs.Window.{lesser, bitsFrom, firstOne, window-stop}
-use Rattle.pulses.specs.Groups.{group-got, symbol-first}
+use Rattle.bits.specs.Window.{lesser, bitsFrom, firstOne, window-stop, clearAt}
+use Rattle.pulses.specs.Groups.{group-got}
 use Rattle.pulses.specs.Pulses.{symbolIn}
 use Rattle.pulses.proofs.Swept.{numberAt}
+use Rattle.bits.specs.First.{found-at}
+
+-- the symbol is the first pulse of the first M slots
+pub symbol-first : (order group : ℕ) → order ≤ group → (b : List ℕ) (s : ℕ) → symbolIn order group b s < order → firstOne b (s * group) (s * group + order) ≡ s * group + symbolIn order group b s
+unfolding firstOne
+symbol-first order group big b s h =
+    let x : ℕ = s * group in
+    let q : ℕ = symbolIn order group b s in
+    let g = group-got order group big b s h in
+    let one : bitAt b (x + q) ≡ 1 = g .slot q (omega arith) ∙ ap bool (eq-eqb q q refl) in
+    found-at (clearAt b) x (x + order) (x + q) (omega arith) (omega arith) (λ i a l.
+    let e : i ≡ x + (i - x) = omega arith in
+    eq-eqb (bitAt b i) 0 (ap (bitAt b) e ∙ g .slot (i - x) (omega arith) ∙ ap bool (ne-eqb (i - x) q (λ z. omega arith)))) (ne-eqb (bitAt b (x + q)) 0 (λ z. omega arith))
 
 -- ---- near
 

@@ -8,10 +8,10 @@ use native.Mathlib.Omega.{arith}
 use lib.Dec.{ltb, eqb}
 use borrow.Author.Tests.{ltb-true, lt-ltb, eqb-true, eqb-false, eq-eqb, ne-eqb}
 use Rattle.bits.specs.Choice.{pick, bool, lt-or-le, eq-or-ne, bit-cases}
-use Rattle.bits.specs.First.{upTo, none-fails, found, found-at, found-none, none-found}
+use Rattle.bits.specs.First.{upTo, found, found-at, found-none, none-found}
 use Rattle.bits.specs.Pack.{bitAt, bit-lt}
 use Rattle.bits.specs.Window.{clearAt, firstOne}
-use Rattle.pulses.specs.Pulses.{symbolIn, grouped, firstBadGroup}
+use Rattle.pulses.specs.Pulses.{symbolIn}
 
 -- the g slots from x on hold one pulse, at q, among the first m
 pub record Group (b : List ℕ) (m g x q : ℕ) : Type 0 where
@@ -83,22 +83,6 @@ group-made order group big b s q c =
 abbrev pub Passed : ℕ → ℕ → ℕ → List ℕ → Type 0
 Passed order group n b = (s : ℕ) → s < n → symbolIn order group b s < order
 
-pub passed : (order group n : ℕ) (b : List ℕ) → firstBadGroup order group n b ≡ n → Passed order group n b
-unfolding firstBadGroup
-passed order group n b e s h = ltb-true (symbolIn order group b s) order (none-fails (grouped order group b) n e s h)
-
 -- so that one slot tells
 pub tells : (order group n : ℕ) → order ≤ group → (b : List ℕ) → Passed order group n b → (s q : ℕ) → s < n → q < group → bitAt b (s * group + q) ≡ bool (eqb q (symbolIn order group b s))
 tells order group n big b h s q l k = group-got order group big b s (h s l) .slot q k
-
--- and the symbol is the first pulse of the first M slots
-pub symbol-first : (order group : ℕ) → order ≤ group → (b : List ℕ) (s : ℕ) → symbolIn order group b s < order → firstOne b (s * group) (s * group + order) ≡ s * group + symbolIn order group b s
-unfolding firstOne
-symbol-first order group big b s h =
-    let x : ℕ = s * group in
-    let q : ℕ = symbolIn order group b s in
-    let g = group-got order group big b s h in
-    let one : bitAt b (x + q) ≡ 1 = g .slot q (omega arith) ∙ ap bool (eq-eqb q q refl) in
-    found-at (clearAt b) x (x + order) (x + q) (omega arith) (omega arith) (λ i a l.
-    let e : i ≡ x + (i - x) = omega arith in
-    eq-eqb (bitAt b i) 0 (ap (bitAt b) e ∙ g .slot (i - x) (omega arith) ∙ ap bool (ne-eqb (i - x) q (λ z. omega arith)))) (ne-eqb (bitAt b (x + q)) 0 (λ z. omega arith))

@@ -1,4 +1,4 @@
--- Laws of the slots of symbols, and of their return: written slots pass questions 9 and 10 and give their symbols, and slots that pass are those of their symbols.
+-- Laws of the slots of symbols, and of their return: written slots pass question 9 and give their symbols, and slots that pass are those of their symbols.
 use mathlib.Core.Path.{_≡_, refl, sym, ap, _∙_}
 use mathlib.Core.Bool.{true}
 use mathlib.Core.List.{List}
@@ -11,11 +11,11 @@ use lib.Dec.{ltb, eqb}
 use lib.ListN.{length}
 use borrow.Author.Tests.{lt-ltb, le-ltb, eq-eqb, eqb-true}
 use Rattle.bits.specs.Choice.{pick, bool, bool-lt, lt-or-le}
-use Rattle.bits.specs.First.{upTo, all-pass, found-none, none-found}
+use Rattle.bits.specs.First.{upTo, found-none, none-found}
 use Rattle.bits.specs.Pack.{bitAt, Bits, Bytes, length-bytes, bytes-are, bit-bytes, bytes-made, bytes-same}
 use Rattle.bits.specs.Window.{clearAt, firstOne}
 use Rattle.pulses.specs.Groups.{Passed, group-made, tells}
-use Rattle.pulses.specs.Pulses.{bytesFor, slotBit, slotsOf, spareEmpty, symbolIn, grouped, firstBadGroup}
+use Rattle.pulses.specs.Pulses.{bytesFor, slotBit, slotsOf, spareEmpty, symbolIn}
 
 -- the same symbols give the same slots
 pub slots-same : (group n : ℕ) (f g : ℕ → ℕ) → ((s : ℕ) → f s ≡ g s) → slotsOf group n f ≡ slotsOf group n g
@@ -73,12 +73,6 @@ module _ (group n : ℕ) (f : ℕ → ℕ) where
         (found-none (clearAt b) (n * group) (8 * length b) (omega arith) (λ x h l.
         let q : n ≤ x / group = ⊎-elim (λ (a : x / group < n). let c : x < n * group = div-lt-iff-lt-mul pos .0 a in absurd (omega arith)) (λ (a : n ≤ x / group). a) (lt-or-le (x / group) n) in
         eq-eqb (bitAt b x) 0 (bit-bytes (bytesFor group n) (slotBit group n f) slot-bits x (omega arith) ∙ slot-past x q)))
-
-    pub pass-groups : ((s : ℕ) → s < n → f s < order) → firstBadGroup order group n (slotsOf group n f) ≡ n
-    unfolding firstBadGroup
-    pass-groups small =
-        all-pass (grouped order group (slotsOf group n f)) n (λ s l.
-        lt-ltb (symbolIn order group (slotsOf group n f) s) order (rw (slots-read s l (small s l)) (small s l)))
 
     -- ---- slots that pass, with these symbols
     pub slots-made : (b : List ℕ) → length b ≡ bytesFor group n → Bytes b → spareEmpty group n b ≡ true → Passed order group n b → ((s : ℕ) → s < n → symbolIn order group b s ≡ f s) → b ≡ slotsOf group n f

@@ -2,12 +2,12 @@
 use mathlib.Core.Path.{_≡_, refl, ap, _∙_}
 use Prim.Native.Nat.{ℕ, zero, suc, _+_, _-_, _*_, _/_, _%_, _^_, _≤_, _<_}
 use native.Mathlib.Omega.{arith}
-use native.Mathlib.Nat.{mul-le-mul, mul-le-mul-left, mul-le-mul-right, mul-assoc, div-mul-le-self, lt-div-mul-add, lt-of-mul-lt-mul-right, div-add-mod', mul-add-mod-self-right}
+use native.Mathlib.Nat.{mul-le-mul, mul-le-mul-left, mul-le-mul-right, div-mul-le-self, lt-div-mul-add, lt-of-mul-lt-mul-right, div-add-mod', mul-add-mod-self-right}
 use Rattle.sizes.specs.Rate.{infoBits, by-rate}
-use Rattle.sizes.specs.Sizes.{wordBits, wordBytes, span}
+use Rattle.sizes.specs.Sizes.{wordBytes, span}
 use Rattle.quantities.specs.Quantities.{symbolsPerWord, markedBits, blockCount, fillBits, spread, sequenceLength, lineCount, symbolCount, sentSymbols, slotsPerSymbol, slotCount, frameBytes}
 use Rattle.quantities.specs.Valid.{Valid}
-use Rattle.quantities.specs.Shape.{word-symbols, symbols-least, symbols-most, group-most, spread-most, spread-steps}
+use Rattle.quantities.specs.Shape.{symbols-least, symbols-most, group-most, spread-most, spread-steps}
 use Rattle.header.specs.declared.Fields.{Fields}
 
 -- ---- C: the least number of blocks that hold the marked frames
@@ -101,13 +101,6 @@ module _ (f : Fields) (v : Valid f) where
 
   pub coded-most : blockCount f * symbolsPerWord f ≤ 210 * 7560
   coded-most = mul-le-mul blocks-most (symbols-most f (v .shaped))
-
-  -- C words of 1,890 bytes hold the bits of the symbols
-  pub coded-bits : 8 * (wordBytes * blockCount f) ≡ blockCount f * symbolsPerWord f * f .bits
-  coded-bits =
-      let e : blockCount f * (symbolsPerWord f * f .bits) ≡ blockCount f * wordBits = ap (λ (n : ℕ). blockCount f * n) (word-symbols f (v .shaped)) in
-      let a = mul-assoc (blockCount f) (symbolsPerWord f) (f .bits) in
-      omega arith
 
   pub sequence-most : sequenceLength f ≤ 5749136
   unfolding sequenceLength

@@ -26,9 +26,6 @@ within-range least x most e =
     let r = both-true (leb least x) (leb x most) e in
     (leb-true least x (r .0), leb-true x most (r .1))
 
-pub range-within : (least x most : ℕ) → least ≤ x → x ≤ most → within least x most ≡ true
-range-within least x most l m = rw (le-leb least x l, le-leb x most m) refl
-
 -- ---- each question and its facts
 
 pub shaped-by : (f : Fields) → question3 f ≡ true → question4 f ≡ true → Shaped f

@@ -12,7 +12,7 @@ use lib.ListN.{length, getD, set, length-set}
 use lib.Seq.{getD-set-same, getD-set-other}
 use Rattle.bits.specs.Choice.{lt-or-le, eq-or-ne}
 use Rattle.bits.specs.Table.{both, both-true}
-use Rattle.bits.specs.Pack.{Bits, val, bitAt, bytesOf, bit-lt, val-same, bytes-by-byte}
+use Rattle.bits.specs.Pack.{val, bitAt, bytesOf, bit-lt, val-same, bytes-by-byte}
 use Rattle.bits.specs.Parts.{byte-val, val-plus}
 use Rattle.randomizer.specs.Randomizer.{next, window, sequence, randomize, window-bit, sequence-bits}
 use Rattle.randomizer.specs.Bytes.{Added}

@@ -6,10 +6,9 @@ use Prim.Native.Nat.{ℕ, _+_, _-_, _*_, _/_, _%_, _^_, _≤_, _<_}
 use native.Mathlib.Omega.{arith}
 use native.Mathlib.Nat.{mul-le-mul, div-add-mod', eq-or-lt-of-le, zero-div}
 use lib.Arith.{digits-lt}
-use lib.Dec.{ltb, eqb}
 use lib.ListN.{length, getD}
 use borrow.Author.Tests.{lt-ltb, le-ltb, eq-eqb, ne-eqb}
-use Rattle.bits.specs.Choice.{pick, bool, lt-or-le, eq-or-ne}
+use Rattle.bits.specs.Choice.{bool, lt-or-le, eq-or-ne}
 use Rattle.bits.specs.First.{upTo}
 use Rattle.bits.specs.Pack.{bitAt}
 use Rattle.bits.specs.Put.{putBit, put-same, put-other}
@@ -18,7 +17,7 @@ use Rattle.plan.specs.Plan.{Fine}
 use Rattle.pulses.specs.Pulses.{slotBit}
 use Rattle.pulses.specs.Laws.{slot-in, slot-past}
 use Rattle.starts.specs.Starts.{starts, missed, earliest}
-use Rattle.starts.specs.Laws.{earliest-same}
+use Rattle.starts.specs.Laws.{earliest-same, earliest-most}
 use Rattle.search.specs.Laws.{marker-sizes}
 use Rattle.search.specs.Needs.{Seeks}
 use Rattle.search.specs.Search.{markerSlots, markerSlot, firstFit}
@@ -91,3 +90,11 @@ whole p b marker n end r s same e =
     e ∙ ap (upTo (missed (bitAt marker) n b) 0) ee
     ∙ ap (λ (k : ℕ). earliest (bitAt marker) k b) es
     ∙ earliest-same (bitAt marker) (markerSlot p) (markerSlots p) b same
+
+-- a capture that is too short for the marker has no start
+pub short-none : (p : Plan) (b : List ℕ) → 8 * length b < markerSlots p → firstFit p b ≡ 0
+short-none p b h = omega (arith, earliest-most (markerSlot p) (markerSlots p) b)
+
+-- the marker has no more slots than 32 symbols of 320
+pub slots-most : (p : Plan) → Fine p → markerSlots p ≤ 32 * 320
+slots-most p fine = mul-le-mul (fine .markers-most) (marker-sizes p fine .group-most)

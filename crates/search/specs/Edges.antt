@@ -1,6 +1,6 @@
 -- Edges of the search in figures, which antt computes: M = 4, so that a symbol has five slots, and the one marker symbol is 2.
 use mathlib.Core.Path.{_≡_, refl}
-use mathlib.Core.List.{List, [], _∷_}
+use mathlib.Core.List.{[], _∷_}
 use Prim.Native.Nat.{ℕ}
 use lib.ListN.{getD}
 use Rattle.bits.specs.First.{firstFrom}

@@ -2,7 +2,7 @@
 use mathlib.Core.Path.{_≡_, refl}
 use mathlib.Core.Bool.{Bool, true}
 use mathlib.Core.List.{List}
-use Prim.Native.Nat.{ℕ, _-_, _*_, _^_, _≤_, _<_}
+use Prim.Native.Nat.{ℕ, _^_, _≤_, _<_}
 use native.Mathlib.Omega.{arith}
 use native.Mathlib.Nat.{mul-le-mul}
 use lib.Dec.{ltb, leb, eqb}
@@ -23,14 +23,9 @@ use Rattle.plan.specs.Plan.{planIn, Fine}
 use Rattle.plan.specs.Accepted.{plan-fine}
 use Rattle.pulses.specs.Needs.{Sizes, sizes}
 use Rattle.starts.specs.Starts.{starts}
-use Rattle.starts.specs.Laws.{earliest-most}
-use Rattle.search.specs.Search.{markerSlot, markerSlots, firstFit, captureMost, lengthsRight, slotSays, findSays}
+use Rattle.search.specs.Search.{markerSlots, firstFit, captureMost, lengthsRight, slotSays, findSays}
 
 -- ---- question 19
-
--- a capture that is too short for the marker has no start
-pub short-none : (p : Plan) (b : List ℕ) → 8 * length b < markerSlots p → firstFit p b ≡ 0
-short-none p b h = omega (arith, earliest-most (markerSlot p) (markerSlots p) b)
 
 pub slot-yes : (p : Plan) (b : List ℕ) → firstFit p b < starts (markerSlots p) b → slotSays p b ≡ Done
 unfolding slotSays
@@ -99,7 +94,7 @@ find-fits header marker b =
     (λ e. fits-then (ask t 8 0) (ask s 19 0) (fits-ask t 8 0 (omega arith) (omega arith) (λ z. omega arith))
     (λ g. fits-ask s 19 0 (omega arith) (omega arith) (λ z. omega arith)))
 
--- the marker's slots: at least one, and no more than 32 symbols of 320 have
+-- the sizes of the marker's groups; and its slots are at least one
 pub marker-sizes : (p : Plan) → Fine p → Sizes (p .order) (p .group)
 marker-sizes p fine =
     sizes (p .order) (p .group) record {
@@ -115,9 +110,6 @@ slots-least p fine =
     let z = marker-sizes p fine in
     let group : 1 ≤ p .group = omega arith in
     mul-le-mul {n₁ = 1} (fine .markers-least) group
-
-pub slots-most : (p : Plan) → Fine p → markerSlots p ≤ 32 * 320
-slots-most p fine = mul-le-mul (fine .markers-most) (marker-sizes p fine .group-most)
 
 pub slot-small : (header marker b : List ℕ) → findSays header marker b ≡ Done → firstFit (planIn header marker) b < 2 ^ 56
 slot-small header marker b e =

@@ -1,6 +1,6 @@
 -- The three code rates: 0 for 1/3, 1 for 1/2, 2 for 2/3.
 use mathlib.Core.Path.{_≡_, refl}
-use Prim.Native.Nat.{ℕ, zero, suc, _+_, _-_, _*_, _/_, _≤_, _<_}
+use Prim.Native.Nat.{ℕ, zero, suc, _+_, _*_, _/_, _≤_, _<_}
 use native.Mathlib.Omega.{arith}
 
 -- k, the bits of an information block

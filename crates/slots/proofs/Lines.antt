@@ -17,9 +17,16 @@ use Rattle.channel.specs.Places.{delay, source, hit-is, placed-hit, placed-rest
 use Rattle.pulses.specs.Pulses as pulses
 use Rattle.plan.specs.declared.Plan.{Plan}
 use Rattle.plan.specs.Plan.{Fine, unit, total, symbolCount, sent, slotBytes}
-use Rattle.slots.specs.Bounds.{Bounds, bounds, delay-most}
+use Rattle.slots.specs.Bounds.{Bounds, bounds}
 use Rattle.slots.specs.Slots.{dataAt, hitBy, placed, symbolAt, slotBit, slotsOf}
 use Rattle.slots.specs.Writing.{Holds, Moved, front, lineEnd, stride, sooner, soFar}
+
+-- the most that a delay is
+pub delay-most : (p : Plan) → Fine p → (x : ℕ) → delay (p .rows) (p .step) (x % p .rows) ≤ 128 * 32768
+delay-most p fine x =
+    let m : x % p .rows < p .rows = mod-lt x (fine .rows-least) in
+    let r : x % p .rows ≤ 128 = let b = fine .rows-most in omega arith in
+    mul-le-mul r (bounds p fine .back-most)
 
 -- ---- lines
 

@@ -3,12 +3,11 @@ use mathlib.Core.Path.{_≡_, sym, ap, _∙_}
 use mathlib.Core.List.{List}
 use Prim.Native.Nat.{ℕ, _+_, _-_, _*_, _/_, _%_, _^_, _≤_, _<_}
 use native.Mathlib.Omega.{arith}
-use native.Mathlib.Nat.{le-refl, mul-le-mul, mul-assoc, mul-comm, mul-one, mod-lt}
+use native.Mathlib.Nat.{le-refl, mul-le-mul, mul-assoc, mul-comm, mul-one}
 use lib.ListN.{length}
 use lib.Pow.{pow-mono, pow-pos}
 use Rattle.sizes.specs.Sizes.{wordBits}
 use Rattle.channel.specs.Needs.{Placing}
-use Rattle.channel.specs.Places.{delay}
 use Rattle.channel.specs.Symbols as symbols
 use Rattle.pulses.specs.Needs.{Order, Slots}
 use Rattle.plan.specs.declared.Plan.{Plan}
@@ -68,34 +67,6 @@ bounds p fine =
       sent-bound = omega arith;
       slots-bound = sent-most p fine;
     }
-
--- a delay
-pub delay-most : (p : Plan) → Fine p → (x : ℕ) → delay (p .rows) (p .step) (x % p .rows) ≤ 128 * 32768
-delay-most p fine x =
-    let m : x % p .rows < p .rows = mod-lt x (fine .rows-least) in
-    let r : x % p .rows ≤ 128 = let b = fine .rows-most in omega arith in
-    mul-le-mul r (bounds p fine .back-most)
-
--- sent group s lies within
-pub group-in : (p : Plan) (b : List ℕ) (s : ℕ) → length b ≡ slotBytes p → s < sent p → s * p .group + p .group ≤ 8 * length b
-group-in p b s e h =
-    let k : s + 1 ≤ sent p = omega arith in
-    omega (arith, mul-le-mul k (le-refl (p .group)))
-
-pub group-bound : (p : Plan) → Fine p → (s : ℕ) → s < sent p → s * p .group + p .group < 2 ^ 36
-group-bound p fine s h =
-    let k : s + 1 ≤ sent p = omega arith in
-    let m = bounds p fine .slots-bound in
-    omega (arith, mul-le-mul k (le-refl (p .group)))
-
--- all that is known of the numbers of sent group s
-pub record Held (p : Plan) (b : List ℕ) (s : ℕ) : Type 0 where
-  pub sizes : Bounds p
-  pub inside : s * p .group + p .group ≤ 8 * length b
-  pub small : s * p .group + p .group < 2 ^ 36
-
-pub held : (p : Plan) → Fine p → (b : List ℕ) → length b ≡ slotBytes p → (s : ℕ) → s < sent p → Held p b s
-held p fine b long s h = record { sizes = bounds p fine; inside = group-in p b s long h; small = group-bound p fine s h }
 
 -- ---- for the crates below
 

@@ -20,10 +20,7 @@ hitBy p x = channel.hitBy (p .rows) (p .step) (total p) x
 abbrev pub placed : Plan → (ℕ → List ℕ) → ℕ → ℕ
 placed p word x = channel.placed (p .rows) (p .step) (total p) (dataAt p word) x
 
--- Step 10: the place of symbol s, markers counted, the symbol at place x, and symbol s itself
-abbrev pub placeAt : Plan → ℕ → ℕ
-placeAt p s = channel.placeAt (p .symbols) (p .markers) s
-
+-- Step 10: the symbol, markers counted, that stands at place x, and symbol s itself
 abbrev pub symbolOf : Plan → ℕ → ℕ
 symbolOf p x = channel.symbolOf (p .symbols) (p .markers) x
 

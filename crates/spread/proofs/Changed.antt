@@ -1,31 +1,42 @@
--- The list of input bits that change, as the code makes it: zeros, the bit itself, and the sum of the two checks.
-use mathlib.Core.Path.{_≡_, refl, sym, ap, _∙_}
+-- The input bits that change, as the code makes them: zeros, the bit itself, and the sum of the two checks. Coded and packed, they are the
+-- marked places.
+use mathlib.Core.Path.{_≡_, refl, sym, ap, ap₂, _∙_}
 use mathlib.Core.List.{List}
 use mathlib.Core.Logic.{⊎-elim}
 use Prim.Native.Nat.{ℕ, zero, suc, _+_, _-_, _*_, _/_, _%_, _^_, _≤_, _<_}
 use native.Mathlib.Omega.{arith}
+use native.Mathlib.Nat.{zero-div}
 use lib.Bits.{bitXor}
-use lib.Dec.{eqb}
-use lib.ListN.{length, getD, set, replicate}
-use lib.Seq.{getD-set-same, getD-set-other}
-use borrow.Author.Tests.{eq-eqb, ne-eqb}
-use Rattle.bits.specs.Choice.{bool, lt-or-le, eq-or-ne}
+use lib.Dec.{ltb, eqb}
+use lib.ListN.{length, getD, take, replicate, length-take, List·getD-eq-default}
+use lib.Seq.{getD-take}
+use Rattle.bits.specs.Choice.{pick, bool, lt-or-le}
 use Rattle.bits.specs.Sum.{xor-cancel}
-use Rattle.bits.specs.Pack.{bitAt, bit-lt, cut-in, cut-past}
-use Rattle.bits.specs.Change.{flipBit, flip-bit}
-use Rattle.bits.specs.Loops.{Spread}
-use Rattle.sizes.specs.Rate.{infoBits, inputBits, input-room}
+use Rattle.bits.specs.Pack.{bitAt, bytesOf, bit-lt, bytes-same, cut-same}
+use Rattle.bits.specs.Change.{flipBit, flip-bit, length-flip}
+use Rattle.sizes.specs.Rate.{infoBits, inputBits, info-le}
+use Rattle.sizes.specs.Sizes.{wordBytes}
 use Rattle.crc.specs.Check.{register, checkBit}
 use Rattle.crc.specs.Bytes.{advances, advances-same}
-use Rattle.crc.specs.Difference.{checkedChange, change-block, change-check, registers-plus}
-use Rattle.spread.specs.Theorems.{inputChange}
+use Rattle.crc.specs.Difference.{checkedChange, registers-plus}
+use Rattle.convolution.specs.Code.{encode}
+use Rattle.convolution.specs.Ends.{Ended}
+use Rattle.spread.specs.Spread.{changes, zeroBlock, spreadOf}
+use Rattle.spread.specs.Theorems.{inputChange, changes-are, zero-length}
 use Rattle.spread.specs.Needs.{Changes}
 
--- an array of zeros, past its end too
-pub zeros : (n i : ℕ) → getD {A = ℕ} (replicate n 0) i 0 ≡ 0
+-- the front of an array of zeros, past its end too
+zeros : (n i : ℕ) → getD {A = ℕ} (replicate n 0) i 0 ≡ 0
 zeros zero i = refl
 zeros (suc n) zero = refl
 zeros (suc n) (suc i) = zeros n i
+
+pub front-zeros : (m n i : ℕ) → getD {A = ℕ} (take m (replicate n 0)) i 0 ≡ 0
+front-zeros m n i =
+    ⊎-elim
+    (λ (u : i < m). getD-take m (replicate n 0) i 0 u ∙ zeros n i)
+    (λ (u : m ≤ i). let short : length (take m (replicate {A = ℕ} n 0)) ≤ i = omega (arith, length-take m (replicate {A = ℕ} n 0)) in List·getD-eq-default (take m (replicate n 0)) 0 short)
+    (lt-or-le i m)
 
 -- a changed block of zeros, or of anything: the sum of the registers before and after
 checks-sum : (block flipped : List ℕ) (bit k before after : ℕ) → bit < 8 * length block → flipped ≡ flipBit block bit
@@ -38,35 +49,26 @@ checks-sum block flipped bit k before after l ef e₁ e₂ =
     ∙ ap (bitXor (bitAt block i)) (flip-bit block bit i l)
     ∙ xor-cancel (bitAt block i) (bool (eqb i bit))))
 
-pub changed : (rate bit k before after : ℕ) (block room flipped ys : List ℕ) → Changes rate bit block room → k ≡ infoBits rate → flipped ≡ flipBit block bit
-    → before ≡ register (bitAt block) k → after ≡ register (bitAt flipped) k → Spread (set room bit 1) k 32 (bitXor before after) 32 ys
-    → (i : ℕ) → i < inputBits rate → getD ys i 0 ≡ inputChange rate bit i
-unfolding inputChange checkBit
-changed rate bit k before after block room flipped ys h ek ef e₁ e₂ s i l =
+pub changed : (rate bit k before after : ℕ) (block input flipped xs ys : List ℕ) → Changes rate bit block input → k ≡ infoBits rate → flipped ≡ flipBit block bit
+    → before ≡ register (bitAt block) k → after ≡ register (bitAt flipped) k → xs ≡ flipBit input bit → Ended xs (bitXor before after) ys
+    → (i : ℕ) → i < inputBits rate → bitAt ys i ≡ inputChange rate bit i
+unfolding inputBits inputChange checkedChange checkBit bitAt
+changed rate bit k before after block input flipped xs ys h ek ef e₁ e₂ ex ended i l =
     let d : ℕ → ℕ = λ i. bool (eqb i bit) in
     let K : ℕ = infoBits rate in
-    let small : K + 34 ≤ 10080 = input-room rate (h .rate-is) in
-    let inside : bit < length room = omega (arith, h .bit-is, h .room-is) in
-    ⊎-elim
-    (λ (u : i < K).
-    s .earlier i (omega arith)
-    ∙ ⊎-elim
-    (λ (e : i ≡ bit). ap (λ (j : ℕ). getD (set room bit 1) j 0) e ∙ getD-set-same room bit 1 0 inside ∙ sym (ap bool (eq-eqb i bit e)))
-    (λ (e : i ≡ bit → ⊥). getD-set-other room bit i 1 0 e ∙ h .zeros-are i ∙ sym (ap bool (ne-eqb i bit e)))
-    (eq-or-ne i bit)
-    ∙ sym (cut-in (K + 32) (checkedChange K d) i (omega arith) ∙ change-block K d i u))
-    (λ (u : K ≤ i). ⊎-elim
-    (λ (v : i < K + 32).
-    let t : ℕ = i - K in
-    let at : i ≡ k + t = omega arith in
-    ap (λ (j : ℕ). getD ys j 0) at
-    ∙ s .here t (omega arith)
-    ∙ ap (λ (r : ℕ). r / 2 ^ (31 - t) % 2) (checks-sum block flipped bit k before after (omega (arith, h .bit-is, h .block-is)) ef e₁ e₂ ∙ ap (advances 0 d) ek)
-    ∙ sym (cut-in (K + 32) (checkedChange K d) i v ∙ change-check K d i u))
-    (λ (v : K + 32 ≤ i).
-    s .later i (omega arith)
-    ∙ getD-set-other room bit i 1 0 (λ e. omega (arith, h .bit-is))
-    ∙ h .zeros-are i
-    ∙ sym (cut-past (K + 32) (checkedChange K d) i v))
-    (lt-or-le i (K + 32)))
-    (lt-or-le i K)
+    let inside : bit < 8 * length input = omega (arith, h .bit-is, h .input-is) in
+    let long : 8 * length xs ≡ K + 34 = ap (λ (zs : List ℕ). 8 * length zs) ex ∙ ap (λ (n : ℕ). 8 * n) (length-flip input bit) ∙ h .input-is in
+    let sum : bitXor before after ≡ advances 0 d K = checks-sum block flipped bit k before after (omega (arith, h .bit-is, h .block-is, info-le rate)) ef e₁ e₂ ∙ ap (advances 0 d) ek in
+    ended .bits K i (sym long) (omega arith)
+    ∙ cut-same (K + 32) (λ j. pick (ltb j K) (bitAt xs j) (bitXor before after / 2 ^ (31 - (j - K)) % 2)) (checkedChange K d) (λ j u.
+    let zero : bitAt input j ≡ 0 = ap (λ (v : ℕ). v / 2 ^ (7 - j % 8) % 2) (h .zeros-are (j / 8)) ∙ ap (λ (v : ℕ). v % 2) (zero-div (2 ^ (7 - j % 8))) in
+    ap₂ (pick (ltb j K))
+    (ap (λ (zs : List ℕ). bitAt zs j) ex ∙ flip-bit input bit j inside ∙ ap (λ (b : ℕ). bitXor b (d j)) zero)
+    (ap (λ (r : ℕ). r / 2 ^ (31 - (j - K)) % 2) sum)) i
+
+-- the marked places, as the call makes them
+pub spread-made : (rate b : ℕ) → rate < 3 → b < infoBits rate → spreadOf rate b ≡ bytesOf wordBytes (encode rate (inputChange rate b))
+unfolding spreadOf
+spread-made rate b h l =
+    bytes-same wordBytes (changes rate (zeroBlock rate) b) (encode rate (inputChange rate b)) (λ j u.
+    changes-are rate (zeroBlock rate) b h (zero-length rate) l j (omega arith))

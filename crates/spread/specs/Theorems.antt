@@ -1,5 +1,5 @@
 -- What the marked places are: those that change in every block, and few.
-use mathlib.Core.Path.{_≡_, refl, sym, ap, ap₂, _∙_}
+use mathlib.Core.Path.{_≡_, sym, ap, ap₂, _∙_}
 use mathlib.Core.List.{List}
 use Prim.Native.Nat.{ℕ, _+_, _*_, _≤_, _<_}
 use native.Mathlib.Omega.{arith}
@@ -9,7 +9,7 @@ use lib.ListN.{length}
 use borrow.Author.Tests.{ne-eqb}
 use Rattle.bits.specs.Choice.{bool, bool-lt}
 use Rattle.bits.specs.Sum.{xor-bit, xor-cancel}
-use Rattle.bits.specs.Pack.{Bits, bitAt, bytesOf, bit-bytes, bytes-same, length-bytes, cut-in, cut-bits}
+use Rattle.bits.specs.Pack.{Bits, bitAt, bit-bytes, length-bytes, cut-in, cut-bits}
 use Rattle.bits.specs.Change.{flipBit, flip-bit}
 use Rattle.bits.specs.Weight.{differences, weight, differences-same, differences-weight, weight-same}
 use Rattle.sizes.specs.Rate.{infoBits, blockBytes, block-size}
@@ -52,40 +52,34 @@ changes-bits : (rate : ℕ) (block : List ℕ) (b : ℕ) → Bits (changes rate 
 unfolding changes
 changes-bits rate block b j = xor-bit (codedOf rate block j) (codedOf rate (flipBit block b) j) (coded-bits rate block j) (coded-bits rate (flipBit block b) j)
 
-zero-length : (rate : ℕ) → length (zeroBlock rate) ≡ blockBytes rate
+pub zero-length : (rate : ℕ) → length (zeroBlock rate) ≡ blockBytes rate
 unfolding zeroBlock
 zero-length rate = length-bytes (blockBytes rate) (λ _. 0)
 
-module _ (rate : ℕ) (b : ℕ) (h : rate < 3) (l : b < infoBits rate) where
-  -- as the call makes them
-  pub spread-made : spreadOf rate b ≡ bytesOf wordBytes (encode rate (inputChange rate b))
+module _ (rate : ℕ) (b : ℕ) (h : rate < 3) (l : b < infoBits rate) (block : List ℕ) (size : length block ≡ blockBytes rate) where
+  pub every-block : (j : ℕ) → j < wordBits → bitAt (spreadOf rate b) j ≡ changes rate block b j
   unfolding spreadOf
-  spread-made = bytes-same wordBytes (changes rate (zeroBlock rate) b) (encode rate (inputChange rate b)) (λ j u. changes-are rate (zeroBlock rate) b h (zero-length rate) l j (omega arith))
+  every-block j u =
+      bit-bytes wordBytes (changes rate (zeroBlock rate) b) (changes-bits rate (zeroBlock rate) b) j (omega arith)
+      ∙ changes-are rate (zeroBlock rate) b h (zero-length rate) l j u
+      ∙ sym (changes-are rate block b h size l j u)
 
-  module _ (block : List ℕ) (size : length block ≡ blockBytes rate) where
-    pub every-block : (j : ℕ) → j < wordBits → bitAt (spreadOf rate b) j ≡ changes rate block b j
-    unfolding spreadOf
-    every-block j u =
-        bit-bytes wordBytes (changes rate (zeroBlock rate) b) (changes-bits rate (zeroBlock rate) b) j (omega arith)
-        ∙ changes-are rate (zeroBlock rate) b h (zero-length rate) l j u
-        ∙ sym (changes-are rate block b h size l j u)
+  -- the same of the coded bits taken back out of the two words
+  pub every-word : (j : ℕ) → j < wordBits → bitAt (spreadOf rate b) j ≡ bitXor (codedIn (wordOf rate block) j) (codedIn (wordOf rate (flipBit block b)) j)
+  unfolding changes
+  every-word j u = every-block j u ∙ sym (ap₂ bitXor (coded-out rate block j u) (coded-out rate (flipBit block b) j u))
 
-    -- the same of the coded bits taken back out of the two words
-    pub every-word : (j : ℕ) → j < wordBits → bitAt (spreadOf rate b) j ≡ bitXor (codedIn (wordOf rate block) j) (codedIn (wordOf rate (flipBit block b)) j)
-    unfolding changes
-    every-word j u = every-block j u ∙ sym (ap₂ bitXor (coded-out rate block j u) (coded-out rate (flipBit block b) j u))
+  -- few change
+  pub few-coded : differences (codedOf rate block) (codedOf rate (flipBit block b)) wordBits ≤ limit rate
+  unfolding changes
+  few-coded =
+      let count : differences (codedOf rate block) (codedOf rate (flipBit block b)) wordBits ≡ weight (encode rate (inputChange rate b)) wordBits =
+      differences-weight (codedOf rate block) (codedOf rate (flipBit block b)) (coded-bits rate block) (coded-bits rate (flipBit block b)) wordBits
+      ∙ weight-same (changes rate block b) (encode rate (inputChange rate b)) wordBits (changes-are rate block b h size l) in
+      rw count (Few.few (inputChange rate b) (change-input-bits rate b) b rate h l (change-alone rate b))
 
-    -- few change
-    pub few-coded : differences (codedOf rate block) (codedOf rate (flipBit block b)) wordBits ≤ limit rate
-    unfolding changes
-    few-coded =
-        let count : differences (codedOf rate block) (codedOf rate (flipBit block b)) wordBits ≡ weight (encode rate (inputChange rate b)) wordBits =
-        differences-weight (codedOf rate block) (codedOf rate (flipBit block b)) (coded-bits rate block) (coded-bits rate (flipBit block b)) wordBits
-        ∙ weight-same (changes rate block b) (encode rate (inputChange rate b)) wordBits (changes-are rate block b h size l) in
-        rw count (Few.few (inputChange rate b) (change-input-bits rate b) b rate h l (change-alone rate b))
-
-    pub few-taken-out : differences (codedIn (wordOf rate block)) (codedIn (wordOf rate (flipBit block b))) wordBits ≤ limit rate
-    few-taken-out =
-        rw (differences-same (codedIn (wordOf rate block)) (codedIn (wordOf rate (flipBit block b))) (codedOf rate block) (codedOf rate (flipBit block b)) wordBits
-        (coded-out rate block) (coded-out rate (flipBit block b)))
-        few-coded
+  pub few-taken-out : differences (codedIn (wordOf rate block)) (codedIn (wordOf rate (flipBit block b))) wordBits ≤ limit rate
+  few-taken-out =
+      rw (differences-same (codedIn (wordOf rate block)) (codedIn (wordOf rate (flipBit block b))) (codedOf rate block) (codedOf rate (flipBit block b)) wordBits
+      (coded-out rate block) (coded-out rate (flipBit block b)))
+      few-coded

@@ -3,7 +3,8 @@
 use answers::Answer;
 ghost use mathlib.Core.Path.{_≡_};
 ghost use Prim.Native.Nat.{ℕ, _<_};
-ghost use lib.ListN.{length, getD};
+ghost use lib.ListN.{length};
+ghost use Rattle.bits.specs.Pack.{bitAt};
 ghost use Rattle.bits.specs.Table.{tab};
 ghost use Rattle.sizes.specs.Rate.{inputBits};
 ghost use Rattle.sizes.specs.Sizes.{wordBits};
@@ -31,26 +32,25 @@ fn judge(rate: u64, bit: u64, places_length: usize) -> Answer
 }
 
 // The input bits that change: the bit itself, and what it makes of the check. Any block shows that.
-fn change_input(rate: u64, bit: usize, block: &mut [u8], room: &mut [u8])
-    requires { ⌜ Changes rate bit (now block) (now room) ⌝ }
-    ensures { λ _. ⌜ ((i : ℕ) → i < inputBits rate → getD (now (room .exit)) i 0 ≡ inputChange rate bit i) ⌝ }
+fn change_input(rate: u64, bit: usize, block: &mut [u8], input: &mut [u8])
+    requires { ⌜ Changes rate bit (now block) (now input) ⌝ }
+    ensures { λ _. ⌜ ((i : ℕ) → i < inputBits rate → bitAt (now (input .exit)) i ≡ inputChange rate bit i) ⌝ }
 {
     let k = sizes::info_bits(rate);
     let before = crc::check(block, k);
     bits::change::flip(block, bit);
     let after = crc::check(block, k);
-    room[bit] = 1;
-    bits::packing::put_number(room, k, 32, (before as u64) ^ (after as u64));
+    bits::change::flip(input, bit);
+    convolution::ends::put_end(input, before ^ after);
 }
 
-// Step 4: the coded bits that change. `room` is for the input bits.
-fn change_coded(rate: u64, bit: usize, block: &mut [u8], room: &mut [u8], coded: &mut [u8])
-    requires { ⌜ Codes rate bit (now block) (now room) (now coded) ⌝ }
+// Step 4: the coded bits that change. `input` is for the input bits.
+fn change_coded(rate: u64, bit: usize, block: &mut [u8], input: &mut [u8], coded: &mut [u8])
+    requires { ⌜ Codes rate bit (now block) (now input) (now coded) ⌝ }
     ensures { λ _. ⌜ now (coded .exit) ≡ tab wordBits (code.encode rate (inputChange rate bit)) ⌝ }
 {
-    let n = sizes::input_bits(rate);
-    change_input(rate, bit, block, room);
-    convolution::encode(rate, &room[..n], coded);
+    change_input(rate, bit, block, input);
+    convolution::encode(rate, input, coded);
 }
 
 // The places, packed, for a rate, a bit and a length that are right.
@@ -59,9 +59,10 @@ fn fill(rate: u64, bit: usize, places: &mut [u8])
     ensures { λ _. ⌜ now (places .exit) ≡ spreadOf rate bit ⌝ }
 {
     let mut block = [0u8; 1256];
-    let mut input = [0u8; 10080];
+    let mut room = [0u8; 1260];
     let mut coded = [0u8; 15120];
-    change_coded(rate, bit, &mut block, &mut input, &mut coded);
+    let n = sizes::block_bytes(rate) + 4;
+    change_coded(rate, bit, &mut block, &mut room[..n], &mut coded);
     bits::packing::pack(&coded, places);
 }
 

@@ -10,7 +10,7 @@ use lib.ListN.{length}
 use borrow.Author.Tests.{eq-eqb, ne-eqb, eqb-true, le-leb, leb-true}
 use Rattle.bits.specs.Choice.{bool, bool-lt, bit-cases, eq-or-ne}
 use Rattle.bits.specs.Table.{both, both-true}
-use Rattle.bits.specs.Pack.{Bits, Bytes, val, bitAt, bit-lt, val-same, length-bytes, bytes-are, bit-bytes}
+use Rattle.bits.specs.Pack.{Bits, val, bitAt, bit-lt, val-same, length-bytes, bit-bytes}
 use Rattle.bits.specs.Parts.{same-val}
 use Rattle.randomizer.specs.Randomizer.{randomize, randomize-bits, randomize-same, randomize-twice}
 use Rattle.ldpc.specs.Code.{codeword, codeword-bits}
@@ -83,10 +83,6 @@ pub slots-long : (frames : List ℕ) → length (slotsOf frames) ≡ 64 * frameC
 unfolding slotsOf
 slots-long frames = length-bytes (64 * frameCount frames) (slotOf (sent frames))
 
-pub slots-bytes : (frames : List ℕ) → Bytes (slotsOf frames)
-unfolding slotsOf
-slots-bytes frames = bytes-are (64 * frameCount frames) (slotOf (sent frames)) (slot-bits (sent frames))
-
 pub slots-bit : (frames : List ℕ) (x : ℕ) → x < 8 * (64 * frameCount frames) → bitAt (slotsOf frames) x ≡ slotOf (sent frames) x
 unfolding slotsOf
 slots-bit frames x l = bit-bytes (64 * frameCount frames) (slotOf (sent frames)) (slot-bits (sent frames)) x l
@@ -140,10 +136,6 @@ sent-received slots i j = randomize-twice (λ j. bitAt slots (4 * (128 * i + j) 
 pub frames-long : (slots : List ℕ) → length (framesOf slots) ≡ 8 * blockCount slots
 unfolding framesOf
 frames-long slots = length-bytes (8 * blockCount slots) (λ y. received slots (y / 64) (y % 64))
-
-pub frames-bytes : (slots : List ℕ) → Bytes (framesOf slots)
-unfolding framesOf
-frames-bytes slots = bytes-are (8 * blockCount slots) (λ y. received slots (y / 64) (y % 64)) (λ y. received-bits slots (y / 64) (y % 64))
 
 pub frames-bit : (slots : List ℕ) (i j : ℕ) → i < blockCount slots → j < 64 → frameBit (framesOf slots) i j ≡ received slots i j
 unfolding framesOf

@@ -1,7 +1,7 @@
 -- The two ways undo each other: the reader accepts exactly the written words.
 use mathlib.Core.Path.{_≡_, ap, _∙_}
 use mathlib.Core.List.{List}
-use Prim.Native.Nat.{ℕ, _-_, _<_}
+use Prim.Native.Nat.{ℕ, _<_}
 use lib.ListN.{length}
 use Rattle.bits.specs.Pack.{Bytes}
 use Rattle.sizes.specs.Sizes.{wordBytes}

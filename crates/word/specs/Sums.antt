@@ -1,7 +1,7 @@
 -- The word of the sum of three blocks is the sum of their words.
 use mathlib.Core.Path.{_≡_, sym, ap, ap₂, _∙_}
 use mathlib.Core.List.{List}
-use Prim.Native.Nat.{ℕ, _-_, _<_}
+use Prim.Native.Nat.{ℕ, _<_}
 use lib.Bits.{bitXor}
 use lib.ListN.{length}
 use Rattle.bits.specs.Sum.{sum3}

@@ -5,7 +5,6 @@ mod writer;
 use answers::Answer;
 ghost use mathlib.Core.Path.{_≡_};
 ghost use lib.ListN.{length};
-ghost use Rattle.sizes.specs.Sizes.{wordBits};
 ghost use Rattle.answers.specs.Answer.{after};
 ghost use Rattle.word.specs.Word.{wordOf, blockIn, writeSays, readSays};
 

@@ -30,39 +30,32 @@ pub fn judge(rate: u64, block: &[u8], word_length: usize) -> Answer
     Answer::Done
 }
 
-// Steps 2 and 3: the k bits, their check and two zeros, one bit to a place.
-fn add_check(rate: u64, taken: &[u8], room: &mut [u8])
-    requires { ⌜ Checks rate (now taken) (now room) ⌝ }
-    ensures { λ _. ⌜ ((i : ℕ) → i < inputBits rate → getD (now (room .exit)) i 0 ≡ terminated (infoBits rate + 32) (checked (infoBits rate) (bitAt (now (taken .entry)))) i) ⌝ }
+// Steps 2 and 3: the check of the first k bits behind them, and two zeros.
+fn add_check(rate: u64, input: &mut [u8])
+    requires { ⌜ Checks rate (now input) ⌝ }
+    ensures { λ _. ⌜ ((i : ℕ) → i < inputBits rate → bitAt (now (input .exit)) i ≡ terminated (infoBits rate + 32) (checked (infoBits rate) (bitAt (now (input .entry)))) i) ⌝ }
 {
-    let k = sizes::info_bits(rate);
-    let check = crc::check(taken, k);
-    bits::packing::unpack(taken, k, room);
-    bits::packing::put_number(room, k, 32, check as u64);
-    room[k + 32] = 0;
-    room[k + 33] = 0;
+    let check = crc::check(input, sizes::info_bits(rate));
+    convolution::ends::put_end(input, check);
 }
 
-// Step 7, and then steps 2 and 3: the input bits. `taken` is for the block as step 2 takes it in.
-fn take_in(rate: u64, block: &[u8], taken: &mut [u8], room: &mut [u8])
-    requires { ⌜ Inputs rate (now block) (now taken) (now room) ⌝ }
-    ensures { λ _. ⌜ ((i : ℕ) → i < inputBits rate → getD (now (room .exit)) i 0 ≡ inputOf rate (now (block .entry)) i) ⌝ }
+// Step 7, and then steps 2 and 3: the input bits, packed.
+fn take_in(rate: u64, block: &[u8], input: &mut [u8])
+    requires { ⌜ Inputs rate (now block) (now input) ⌝ }
+    ensures { λ _. ⌜ ((i : ℕ) → i < inputBits rate → bitAt (now (input .exit)) i ≡ inputOf rate (now (block .entry)) i) ⌝ }
 {
-    bytes::copy(block, taken);
-    randomizer::randomize(taken);
-    add_check(rate, taken, room);
+    bytes::copy(block, input);
+    randomizer::randomize(input);
+    add_check(rate, input);
 }
 
-// Step 7, and then steps 2 to 4: the coded bits. `taken` has room for a block of any rate, `room`
-// for its input bits.
-fn encode(rate: u64, block: &[u8], taken: &mut [u8], room: &mut [u8], coded: &mut [u8])
-    requires { ⌜ Codes rate (now block) (now taken) (now room) (now coded) ⌝ }
+// Step 7, and then steps 2 to 4: the coded bits. `input` is room for the input bits.
+fn encode(rate: u64, block: &[u8], input: &mut [u8], coded: &mut [u8])
+    requires { ⌜ Codes rate (now block) (now input) (now coded) ⌝ }
     ensures { λ _. ⌜ now (coded .exit) ≡ tab wordBits (codedOf rate (now (block .entry))) ⌝ }
 {
-    let n = sizes::input_bits(rate);
-    let size = block.len();
-    take_in(rate, block, &mut taken[..size], room);
-    convolution::encode(rate, &room[..n], coded);
+    take_in(rate, block, input);
+    convolution::encode(rate, input, coded);
 }
 
 // Steps 5 and 6.
@@ -79,9 +72,9 @@ pub fn code(rate: u64, block: &[u8], word: &mut [u8])
     requires { ⌜ WriteAccepted rate (now block) (length (now word)) ⌝ }
     ensures { λ _. ⌜ now (word .exit) ≡ wordOf rate (now (block .entry)) ⌝ }
 {
-    let mut taken = [0u8; 1256];
-    let mut input = [0u8; 10080];
+    let mut room = [0u8; 1260];
     let mut coded = [0u8; 15120];
-    encode(rate, block, &mut taken, &mut input, &mut coded);
+    let n = block.len() + 4;
+    encode(rate, block, &mut room[..n], &mut coded);
     shuffle(&coded, word);
 }

@@ -1,5 +1,5 @@
 -- At the loop's head the first 8 j bytes are made, the others as they were given, and `last` is the output before bit 64 j.
-use mathlib.Core.Path.{_≡_, sym, ap, _∙_}
+use mathlib.Core.Path.{_≡_, ap, _∙_}
 use Prim.Native.Nat.{ℕ, _+_, _-_, _*_, _%_, _≤_}
 use native.Mathlib.Omega.{arith}
 use lib.Bits.{and-mask, mask-lt}

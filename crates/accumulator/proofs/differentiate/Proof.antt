@@ -1,15 +1,17 @@
--- `differentiate` meets its contract: at the loop's head the first i bytes are made, the others as they were given, and `prior` is the given bit before bit 8 i.
+-- `differentiate` meets its contract: at the loop's head the first i bytes are made, and `prior` is the given bit before bit 8 i.
 use mathlib.Core.Path.{_≡_, refl, ap, _∙_}
 use mathlib.Core.List.{List}
-use Prim.Native.Nat.{ℕ, _+_, _-_, _*_, _%_, _≤_}
+use Prim.Native.Nat.{ℕ, _+_, _-_, _*_, _≤_, _<_}
 use native.Mathlib.Omega.{arith}
 use lib.Bits.{and-mask}
 use lib.ListN.{length, getD}
+use borrow.Author.Count.{below-none}
 use borrow.Author.Needs.{needs}
+use Rattle.bits.specs.Table.{fill}
 use Rattle.bits.specs.Pack.{val, bitAt, bit-lt, bytes-by-byte}
 use Rattle.accumulator.specs.Accumulator.{differentiate}
-use Rattle.accumulator.specs.Bytes.{bitOf, behind, differentiateFrom, Made}
-use Rattle.accumulator.proofs.Places.{behind-bit, differentiated-byte, given-last, made-none, made-more}
+use Rattle.accumulator.specs.Bytes.{bitOf, behind, differentiateFrom}
+use Rattle.accumulator.proofs.Places.{behind-bit, differentiated-byte, given-last}
 use Rattle.accumulator.proofs.differentiate.Statement.{statement}
 use Rattle.accumulator.proofs.differentiate.Tie as tie
 
@@ -18,26 +20,26 @@ abbrev made : List ℕ → ℕ → ℕ
 made xs k = val (λ t. differentiate (bitAt xs) (8 * k + t)) 8
 
 abbrev Inv-loop : tie.InvT-loop
-Inv-loop word₀ prior₀ i₀ word prior i = (i ≤ length word₀) × (prior ≡ behind 0 (bitAt word₀) (8 * i)) × Made (made word₀) word₀ word i
+Inv-loop word inputs₀ prior₀ i₀ inputs prior i = (i ≤ length word) × (prior ≡ behind 0 (bitAt word) (8 * i)) × (length inputs ≡ length word) × ((k : ℕ) → k < i → getD inputs k 0 ≡ made word k)
 
 abbrev μ-loop : tie.MeasureT-loop
-μ-loop word₀ prior₀ i₀ word prior i = length word₀ - i
+μ-loop word inputs₀ prior₀ i₀ inputs prior i = length word - i
 
 loop-holds : tie.Need-loop-holds Inv-loop μ-loop
 unfolding behind
-loop-holds c = (search needs, refl, made-none (made (c .before .args .word .now)) (c .before .args .word .now))
+loop-holds c = (search needs, refl, search needs, below-none _)
 
-slice-read-outputs : tie.Need-slice-read-outputs Inv-loop μ-loop
-slice-read-outputs c = search needs
+shared-slice-read-outputs : tie.Need-shared-slice-read-outputs Inv-loop μ-loop
+shared-slice-read-outputs c = search needs
 
 stepped-requires : tie.Need-stepped-requires Inv-loop μ-loop
 stepped-requires c κs =
     let l = c .before .before .loop in
-    let xs = c .before .before .before .before .args .word .now in
+    let xs = c .before .before .before .before .before .args .word .now in
     omega (arith, behind-bit (bitAt xs) (bit-lt xs) (8 * l .i))
 
-slice-write-word : tie.Need-slice-write-word Inv-loop μ-loop
-slice-write-word c = search needs
+slice-write-inputs : tie.Need-slice-write-inputs Inv-loop μ-loop
+slice-write-inputs c = search needs
 
 add-i : tie.Need-add-i Inv-loop μ-loop
 add-i c = search needs
@@ -48,14 +50,12 @@ loop-less c = search needs
 loop-again : tie.Need-loop-again Inv-loop μ-loop
 loop-again c =
     let l = c .before .before .before .loop in
-    let xs = c .before .before .before .before .before .args .word .now in
-    let given : getD (l .word) (l .i) 0 ≡ getD xs (l .i) 0 = l .inv .2 .rest (l .i) (search needs) in
+    let xs = c .before .before .before .before .before .before .args .word .now in
     let e : c .stepped .result ≡ made xs (l .i) =
     c .stepped .ensures
-    ∙ ap (λ (b : ℕ). val (differentiateFrom (l .prior) (bitOf b)) 8) given
     ∙ ap (λ (p : ℕ). val (differentiateFrom p (bitOf (getD xs (l .i) 0))) 8) (l .inv .1)
     ∙ differentiated-byte xs (l .i) in
-    (search needs, and-mask (getD (l .word) (l .i) 0) 1 ∙ ap (λ (b : ℕ). b % 2) given ∙ given-last xs (l .i), made-more (made xs) xs (l .word) (l .i) (c .stepped .result) (l .inv .2) (search needs) e)
+    (search needs, and-mask (getD xs (l .i) 0) 1 ∙ given-last xs (l .i), search needs, fill (l .inputs) (made xs) (l .i) (c .stepped .result) (search needs) e (l .inv .3))
 
 same-length : tie.Need-same-length Inv-loop μ-loop
 same-length c = search needs
@@ -63,8 +63,8 @@ same-length c = search needs
 returns : tie.Need-returns Inv-loop μ-loop
 returns c =
     let l = c .before .loop in
-    let xs = c .before .before .before .args .word .now in
-    bytes-by-byte (length xs) (differentiate (bitAt xs)) (l .word) (l .inv .2 .size) (λ k h. l .inv .2 .done k (omega arith))
+    let xs = c .before .before .before .before .args .word .now in
+    bytes-by-byte (length xs) (differentiate (bitAt xs)) (l .inputs) (l .inv .2) (λ k h. l .inv .3 k (omega arith))
 
 pub differentiate-spec : {M : Type 1} → statement M
 differentiate-spec =
@@ -73,9 +73,9 @@ differentiate-spec =
     Inv-loop
     μ-loop
     loop-holds
-    slice-read-outputs
+    shared-slice-read-outputs
     stepped-requires
-    slice-write-word
+    slice-write-inputs
     add-i
     loop-less
     loop-again

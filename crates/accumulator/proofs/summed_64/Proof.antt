@@ -1,5 +1,5 @@
 -- Each doubling makes every digit the sum of twice as many digits of b. In the end these are all the inputs up to its own, since above the 64 all are 0.
-use mathlib.Core.Path.{_≡_, refl, sym, ap, ap₂, _∙_}
+use mathlib.Core.Path.{_≡_, sym, ap, ap₂, _∙_}
 use mathlib.Core.Logic.{⊎-elim}
 use Prim.Native.Nat.{ℕ, zero, suc, _+_, _-_, _*_, _/_, _%_, _^_, _≤_, _<_}
 use native.Mathlib.Omega.{arith}
@@ -7,7 +7,6 @@ use native.Mathlib.Nat.{div-eq-of-lt, zero-div}
 use lib.Bits.{bitXor, xor-lt, xor-zero-r}
 use lib.Dec.{eqb, eqb→eq, lit<}
 use lib.Pow.{pow-mono, shr-le}
-use borrow.Author.Needs.{needs}
 use Rattle.bits.specs.Choice.{bit-cases}
 use Rattle.bits.specs.Sum.{xor-assoc, xor-digit}
 use Rattle.bits.specs.Table.{below-all}

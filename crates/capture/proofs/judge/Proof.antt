@@ -6,10 +6,11 @@ use Rattle.answers.specs.Answer.{no-done}
 use Rattle.pool.specs.Laws.{each-decided}
 use Rattle.slots.specs.Bounds.{bounds}
 use Rattle.plan.specs.Plan.{symbolCount}
-use Rattle.capture.specs.Answer.{say-spare, spare-empty, say-group, say-mark, say-rest}
+use Rattle.capture.specs.Answer.{say-group}
 use Rattle.capture.specs.Capture.{firstBadGroup, firstBadMark, firstBadRest}
 use Rattle.capture.specs.Return.{clean-good}
 use Rattle.capture.proofs.Passing.{known-end}
+use Rattle.capture.proofs.Said.{say-spare, spare-empty, say-mark, say-rest}
 use Rattle.capture.proofs.Taken.{took-start, took-words}
 use Rattle.capture.proofs.judge.Statement.{statement}
 use Rattle.capture.proofs.judge.Tie as tie

@@ -1,9 +1,8 @@
 -- A place tells its symbol's delay, so the symbol is a difference: `hit-is`.
-use mathlib.Core.Path.{_≡_, sym, refl, ap, _∙_}
-use Prim.Native.Nat.{ℕ, _*_, _%_, _≤_}
+use mathlib.Core.Path.{sym, refl, _∙_}
+use Prim.Native.Nat.{_≤_}
 use native.Mathlib.Omega.{arith}
 use native.Mathlib.Nat.{mul-le-mul, mod-lt}
-use borrow.Author.Needs.{needs}
 use borrow.Author.Tests.{lt-ltb, le-ltb}
 use Rattle.channel.specs.Places.{source, hit-is}
 use Rattle.channel.proofs.hit_by.Statement.{statement}

@@ -4,7 +4,7 @@ use mathlib.Core.List.{List}
 use Prim.Native.Nat.{ℕ}
 use native.Mathlib.Omega.{arith}
 use borrow.Author.Needs.{needs}
-use lib.ListN.{getD}
+use Rattle.bits.specs.Pack.{bitAt}
 use Rattle.bits.specs.Table.{tab}
 use Rattle.sizes.specs.Sizes.{wordBits}
 use Rattle.convolution.specs.Code.{encode}
@@ -37,7 +37,7 @@ same-length c = search needs
 returns : tie.Need-returns
 returns c =
     let s = c .before .before .before .before .before .before .before in
-    c .before .before .thirds .ensures ∙ ap (at (λ i. getD (s .args .input .now) i 0)) (sym (c .before .before .before .before .match .keys1))
+    c .before .before .thirds .ensures ∙ ap (at (bitAt (s .args .input .now))) (sym (c .before .before .before .before .match .keys1))
 
 same-length-2 : tie.Need-same-length-2
 same-length-2 c = search needs
@@ -45,7 +45,7 @@ same-length-2 c = search needs
 returns-2 : tie.Need-returns-2
 returns-2 c =
     let s = c .before .before .before .before .before .before .before in
-    c .before .before .halves .ensures ∙ ap (at (λ i. getD (s .args .input .now) i 0)) (sym (c .before .before .before .before .match .keys2))
+    c .before .before .halves .ensures ∙ ap (at (bitAt (s .args .input .now))) (sym (c .before .before .before .before .match .keys2))
 
 same-length-3 : tie.Need-same-length-3
 same-length-3 c = search needs
@@ -55,7 +55,7 @@ returns-3 c =
     let s = c .before .before .before .before .before .before .before in
     let m = c .before .before .before .before .match in
     let e : 2 ≡ s .args .rate = omega (arith, s .pre .rate-ok, m .rest .1, m .rest .0 .1) in
-    c .before .before .two-thirds .ensures ∙ ap (at (λ i. getD (s .args .input .now) i 0)) e
+    c .before .before .two-thirds .ensures ∙ ap (at (bitAt (s .args .input .now))) e
 
 pub encode-spec : {M : Type 1} → statement M
 encode-spec =

@@ -7,7 +7,7 @@ use borrow.Author.Needs.{needs}
 use Rattle.bits.specs.Pack.{bitAt, bitOf, bit-lt}
 use Rattle.crc.specs.Check.{register, register-lt}
 use Rattle.crc.specs.Bytes.{advances}
-use Rattle.crc.specs.Tables.{register-eight}
+use Rattle.crc.proofs.Ahead.{register-eight}
 use Rattle.crc.proofs.by_eights.Statement.{statement}
 use Rattle.crc.proofs.by_eights.Tie as tie
 
@@ -21,8 +21,8 @@ loop-holds : tie.Need-loop-holds Inv-loop μ-loop
 unfolding register
 loop-holds c = (search needs, refl)
 
-cast-sixteen : tie.Need-cast-sixteen Inv-loop μ-loop
-cast-sixteen c =
+cast-eleven : tie.Need-cast-eleven Inv-loop μ-loop
+cast-eleven c =
     let l = c .before .loop in
     let block = c .before .before .before .before .args .block .now in
     omega (arith, register-lt (bitAt block) (bit-lt block) (64 * l .j))
@@ -33,8 +33,8 @@ mul-eight c = search needs
 eight-requires : tie.Need-eight-requires Inv-loop μ-loop
 eight-requires c κs = search needs
 
-sixteen-requires : tie.Need-sixteen-requires Inv-loop μ-loop
-sixteen-requires c κs = search needs
+eleven-requires : tie.Need-eleven-requires Inv-loop μ-loop
+eleven-requires c κs = search needs
 
 add-j : tie.Need-add-j Inv-loop μ-loop
 add-j c = search needs
@@ -47,7 +47,7 @@ loop-again c =
     let l = c .before .before .before .loop in
     let block = c .before .before .before .before .before .before .args .block .now in (
       search needs,
-      c .sixteen .ensures
+      c .eleven .ensures
           ∙ ap (λ (v : ℕ). advances 0 (bitOf (bitXor (l .r * 2 ^ 32 % 2 ^ 64) v)) 64) (c .before .eight .ensures)
           ∙ register-eight block (l .j) (l .r) (l .inv .1),
     )
@@ -66,10 +66,10 @@ by-eights-spec =
     Inv-loop
     μ-loop
     loop-holds
-    cast-sixteen
+    cast-eleven
     mul-eight
     eight-requires
-    sixteen-requires
+    eleven-requires
     add-j
     loop-less
     loop-again

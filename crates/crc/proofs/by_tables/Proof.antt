@@ -6,7 +6,7 @@ use lib.Bits.{bitXor}
 use borrow.Author.Needs.{needs}
 use Rattle.bits.specs.Pack.{bitAt}
 use Rattle.crc.specs.Check.{register}
-use Rattle.crc.specs.Bytes.{byte-lt, register-byte}
+use Rattle.crc.proofs.ByBytes.{byte-lt, register-byte}
 use Rattle.crc.proofs.by_tables.Statement.{statement}
 use Rattle.crc.proofs.by_tables.Tie as tie
 

@@ -1,10 +1,11 @@
--- The two fours of a byte.
-use mathlib.Core.Path.{_≡_, sym, ap, ap₂, _∙_}
+-- The two sixes of a byte.
+use mathlib.Core.Path.{_≡_, ap, ap₂, _∙_}
 use Prim.Native.Nat.{ℕ, _+_, _*_, _/_, _%_, _<_}
 use native.Mathlib.Omega.{arith}
 use lib.Bits.{bitXor}
 use lib.ListN.{getD}
-use Rattle.crc.specs.Tables.{changeOf, two-fours}
+use Rattle.crc.specs.Tables.{changeOf}
+use Rattle.crc.proofs.Sixes.{two-sixes}
 use borrow.Author.Needs.{needs}
 use Rattle.crc.proofs.two.Statement.{statement}
 use Rattle.crc.proofs.two.Tie as tie
@@ -35,12 +36,12 @@ returns c =
     let s = c .before .before in
     let b : ℕ = s .args .b in
     let l : b < 256 = s .pre .1 in
-    let at : b % 16 ≡ 16 * 0 + b % 16 = omega arith in
-    let high : b / 16 ≡ b / 16 % 16 = omega arith in
+    let at : b % 64 ≡ 64 * 0 + b % 64 = omega arith in
+    let high : b / 64 ≡ b / 64 % 64 = omega arith in
     ap₂ bitXor
-    (ap (λ (i : ℕ). getD (s .args .table .now) i 0) at ∙ s .pre .0 .entry 0 (b % 16) (omega arith) (omega arith))
-    (s .pre .0 .entry 1 (b / 16) (omega arith) (omega arith) ∙ ap (changeOf 1) high)
-    ∙ two-fours b
+    (ap (λ (i : ℕ). getD (s .args .table .now) i 0) at ∙ s .pre .0 .entry 0 (b % 64) (omega arith) (omega arith))
+    (s .pre .0 .entry 1 (b / 64) (omega arith) (omega arith) ∙ ap (changeOf 1) high)
+    ∙ two-sixes b l
 
 pub two-spec : {M : Type 1} → statement M
 two-spec =

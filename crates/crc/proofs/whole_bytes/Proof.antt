@@ -2,7 +2,7 @@
 use mathlib.Core.Path.{refl}
 use Rattle.crc.specs.Check.{advance}
 use Rattle.crc.specs.Bytes.{advances}
-use Rattle.crc.specs.Tables.{tables-right}
+use Rattle.crc.proofs.Entries.{tables-right}
 use Rattle.crc.proofs.whole_bytes.Statement.{statement}
 use Rattle.crc.proofs.whole_bytes.Tie as tie
 

@@ -2,7 +2,7 @@
 use mathlib.Core.Path.{_≡_, refl, sym, ap, ap₂, _∙_}
 use mathlib.Core.Bool.{Bool, true}
 use mathlib.Core.List.{List}
-use Prim.Native.Nat.{ℕ, _+_, _*_, _/_, _≤_}
+use Prim.Native.Nat.{ℕ, _+_, _/_, _≤_}
 use native.Mathlib.Omega.{arith}
 use lib.ListN.{length}
 use borrow.Author.Tests.{not-true, not-false}
@@ -18,7 +18,8 @@ use Rattle.quantities.specs.Valid.{Valid}
 use Rattle.questions.specs.Questions.{headerSays}
 use Rattle.questions.specs.Good.{header-good, copies-range}
 use Rattle.cut.specs.Cut.{cutOf, lengthsRight, cutSays}
-use Rattle.cut.specs.Laws.{slots-some, lengths-are}
+use Rattle.cut.proofs.Bytes.{slots-some}
+use Rattle.cut.proofs.Lengths.{lengths-are}
 use Rattle.cut.specs.Needs.{Lies}
 use borrow.Author.Needs.{needs}
 use Rattle.cut.proofs.cut_out.Statement.{statement}

@@ -1,5 +1,5 @@
 -- Eight slots lie in two bytes, or the last byte has what is left of them.
-use Prim.Native.Nat.{_+_, _-_, _*_, _/_, _%_, _≤_, _<_}
+use Prim.Native.Nat.{_/_}
 use native.Mathlib.Omega.{arith}
 use Rattle.cut.proofs.Bytes.{end-byte}
 use borrow.Author.Needs.{needs}

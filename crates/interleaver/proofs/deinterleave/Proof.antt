@@ -1,7 +1,5 @@
 -- `deinterleave` meets its contract: the planes hold seven bits of the word in a number, and the columns take them to the coded bits.
-use mathlib.Core.Path.{_≡_, _∙_}
-use Prim.Native.Nat.{ℕ}
-use lib.ListN.{length, getD}
+use mathlib.Core.Path.{_∙_}
 use Rattle.bits.specs.Table.{tab-made}
 use Rattle.bits.specs.Pack.{bitAt}
 use Rattle.sizes.specs.Sizes.{wordBits}
@@ -18,11 +16,11 @@ slice-aggregate-first-row c = search needs
 first-row-requires : tie.Need-first-row-requires
 first-row-requires c κs = search needs
 
-slice-aggregate-rows : tie.Need-slice-aggregate-rows
-slice-aggregate-rows c = search needs
+slice-aggregate-nines : tie.Need-slice-aggregate-nines
+slice-aggregate-nines c = search needs
 
-rows-requires : tie.Need-rows-requires
-rows-requires c κs = search needs
+nines-requires : tie.Need-nines-requires
+nines-requires c κs = search needs
 
 slice-aggregate-transposed : tie.Need-slice-aggregate-transposed
 slice-aggregate-transposed c = search needs
@@ -63,8 +61,8 @@ returns c =
     let word = s .args .word .now in
     tab-made wordBits (deinterleave (bitAt word)) (end .given .last .1 .1 .0) (end .given .kept .1 .1 .0 ∙ s .pre .1) (λ x h.
     end .given .ensures x h
-    ∙ coded-made word (order .rows .last .1 .0) (turn .transposed .last .0) (double .doubled .last .1 .0)
-    (order .rows .ensures .0) (λ k g. order .rows .ensures .1 k g ∙ fresh 2160 k) (turn .transposed .ensures) (double .doubled .ensures) x h)
+    ∙ coded-made word (order .nines .last .1 .1 .0) (turn .transposed .last .0) (double .doubled .last .1 .0)
+    (order .nines .ensures .0) (λ k g. order .nines .ensures .1 k g ∙ fresh 2160 k) (turn .transposed .ensures) (double .doubled .ensures) x h)
 
 pub deinterleave-spec : {M : Type 1} → statement M
 deinterleave-spec =
@@ -72,8 +70,8 @@ deinterleave-spec =
     (tie.spec
     slice-aggregate-first-row
     first-row-requires
-    slice-aggregate-rows
-    rows-requires
+    slice-aggregate-nines
+    nines-requires
     slice-aggregate-transposed
     transposed-requires
     slice-aggregate-doubled

@@ -1,7 +1,7 @@
 -- `interleave` meets its contract: the numbers of seven bits stand where the word has them, so they are its bytes once rows and bits have changed.
-use mathlib.Core.Path.{_≡_, _∙_}
+use mathlib.Core.Path.{_∙_}
 use Prim.Native.Nat.{ℕ}
-use lib.ListN.{length, getD}
+use lib.ListN.{getD}
 use Rattle.interleaver.proofs.Numbers.{row-made}
 use Rattle.interleaver.proofs.Writing.{gathered, in-order, word-made}
 use borrow.Author.Needs.{needs}
@@ -46,11 +46,11 @@ slice-aggregate-transposed c = search needs
 transposed-requires : tie.Need-transposed-requires
 transposed-requires c κs = search needs
 
-slice-aggregate-rows : tie.Need-slice-aggregate-rows
-slice-aggregate-rows c = search needs
+slice-aggregate-nines : tie.Need-slice-aggregate-nines
+slice-aggregate-nines c = search needs
 
-rows-requires : tie.Need-rows-requires
-rows-requires c κs = search needs
+nines-requires : tie.Need-nines-requires
+nines-requires c κs = search needs
 
 same-length : tie.Need-same-length
 same-length c = search needs
@@ -65,11 +65,11 @@ returns c =
     let f : ℕ → ℕ = λ j. getD (s .args .coded .now) j 0 in
     let seen = cols .columns .last .1 .1 .0 in
     let ordered = turn .transposed .last .0 in
-    word-made f (s .pre .1) ordered (end .rows .last .1 .0) (end .rows .kept .1 .0 ∙ s .pre .2)
+    word-made f (s .pre .1) ordered (end .nines .last .1 .1 .0) (end .nines .kept .1 .1 .0 ∙ s .pre .2)
     (in-order f (s .pre .1) seen ordered
     (gathered f (s .pre .1) (take .taken .last .1 .1 .0) seen (take .taken .ensures) (cols .columns .ensures))
     (turn .transposed .ensures))
-    (end .rows .ensures)
+    (end .nines .ensures .0)
 
 pub interleave-spec : {M : Type 1} → statement M
 interleave-spec =
@@ -86,7 +86,7 @@ interleave-spec =
     columns-requires
     slice-aggregate-transposed
     transposed-requires
-    slice-aggregate-rows
-    rows-requires
+    slice-aggregate-nines
+    nines-requires
     same-length
     returns)

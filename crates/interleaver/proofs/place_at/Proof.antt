@@ -1,29 +1,43 @@
--- `place_at` meets its contract by the law `place-squares`: the table's constants are the formula's.
+-- `place_at` meets its contract by the law `place-squares`: the table's constants are the formula's, and in the first row the sum is below two words.
+use mathlib.Core.Path.{_≡_, _∙_}
+use Prim.Native.Nat.{ℕ, _+_, _-_, _*_, _%_}
 use native.Mathlib.Omega.{arith}
+use lib.ListN.{getD}
+use Rattle.sizes.specs.Sizes.{wordBits}
 use Rattle.interleaver.specs.Squares.{constants, place-squares}
 use borrow.Author.Needs.{needs}
 use Rattle.interleaver.proofs.place_at.Statement.{statement}
 use Rattle.interleaver.proofs.place_at.Tie as tie
 
-mul-result : tie.Need-mul-result
-mul-result c = search needs
+mul-p : tie.Need-mul-p
+mul-p c = search needs
 
-mul-result-2 : tie.Need-mul-result-2
-mul-result-2 c = search needs
+mul-p-2 : tie.Need-mul-p-2
+mul-p-2 c = search needs
 
-shared-slice-read-result : tie.Need-shared-slice-read-result
-shared-slice-read-result c = omega (arith, c .before .pre .0 .size)
+shared-slice-read-p : tie.Need-shared-slice-read-p
+shared-slice-read-p c = search needs
 
-add-result : tie.Need-add-result
-add-result c =
+add-p : tie.Need-add-p
+add-p c =
     let s = c .before in
     omega (arith, s .pre .1, constants (s .args .squares .now) (s .pre .0) (s .args .j))
 
 returns : tie.Need-returns
 returns c =
-    let s = c .before in
-    place-squares (s .args .squares .now) (s .pre .0) (s .args .j)
+    let s = c .before .before in
+    let j = s .args .j in
+    let p : ℕ = 11 * j + getD (s .args .squares .now) (j % 36) 0 in
+    let e : p ≡ p % wordBits = omega arith in
+    e ∙ place-squares (s .args .squares .now) (s .pre .0) j
+
+returns-2 : tie.Need-returns-2
+returns-2 c =
+    let s = c .before .before in
+    let j = s .args .j in
+    let p : ℕ = 11 * j + getD (s .args .squares .now) (j % 36) 0 in
+    let e : p - wordBits ≡ p % wordBits = omega (arith, s .pre .1, constants (s .args .squares .now) (s .pre .0) j) in
+    e ∙ place-squares (s .args .squares .now) (s .pre .0) j
 
 pub place-at-spec : {M : Type 1} → statement M
-place-at-spec =
-    tie.close (tie.spec mul-result mul-result-2 shared-slice-read-result add-result returns)
+place-at-spec = tie.close (tie.spec mul-p mul-p-2 shared-slice-read-p add-p returns returns-2)

@@ -6,7 +6,7 @@ use lib.Bits.{bitAnd, mask-lt}
 use borrow.Author.Needs.{needs}
 use Rattle.bits.specs.Pack.{val}
 use Rattle.ldpc.specs.Code.{rows, rowBit}
-use Rattle.ldpc.specs.Table.{Rows, parityOf, table-right, row-fits, parity-none, parity-more, parity-all}
+use Rattle.ldpc.proofs.Rows.{Rows, parityOf, table-right, row-fits, parity-none, parity-more, parity-all}
 use Rattle.ldpc.proofs.parity.Statement.{statement}
 use Rattle.ldpc.proofs.parity.Tie as tie
 

@@ -6,8 +6,8 @@ use lib.ListN.{length, getD, length-set, getD-replicate}
 use borrow.Author.Needs.{needs}
 use Rattle.bits.specs.Pack.{cut, cut-past}
 use Rattle.parameters.specs.Marks.{lentMarks}
-use Rattle.parameters.specs.Accepted.{lent-le, lent-most}
-use Rattle.parameters.proofs.Carried.{cut-more, parameters-same}
+use Rattle.parameters.specs.Accepted.{lent-most}
+use Rattle.parameters.proofs.Carried.{lent-le, cut-more, parameters-same}
 use Rattle.parameters.proofs.carry.Statement.{statement}
 use Rattle.parameters.proofs.carry.Tie as tie
 

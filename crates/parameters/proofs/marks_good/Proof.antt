@@ -7,8 +7,7 @@ use borrow.Author.Needs.{needs}
 use borrow.Author.Tests.{lt-ltb}
 use Rattle.bits.specs.First.{upTo, first-on}
 use Rattle.parameters.specs.Marks.{below, allUnder, marksGood}
-use Rattle.parameters.specs.Accepted.{lent-le}
-use Rattle.parameters.proofs.Carried.{under-no, under-yes}
+use Rattle.parameters.proofs.Carried.{lent-le, under-no, under-yes}
 use Rattle.parameters.proofs.marks_good.Statement.{statement}
 use Rattle.parameters.proofs.marks_good.Tie as tie
 

@@ -9,7 +9,8 @@ use borrow.Author.Tests.{not-true, not-false}
 use Rattle.sizes.specs.Rate.{blockBytes, block-room}
 use Rattle.pass.specs.Pass.{wordsIn, lengthsRight}
 use Rattle.pass.specs.Needs.{Lent}
-use Rattle.pass.specs.Answers.{right-said, read-rate, read-lengths, read-each}
+use Rattle.pass.specs.Answers.{right-said, read-each}
+use Rattle.pass.proofs.Said.{read-rate, read-lengths}
 use Rattle.pass.proofs.read.Statement.{statement}
 use Rattle.pass.proofs.read.Tie as tie
 

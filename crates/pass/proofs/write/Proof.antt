@@ -7,7 +7,8 @@ use lib.ListN.{length}
 use borrow.Author.Tests.{not-true, not-false}
 use Rattle.sizes.specs.Rate.{blockBytes, block-room}
 use Rattle.pass.specs.Pass.{blocksIn, lengthsRight}
-use Rattle.pass.specs.Answers.{block-pos, right-said, write-rate, write-lengths, write-done}
+use Rattle.pass.specs.Answers.{block-pos, right-said, write-done}
+use Rattle.pass.proofs.Said.{write-rate, write-lengths}
 use Rattle.pass.proofs.write.Statement.{statement}
 use Rattle.pass.proofs.write.Tie as tie
 

@@ -1,13 +1,13 @@
 -- A slot that has pulses alone is in front.
 use mathlib.Core.Path.{sym, ap, _∙_}
-use Prim.Native.Nat.{ℕ, _-_}
+use Prim.Native.Nat.{ℕ}
 use native.Mathlib.Omega.{arith}
 use borrow.Author.Needs.{needs}
 use lib.Dec.{ltb}
 use Rattle.bits.specs.Choice.{pick}
 use Rattle.bits.specs.Window.{lesser}
 use Rattle.pool.specs.Joined.{lit}
-use Rattle.pool.specs.Laws.{pooled-alone}
+use Rattle.pool.proofs.Single.{pooled-alone}
 use Rattle.pool.specs.Pooled.{pooled}
 use Rattle.pool.proofs.pooled.Statement.{statement}
 use Rattle.pool.proofs.pooled.Tie as tie

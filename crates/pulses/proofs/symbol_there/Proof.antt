@@ -1,7 +1,7 @@
 -- The only pulse is the first.
 use mathlib.Core.Path.{_∙_}
 use native.Mathlib.Omega.{arith}
-use Rattle.pulses.specs.Groups.{symbol-first}
+use Rattle.pulses.proofs.Seen.{symbol-first}
 use borrow.Author.Needs.{needs}
 use Rattle.pulses.proofs.symbol_there.Statement.{statement}
 use Rattle.pulses.proofs.symbol_there.Tie as tie

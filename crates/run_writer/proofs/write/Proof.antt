@@ -1,9 +1,8 @@
 -- Questions 1 to 7, 20 and 8 by the check; the slots are written only where all are answered yes.
-use mathlib.Core.Path.{_≡_, sym, ap, ap₂, _∙_}
+use mathlib.Core.Path.{_≡_, sym, ap, _∙_}
 use mathlib.Core.List.{List}
 use lib.ListN.{length}
 use Rattle.answers.specs.declared.Answer.{Answer}
-use Rattle.answers.specs.declared.Answer.the-variants.{Done}
 use Rattle.answers.specs.Answer.{after}
 use Rattle.answers.proofs.Refused.{kept}
 use Rattle.header.specs.Header.{fieldsOf}

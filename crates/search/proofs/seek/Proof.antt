@@ -1,9 +1,8 @@
 -- A capture that is too short has no start; in another the marker stands at the slot that is found, or at none.
-use mathlib.Core.Path.{_≡_, sym}
-use Prim.Native.Nat.{ℕ, _+_, _-_, _*_, _≤_, _<_}
+use mathlib.Core.Path.{sym}
 use native.Mathlib.Omega.{arith}
-use lib.ListN.{length}
-use Rattle.search.specs.Laws.{slots-most, short-none, slot-yes, slot-no}
+use Rattle.search.specs.Laws.{slot-yes, slot-no}
+use Rattle.search.proofs.Pulses.{slots-most, short-none}
 use borrow.Author.Needs.{needs}
 use Rattle.search.proofs.seek.Statement.{statement}
 use Rattle.search.proofs.seek.Tie as tie

@@ -1,7 +1,6 @@
--- The room holds zeros, the bit itself, and the sum of the two checks, as `inputChange` has them.
+-- The input bits are zeros, the bit itself, and the sum of the two checks, as `inputChange` has them.
 use native.Mathlib.Omega.{arith}
-use lib.ListN.{length-set}
-use Rattle.sizes.specs.Rate.{info-le}
+use Rattle.sizes.specs.Rate.{inputBits, info-le, info-ge}
 use Rattle.spread.proofs.Changed.{changed}
 use borrow.Author.Needs.{needs}
 use Rattle.spread.proofs.change_input.Statement.{statement}
@@ -21,32 +20,32 @@ check-requires-2 c κs =
     let s = c .before .before .before .before .before .before .before .before .before .before in
     omega (arith, info-le (s .args .rate), s .pre .block-is, c .before .before .before .flip .kept .0)
 
-slice-write-room : tie.Need-slice-write-room
-slice-write-room c = let s = c .before .before .before .before .before .before .before .before .before .before .before in omega (arith, info-le (s .args .rate), s .pre .room-is, s .pre .bit-is)
+flip-requires-2 : tie.Need-flip-requires-2
+unfolding inputBits
+flip-requires-2 c κs = let s = c .before .before .before .before .before .before .before .before .before .before .before .before in omega (arith, s .pre .input-is, s .pre .bit-is)
 
-cast-put-number : tie.Need-cast-put-number
-cast-put-number c = search needs
-
-cast-put-number-2 : tie.Need-cast-put-number-2
-cast-put-number-2 c = search needs
-
-put-number-requires : tie.Need-put-number-requires
-put-number-requires c κs = let s = c .before .before .before .before .before .before .before .before .before .before .before .before in simp length-set (omega (arith, info-le (s .args .rate), s .pre .room-is))
+put-end-requires : tie.Need-put-end-requires
+unfolding inputBits
+put-end-requires c κs =
+    let s = c .before .before .before .before .before .before .before .before .before .before .before .before .before .before .before .before in
+    omega (arith, info-ge (s .args .rate), s .pre .input-is, c .before .before .before .flip2 .kept .0)
 
 same-length : tie.Need-same-length
 same-length c = search needs
 
 same-length-2 : tie.Need-same-length-2
-same-length-2 c = simp length-set at (c .before .before .put-number .kept .0)
+same-length-2 c = search needs
 
 returns : tie.Need-returns
 returns c =
-    let s = c .before .before .before .before .before .before .before .before .before .before .before .before .before .before .before in
-    let before = c .before .before .before .before .before .before .before .before .before .before .check in
-    let flipped = c .before .before .before .before .before .before .before .before .flip in
-    let after = c .before .before .before .before .check2 in
-    changed (s .args .rate) (s .args .bit) _ (before .result) (after .result) (s .args .block .now) (s .args .room .now) (flipped .last .0) (c .before .before .put-number .last .0)
-    (s .pre) (c .before .before .before .before .before .before .before .before .before .before .before .before .info-bits .ensures) (flipped .ensures) (before .ensures) (after .ensures) (c .before .before .put-number .ensures)
+    let s = c .before .before .before .before .before .before .before .before .before .before .before .before .before .before .before .before .before .before .before in
+    let before = c .before .before .before .before .before .before .before .before .before .before .before .before .before .before .check in
+    let flipped = c .before .before .before .before .before .before .before .before .before .before .before .before .flip in
+    let after = c .before .before .before .before .before .before .before .before .check2 in
+    let turned = c .before .before .before .before .before .before .flip2 in
+    let ended = c .before .before .put-end in
+    changed (s .args .rate) (s .args .bit) _ (before .result) (after .result) (s .args .block .now) (s .args .input .now) (flipped .last .0) (turned .last .0) (ended .last .0)
+    (s .pre) (c .before .before .before .before .before .before .before .before .before .before .before .before .before .before .before .before .info-bits .ensures) (flipped .ensures) (before .ensures) (after .ensures) (turned .ensures) (ended .ensures)
 
 pub change-input-spec : {M : Type 1} → statement M
 change-input-spec =
@@ -56,10 +55,8 @@ change-input-spec =
     check-requires
     flip-requires
     check-requires-2
-    slice-write-room
-    cast-put-number
-    cast-put-number-2
-    put-number-requires
+    flip-requires-2
+    put-end-requires
     same-length
     same-length-2
     returns)

@@ -1,38 +1,58 @@
 -- The coded bits that change, packed.
 use mathlib.Core.Path.{_≡_, sym, ap, _∙_}
 use mathlib.Core.List.{List}
-use Prim.Native.Nat.{ℕ}
+use Prim.Native.Nat.{ℕ, _+_, _*_, _≤_}
 use native.Mathlib.Omega.{arith}
-use lib.ListN.{length, getD, length-replicate}
+use lib.ListN.{getD, length-replicate}
+use lib.Seq.{length-take-le}
 use Rattle.bits.specs.Pack.{bytesOf, bytes-same}
 use Rattle.bits.specs.Table.{getD-tab, tab-bits}
+use Rattle.sizes.specs.Rate.{inputBits, blockBytes, block-size, block-room}
 use Rattle.sizes.specs.Sizes.{wordBits, wordBytes}
 use Rattle.convolution.specs.Code.{encode, encode-bits}
-use Rattle.spread.specs.Theorems.{inputChange, change-input-bits, spread-made}
-use Rattle.spread.proofs.Changed.{zeros}
+use Rattle.spread.specs.Theorems.{inputChange, change-input-bits}
+use Rattle.spread.proofs.Changed.{front-zeros, spread-made}
 use borrow.Author.Needs.{needs}
 use Rattle.spread.proofs.fill.Statement.{statement}
 use Rattle.spread.proofs.fill.Tie as tie
 
+-- the input bits fill the bytes of a block and four more, and fit the room
+fits : (s : tie.Start) (n : ℕ) → n ≡ blockBytes (s .args .rate) → n + 4 ≤ 1260
+fits s n e = omega (arith, block-room (s .args .rate) (s .pre .rate-is))
+
+size : (s : tie.Start) (n : ℕ) → n ≡ blockBytes (s .args .rate) → 8 * (n + 4) ≡ inputBits (s .args .rate)
+unfolding inputBits
+size s n e = omega (arith, block-size (s .args .rate) (s .pre .rate-is))
+
+block-bytes-requires : tie.Need-block-bytes-requires
+block-bytes-requires c κs = search needs
+
+add-n : tie.Need-add-n
+add-n c = omega (arith, fits (c .before .before) _ (c .block-bytes .ensures))
+
 slice-aggregate-change-coded : tie.Need-slice-aggregate-change-coded
 slice-aggregate-change-coded c = search needs
 
+array-borrow-prefix-room : tie.Need-array-borrow-prefix-room
+array-borrow-prefix-room c = fits (c .before .before .before) _ (c .before .block-bytes .ensures)
+
 slice-aggregate-change-coded-2 : tie.Need-slice-aggregate-change-coded-2
-slice-aggregate-change-coded-2 c = search needs
+slice-aggregate-change-coded-2 c = sym (length-take-le _ _ (fits (c .before .before .before .before) _ (c .before .before .block-bytes .ensures)))
 
 slice-aggregate-change-coded-3 : tie.Need-slice-aggregate-change-coded-3
 slice-aggregate-change-coded-3 c = search needs
 
 change-coded-requires : tie.Need-change-coded-requires
 change-coded-requires c κs =
-    let s = c .before .before .before .before in
+    let s = c .before .before .before .before .before in
+    let e = c .before .before .before .block-bytes .ensures in
     record {
       changes = record {
         rate-is = s .pre .rate-is;
         bit-is = s .pre .bit-is;
         block-is = length-replicate {A = ℕ} 1256 0;
-        room-is = length-replicate {A = ℕ} 10080 0;
-        zeros-are = zeros 10080;
+        input-is = ap (λ (n : ℕ). 8 * n) (length-take-le _ _ (fits s _ e)) ∙ size s _ e;
+        zeros-are = front-zeros (c .before .before .before .block-bytes .result + 4) 1260;
       };
       coded-is = length-replicate {A = ℕ} 15120 0;
     }
@@ -42,7 +62,7 @@ slice-aggregate-pack c = search needs
 
 pack-requires : tie.Need-pack-requires
 pack-requires c κs =
-    let s = c .before .before .before .before .before .before .before .before .before .before in
+    let s = c .before .before .before .before .before .before .before .before .before .before .before in
     let r = s .args .rate in
     let δ : ℕ → ℕ = inputChange r (s .args .bit) in (
       omega (arith, s .pre .places-are),
@@ -54,21 +74,25 @@ same-length c = search needs
 
 returns : tie.Need-returns
 returns c =
-    let s = c .before .before .before .before .before .before .before .before .before .before .before .before .before in
+    let s = c .before .before .before .before .before .before .before .before .before .before .before .before .before .before in
     let r = s .args .rate in
     let δ : ℕ → ℕ = inputChange r (s .args .bit) in
-    let coded : List ℕ = c .before .before .before .before .before .before .before .before .change-coded .last .1 .1 .1 .1 .0 in
+    let t = c .before .before .before .before .before .before .before .before .change-coded in
+    let coded : List ℕ = t .last .1 .1 .1 .1 .0 in
     c .before .before .pack .ensures
     ∙ ap (λ (n : ℕ). bytesOf n (λ i. getD coded i 0)) (s .pre .places-are)
     ∙ bytes-same wordBytes (λ i. getD coded i 0) (encode r δ) (λ j l.
-    ap (λ (xs : List ℕ). getD xs j 0) (c .before .before .before .before .before .before .before .before .change-coded .ensures) ∙ getD-tab wordBits (encode r δ) j (omega arith))
+    ap (λ (xs : List ℕ). getD xs j 0) (t .ensures) ∙ getD-tab wordBits (encode r δ) j (omega arith))
     ∙ sym (spread-made r (s .args .bit) (s .pre .rate-is) (s .pre .bit-is))
 
 pub fill-spec : {M : Type 1} → statement M
 fill-spec =
     tie.close
     (tie.spec
+    block-bytes-requires
+    add-n
     slice-aggregate-change-coded
+    array-borrow-prefix-room
     slice-aggregate-change-coded-2
     slice-aggregate-change-coded-3
     change-coded-requires

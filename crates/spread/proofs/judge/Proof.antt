@@ -1,7 +1,7 @@
 -- Each answer is the one that the questions give, in their order.
-use mathlib.Core.Path.{sym, _∙_}
+use mathlib.Core.Path.{sym}
 use native.Mathlib.Omega.{arith}
-use Rattle.spread.specs.Answers.{says-rate, says-length, says-bit, says-done}
+use Rattle.spread.proofs.Said.{says-rate, says-length, says-bit, says-done}
 use borrow.Author.Needs.{needs}
 use Rattle.spread.proofs.judge.Statement.{statement}
 use Rattle.spread.proofs.judge.Tie as tie

@@ -4,7 +4,7 @@ use lib.ListN.{length}
 use Rattle.answers.specs.Answer.{after}
 use Rattle.answers.specs.declared.Answer.{Answer}
 use Rattle.spread.specs.Spread.{spreadOf}
-use Rattle.spread.specs.Answers.{spread-accepted}
+use Rattle.spread.proofs.Said.{spread-accepted}
 use borrow.Author.Needs.{needs}
 use Rattle.spread.proofs.mark.Statement.{statement}
 use Rattle.spread.proofs.mark.Tie as tie

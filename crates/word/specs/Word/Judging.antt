@@ -1,78 +1,94 @@
--- Questions 13 to 15 as the reader's code puts them, to lists of coded bits and of input bits.
+-- Questions 13 to 15 as the reader's code puts them: to the place that the code's reader found, to the number of the last 34 input bits, and to a check.
 use mathlib.Core.Path.{_≡_, refl, sym, ap, _∙_}
 use mathlib.Core.Bool.{true}
 use mathlib.Core.List.{List}
-use Prim.Native.Nat.{ℕ, _+_, _<_}
+use mathlib.Core.Logic.{⊎-elim}
+use Prim.Native.Nat.{ℕ, _+_, _-_, _*_, _/_, _%_, _^_, _<_}
+use native.Mathlib.Omega.{arith}
+use lib.Bits.{bitAnd, and-mask}
 use lib.Dec.{eqb}
-use lib.ListN.{getD}
+use lib.ListN.{length}
 use borrow.Author.Tests.{eq-eqb, ne-eqb}
+use Rattle.bits.specs.Choice.{bit-cases}
 use Rattle.bits.specs.First.{upTo}
-use Rattle.bits.specs.Pack.{val, bitAt}
-use Rattle.sizes.specs.Rate.{infoBits}
+use Rattle.bits.specs.Pack.{Bits, val, bitAt, val-same}
+use Rattle.bits.specs.Parts.{val-split}
+use Rattle.sizes.specs.Rate.{infoBits, inputBits, info-ge}
 use Rattle.sizes.specs.Sizes.{wordBits}
 use Rattle.crc.specs.Check.{register, register-same}
 use Rattle.convolution.specs.Code.{encode}
-use Rattle.word.specs.Word.{packedBlock, agrees, firstWrong, endsInZeros, checkRight, judged}
-use Rattle.word.specs.Word.Lists.{packed-bit}
+use Rattle.word.specs.Word.{agrees, firstWrong, endsInZeros, checkRight, judged}
 use Rattle.word.specs.Word.Answers as Answers
 use Rattle.answers.specs.declared.Answer.the-variants.{Done, No}
 
--- the place that a scan found, and where the block ends
-module _ (rate : ℕ) (coded input : List ℕ) (at k : ℕ) (found : at ≡ upTo (λ j. eqb (getD coded j 0) (encode rate (λ i. getD input i 0) j)) 0 wordBits) (ek : k ≡ infoBits rate) where
-  c : ℕ → ℕ
-  c j = getD coded j 0
-
-  x : ℕ → ℕ
-  x i = getD input i 0
-
+module _ (rate : ℕ) (c x : ℕ → ℕ) (at : ℕ) (found : at ≡ upTo (λ j. eqb (c j) (encode rate x j)) 0 wordBits) where
   wrong : at ≡ firstWrong rate c x
-  unfolding firstWrong agrees c x
+  unfolding firstWrong agrees
   wrong = found
 
-  pub says-13 : (at ≡ wordBits → ⊥) → No 13 at ≡ judged rate (λ j. getD coded j 0) (λ i. getD input i 0)
-  unfolding c x
+  pub says-13 : (at ≡ wordBits → ⊥) → No 13 at ≡ judged rate c x
   says-13 ne = ap (λ (q : ℕ). No 13 q) wrong ∙ sym (Answers.judged-miscoded rate c x (λ e. ne (wrong ∙ e)))
 
-  module _ (all : at ≡ wordBits) where
-    pub says-14 : (getD input (k + 32) 0 ≡ 0 → ⊥) → No 14 0 ≡ judged rate (λ j. getD coded j 0) (λ i. getD input i 0)
-    unfolding c x endsInZeros
+  -- the last 34 input bits: the check field, and two bits more
+  module _ (all : at ≡ wordBits) (input : List ℕ) (size : 8 * length input ≡ inputBits rate) (same : (i : ℕ) → i < inputBits rate → bitAt input i ≡ x i) (bits : Bits x)
+      (end : ℕ) (held : end ≡ val (λ t. bitAt input (8 * (length input - 8) + 30 + t)) 34) where
+    k : ℕ
+    k = infoBits rate
+
+    tail : ℕ → ℕ
+    tail t = x (k + t)
+
+    parts : end ≡ val tail 32 * 2 ^ 2 + (x (k + 32) * 2 + x (k + 33))
+    unfolding k tail inputBits val
+    parts =
+        let two : val (λ t. tail (32 + t)) 2 ≡ x (infoBits rate + 32) * 2 + x (infoBits rate + 33) = omega arith in
+        held
+        ∙ val-same (λ t. bitAt input (8 * (length input - 8) + 30 + t)) tail 34 (λ t l.
+        let e : 8 * (length input - 8) + 30 + t ≡ infoBits rate + t = omega (arith, info-ge rate) in
+        ap (bitAt input) e ∙ same (infoBits rate + t) (omega arith))
+        ∙ val-split tail 32 2
+        ∙ ap (λ (v : ℕ). val tail 32 * 2 ^ 2 + v) two
+
+    zeros : bitAnd end 3 ≡ x (k + 32) * 2 + x (k + 33)
+    zeros = and-mask end 2 ∙ ap (λ (v : ℕ). v % 2 ^ 2) parts ∙ (let a = bits (k + 32) in let b = bits (k + 33) in omega arith)
+
+    field : end / 2 ^ 2 ≡ val (λ t. x (infoBits rate + t)) 32
+    unfolding k tail
+    field = ap (λ (v : ℕ). v / 2 ^ 2) parts ∙ (let a = bits (k + 32) in let b = bits (k + 33) in omega arith)
+
+    pub says-14 : (bitAnd end 3 ≡ 0 → ⊥) → No 14 0 ≡ judged rate c x
+    unfolding k endsInZeros
     says-14 ne =
         sym (Answers.judged-unterminated rate c x (sym wrong ∙ all)
-        (rw (← ek, ne-eqb (getD input (k + 32) 0) 0 ne) refl))
+        (⊎-elim
+        (λ (a : x (k + 32) ≡ 0). ⊎-elim
+        (λ (b : x (k + 33) ≡ 0). absurd (ne (zeros ∙ omega arith)))
+        (λ (b : x (k + 33) ≡ 1). rw (a, b) refl)
+        (bit-cases (x (k + 33)) (bits (k + 33))))
+        (λ (a : x (k + 32) ≡ 1). rw a refl)
+        (bit-cases (x (k + 32)) (bits (k + 32)))))
 
-    module _ (end0 : getD input (k + 32) 0 ≡ 0) where
-      pub says-14-last : (getD input (k + 33) 0 ≡ 0 → ⊥) → No 14 0 ≡ judged rate (λ j. getD coded j 0) (λ i. getD input i 0)
-      unfolding c x endsInZeros
-      says-14-last ne =
-          sym (Answers.judged-unterminated rate c x (sym wrong ∙ all)
-          (rw (← ek, end0, ne-eqb (getD input (k + 33) 0) 0 ne) refl))
+    module _ (none : bitAnd end 3 ≡ 0) (check m : ℕ) (em : m ≡ infoBits rate) (ec : check ≡ register (bitAt input) m) where
+      ends : endsInZeros rate x ≡ true
+      unfolding k endsInZeros
+      ends =
+          let z = zeros in
+          let a : x (k + 32) ≡ 0 = omega arith in
+          let b : x (k + 33) ≡ 0 = omega arith in
+          rw (a, b) refl
 
-      module _ (end1 : getD input (k + 33) 0 ≡ 0) where
-        ends : endsInZeros rate x ≡ true
-        unfolding x endsInZeros
-        ends = rw (← ek, end0, end1) refl
+      register-is : check ≡ register x (infoBits rate)
+      unfolding inputBits
+      register-is = ec ∙ ap (register (bitAt input)) em ∙ register-same (bitAt input) x (infoBits rate) (λ i l. same i (omega arith))
 
-        -- the check field and the register of the block that the input bits make
-        module _ (block : List ℕ) (field check : ℕ) (h : rate < 3) (bits : (i : ℕ) → getD input i 0 < 2) (eb : block ≡ packedBlock rate (λ i. getD input i 0))
-            (ef : field ≡ val (λ t. getD input (k + t) 0) 32) (ec : check ≡ register (bitAt block) k) where
-          register-is : check ≡ register x (infoBits rate)
-          unfolding x
-          register-is =
-              ec ∙ ap (register (bitAt block)) ek
-              ∙ register-same (bitAt block) x (infoBits rate) (λ i l. ap (λ (b : List ℕ). bitAt b i) eb ∙ packed-bit rate x h bits i l)
+      pub says-15 : (end / 2 ^ 2 ≡ check → ⊥) → No 15 0 ≡ judged rate c x
+      unfolding checkRight
+      says-15 ne =
+          sym (Answers.judged-check rate c x (sym wrong ∙ all) ends
+          (ne-eqb (val (λ t. x (infoBits rate + t)) 32) (register x (infoBits rate)) (λ e. ne (field ∙ e ∙ sym register-is))))
 
-          field-is : field ≡ val (λ t. x (infoBits rate + t)) 32
-          unfolding x
-          field-is = ef ∙ ap (λ (n : ℕ). val (λ t. getD input (n + t) 0) 32) ek
-
-          pub says-15 : (field ≡ check → ⊥) → No 15 0 ≡ judged rate (λ j. getD coded j 0) (λ i. getD input i 0)
-          unfolding c x checkRight
-          says-15 ne =
-              sym (Answers.judged-check rate c x (sym wrong ∙ all) ends
-              (ne-eqb (val (λ t. x (infoBits rate + t)) 32) (register x (infoBits rate)) (λ e. ne (field-is ∙ e ∙ sym register-is))))
-
-          pub says-0 : field ≡ check → Done ≡ judged rate (λ j. getD coded j 0) (λ i. getD input i 0)
-          unfolding c x checkRight
-          says-0 e =
-              sym (Answers.judged-done rate c x (sym wrong ∙ all) ends
-              (eq-eqb (val (λ t. x (infoBits rate + t)) 32) (register x (infoBits rate)) (sym field-is ∙ e ∙ register-is)))
+      pub says-0 : end / 2 ^ 2 ≡ check → Done ≡ judged rate c x
+      unfolding checkRight
+      says-0 e =
+          sym (Answers.judged-done rate c x (sym wrong ∙ all) ends
+          (eq-eqb (val (λ t. x (infoBits rate + t)) 32) (register x (infoBits rate)) (sym field ∙ e ∙ register-is)))

@@ -1,13 +1,14 @@
 -- What holds of words. Only this file and those beside it open the definitions of `Word`.
 use mathlib.Core.Path.{_≡_, refl, sym, ap, ap₂, _∙_}
 use mathlib.Core.Bool.{true}
-use mathlib.Core.List.{List, []}
+use mathlib.Core.List.{List, [], _++_}
 use mathlib.Core.Logic.{⊎-elim}
 use Prim.Native.Nat.{ℕ, _+_, _-_, _*_, _/_, _%_, _^_, _≤_, _<_}
 use native.Mathlib.Omega.{arith}
 use lib.Bits.{bitXor}
 use lib.Dec.{eqb}
-use lib.ListN.{length, getD}
+use lib.ListN.{length, getD, take, drop, length-append, List·getD-append}
+use lib.Seq.{take-length}
 use borrow.Author.Tests.{eq-eqb, eqb-true}
 use Rattle.bits.specs.Choice.{bool, lt-or-le}
 use Rattle.bits.specs.Sum.{sum3, xor-same, same-xor}
@@ -141,13 +142,13 @@ word-from rate block coded e =
     ap (λ (xs : List ℕ). getD xs x 0) e ∙ getD-tab wordBits (codedOf rate block) x k) j)
 
 -- and steps 6 and 5 undone
-pub coded-made : (word w0 w1 coded : List ℕ) → length word ≡ wordBytes → w0 ≡ word → w1 ≡ bytesOf (length w0) (differentiate (bitAt w0))
-    → coded ≡ tab wordBits (deinterleave (bitAt w1)) → coded ≡ tab wordBits (codedIn word)
+pub coded-made : (word undone coded : List ℕ) → length word ≡ wordBytes → undone ≡ bytesOf (length word) (differentiate (bitAt word))
+    → coded ≡ tab wordBits (deinterleave (bitAt undone)) → coded ≡ tab wordBits (codedIn word)
 unfolding codedIn
-coded-made word w0 w1 coded n0 e0 e1 e2 =
-    e2 ∙ tab-same wordBits (deinterleave (bitAt w1)) (codedIn word) (λ x l.
-    deinterleave-same (bitAt w1) (differentiate (bitAt word)) (λ j k.
-    ap (λ (w : List ℕ). bitAt w j) (e1 ∙ ap (λ (w : List ℕ). bytesOf (length w) (differentiate (bitAt w))) e0)
+coded-made word undone coded n e1 e2 =
+    e2 ∙ tab-same wordBits (deinterleave (bitAt undone)) (codedIn word) (λ x l.
+    deinterleave-same (bitAt undone) (differentiate (bitAt word)) (λ j k.
+    ap (λ (w : List ℕ). bitAt w j) e1
     ∙ bit-bytes (length word) (differentiate (bitAt word)) (differentiate-bits (bitAt word) (bit-lt word)) j (omega arith)) x)
 
 -- bits added to a word are added, as steps 6 and 5 undone leave them, to its coded bits
@@ -215,23 +216,28 @@ pub input-end : (rate : ℕ) (block : List ℕ) (i : ℕ) → infoBits rate + 32
 unfolding inputOf checkedBlock
 input-end rate block i l = part-end (infoBits rate) (takenIn block) i l
 
--- a block with the sequence added to its bytes, as the code takes it in
-pub taken-made : (rate : ℕ) (block w0 w1 : List ℕ) → length block ≡ blockBytes rate → w0 ≡ block → w1 ≡ bytesOf (length w0) (randomize (bitAt w0))
-    → w1 ≡ bytesOf (blockBytes rate) (takenIn block)
-unfolding takenIn
-taken-made rate block w0 w1 n e0 e1 =
-    e1 ∙ ap (λ (w : List ℕ). bytesOf (length w) (randomize (bitAt w))) e0 ∙ ap (λ (m : ℕ). bytesOf m (randomize (bitAt block))) n
+-- a block that is copied to the front of a longer list, and step 7 there: its bits, as step 2 takes them in
+pub taken-made : (rate : ℕ) (block room w0 w1 : List ℕ) → rate < 3 → length block ≡ blockBytes rate → w0 ≡ take (length block) block ++ drop (length block) room
+    → w1 ≡ bytesOf (length w0) (randomize (bitAt w0)) → (i : ℕ) → i < infoBits rate → bitAt w1 i ≡ takenIn block i
+unfolding takenIn bitAt
+taken-made rate block room w0 w1 h n e0 e1 i l =
+    let size : 8 * blockBytes rate ≡ infoBits rate + 2 = block-size rate h in
+    let rest : List ℕ = drop (length block) room in
+    let front : w0 ≡ block ++ rest = e0 ∙ ap (λ (xs : List ℕ). xs ++ rest) (take-length block) in
+    let long : length w0 ≡ length block + length rest = ap length front ∙ length-append block rest in
+    let inside : i / 8 < length block = omega arith in
+    ap (λ (w : List ℕ). bitAt w i) e1
+    ∙ bit-bytes (length w0) (randomize (bitAt w0)) (randomize-bits (bitAt w0) (bit-lt w0)) i (omega arith)
+    ∙ randomize-same (bitAt w0) (bitAt block) i
+    (ap (λ (w : List ℕ). bitAt w i) front ∙ ap (λ (v : ℕ). v / 2 ^ (7 - i % 8) % 2) (List·getD-append block rest 0 (i / 8) inside))
 
--- its input bits
-pub input-taken : (rate : ℕ) (block taken : List ℕ) → rate < 3 → taken ≡ bytesOf (blockBytes rate) (takenIn block)
+-- the input bits of these
+pub input-taken : (rate : ℕ) (block taken : List ℕ) → ((i : ℕ) → i < infoBits rate → bitAt taken i ≡ takenIn block i)
     → (i : ℕ) → terminated (infoBits rate + 32) (checked (infoBits rate) (bitAt taken)) i ≡ inputOf rate block i
 unfolding inputOf checkedBlock
-input-taken rate block taken h e =
+input-taken rate block taken e =
     let k : ℕ = infoBits rate in
-    let b : 8 * blockBytes rate ≡ k + 2 = block-size rate h in
-    cut-same (k + 32) (checked k (bitAt taken)) (checked k (takenIn block)) (λ i l.
-    checked-same k (bitAt taken) (takenIn block) (λ i u.
-    ap (λ (w : List ℕ). bitAt w i) e ∙ bit-bytes (blockBytes rate) (takenIn block) (taken-bits block) i (omega arith)) i)
+    cut-same (k + 32) (checked k (bitAt taken)) (checked k (takenIn block)) (λ i l. checked-same k (bitAt taken) (takenIn block) e i)
 
 -- where two blocks differ, their input bits differ by what the difference of their k bits makes, and so do their coded bits: step 7 adds the same to both
 input-plus : (rate : ℕ) (a b : List ℕ) (i : ℕ)

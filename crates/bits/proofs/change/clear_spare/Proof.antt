@@ -3,7 +3,7 @@ use mathlib.Core.Path.{_≡_, refl}
 use Prim.Native.Nat.{_+_, _-_, _%_}
 use native.Mathlib.Omega.{arith}
 use borrow.Author.Needs.{needs}
-use Rattle.bits.specs.Change.{ends-whole, ends-cut}
+use Rattle.bits.proofs.Changing.{ends-whole, ends-cut}
 use Rattle.bits.proofs.change.clear_spare.Statement.{statement}
 use Rattle.bits.proofs.change.clear_spare.Tie as tie
 

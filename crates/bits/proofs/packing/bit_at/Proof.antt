@@ -1,6 +1,5 @@
 -- The byte's bit is cut out by a shift and a mask.
 use lib.Bits.{and-mask}
-use Prim.Native.Nat.{_-_}
 use Rattle.bits.specs.Pack.{bitAt}
 use borrow.Author.Needs.{needs}
 use Rattle.bits.proofs.packing.bit_at.Statement.{statement}

@@ -7,7 +7,9 @@ use lib.Bits.{bitOr}
 use lib.ListN.{getD}
 use lib.Pow.{shl-exact}
 use Rattle.bits.specs.Pack.{val, bitAt, Bits, Bytes, val-lt, bit-lt}
-use Rattle.bits.specs.Parts.{byte-val, join-byte, push-byte}
+use Rattle.bits.specs.Parts.{byte-val}
+use Rattle.bits.proofs.Joining.{push-byte}
+use Rattle.bits.proofs.Joining.{join-byte}
 use borrow.Author.Needs.{needs}
 use Rattle.bits.proofs.packing.eight.Statement.{statement}
 use Rattle.bits.proofs.packing.eight.Tie as tie

@@ -3,7 +3,7 @@ use native.Mathlib.Omega.{arith}
 use Prim.Native.Nat.{_+_, _-_, _/_}
 use lib.Pow.{pow-pos}
 use borrow.Author.Needs.{needs}
-use Rattle.bits.specs.Field.{shifted-out, one-shifted}
+use Rattle.bits.proofs.Fields.{shifted-out, one-shifted}
 use Rattle.bits.proofs.packing.field.Statement.{statement}
 use Rattle.bits.proofs.packing.field.Tie as tie
 

@@ -3,7 +3,7 @@ use mathlib.Core.Path.{ap, _∙_}
 use Prim.Native.Nat.{ℕ, _*_, _%_, _^_}
 use lib.ListN.{length}
 use borrow.Author.Needs.{needs}
-use Rattle.bits.specs.Window.{window-from}
+use Rattle.bits.proofs.Windows.{window-from}
 use Rattle.bits.proofs.scan.ahead.Statement.{statement}
 use Rattle.bits.proofs.scan.ahead.Tie as tie
 

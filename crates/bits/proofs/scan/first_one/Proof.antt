@@ -5,7 +5,8 @@ use native.Mathlib.Omega.{arith}
 use lib.ListN.{length}
 use borrow.Author.Needs.{needs}
 use Rattle.bits.specs.First.{upTo, first-end}
-use Rattle.bits.specs.Window.{clearAt, firstOne, lesser, lesser-le, lesser-some, reach, reach-is, window-pass, window-stop}
+use Rattle.bits.specs.Window.{clearAt, firstOne, lesser, lesser-le, lesser-some, reach, window-pass, window-stop}
+use Rattle.bits.proofs.Windows.{reach-is}
 use Rattle.bits.proofs.scan.first_one.Statement.{statement}
 use Rattle.bits.proofs.scan.first_one.Tie as tie
 

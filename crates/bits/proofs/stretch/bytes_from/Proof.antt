@@ -1,11 +1,11 @@
 -- One byte more is laid at each turn.
-use mathlib.Core.Path.{_≡_, refl, sym, ap, _∙_}
-use Prim.Native.Nat.{ℕ, _+_, _-_, _*_, _/_, _%_, _≤_, _<_}
+use mathlib.Core.Path.{_≡_, refl, _∙_}
+use Prim.Native.Nat.{ℕ, _+_, _-_, _*_, _≤_}
 use native.Mathlib.Omega.{arith}
-use lib.ListN.{length, getD}
 use borrow.Author.Needs.{needs}
 use Rattle.bits.specs.Pack.{bitAt}
-use Rattle.bits.specs.Stretch.{Laid, laid-none, laid-one, laid-on, eight-of}
+use Rattle.bits.specs.Stretch.{Laid, laid-none, laid-one, laid-on}
+use Rattle.bits.proofs.Stretches.{eight-of}
 use Rattle.bits.proofs.stretch.bytes_from.Statement.{statement}
 use Rattle.bits.proofs.stretch.bytes_from.Tie as tie
 

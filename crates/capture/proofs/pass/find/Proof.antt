@@ -4,7 +4,6 @@ use Prim.Native.Nat.{ℕ, _+_, _-_, _*_, _/_, _%_, _≤_, _<_}
 use native.Mathlib.Omega.{arith}
 use native.Mathlib.Nat.{le-refl, mul-le-mul, mod-lt, div-add-mod'}
 use lib.ListN.{length}
-use borrow.Author.Needs.{needs}
 use Rattle.bits.specs.First.{upTo}
 use Rattle.pool.specs.Pooled.{firstUndecided}
 use Rattle.pulses.specs.Zeros.{some-groups}

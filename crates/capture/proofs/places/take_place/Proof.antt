@@ -1,5 +1,5 @@
 -- A hit lays its symbol among the words; the others must be 0.
-use mathlib.Core.Path.{_≡_, sym, ap, _∙_}
+use mathlib.Core.Path.{sym, ap, _∙_}
 use Prim.Native.Nat.{_+_, _*_, _≤_, _<_}
 use native.Mathlib.Omega.{arith}
 use Rattle.bits.specs.Choice.{bool}

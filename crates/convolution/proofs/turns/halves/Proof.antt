@@ -1,46 +1,57 @@
--- `halves` meets its contract: each turn fills two places more, and after 7,560 turns all are filled.
-use mathlib.Core.Path.{sym, _∙_}
-use Prim.Native.Nat.{_-_, _*_, _≤_}
+-- Each turn fills 16 places more, and after 945 turns all are filled.
+use mathlib.Core.Path.{refl, sym, _∙_}
+use Prim.Native.Nat.{_-_, _≤_}
 use native.Mathlib.Omega.{arith}
 use borrow.Author.Needs.{needs}
-use lib.ListN.{getD}
-use Rattle.sizes.specs.Sizes.{wordBits}
-use Rattle.convolution.specs.Code.{encode}
-use Rattle.convolution.proofs.Filling.{Filled, filled-none, fill-two, filled-all}
+use Rattle.bits.specs.Pack.{bitAt, bit-lt}
+use Rattle.convolution.proofs.Turning.{Coding, half-turns, coding-none, coding-small, push-byte, last-two, coding-on, coding-done}
 use Rattle.convolution.proofs.turns.halves.Statement.{statement}
 use Rattle.convolution.proofs.turns.halves.Tie as tie
 
 abbrev Inv-loop : tie.InvT-loop
-Inv-loop input coded₀ q₀ coded q =
-    (q ≤ 7560) × Filled (encode 1 (λ i. getD input i 0)) wordBits coded (2 * q)
+Inv-loop table input coded₀ before₀ i₀ coded before i = (i ≤ 945) × Coding 1 8 16 (bitAt input) coded before i
 
 abbrev μ-loop : tie.MeasureT-loop
-μ-loop input coded₀ q₀ coded q = 7560 - q
+μ-loop table input coded₀ before₀ i₀ coded before i = 945 - i
 
 loop-holds : tie.Need-loop-holds Inv-loop μ-loop
-loop-holds c = (search needs, filled-none _ wordBits _ (c .before .before .pre .coded-size))
+loop-holds c = (search needs, coding-none 1 8 16 _ _ (c .before .before .before .pre .1 .coded-size))
 
-two-requires : tie.Need-two-requires Inv-loop μ-loop
-two-requires c κs =
-    let p = c .before .before .before .before .before .pre in
-    (record { input-size = p .input-size; coded-size = c .before .before .loop .inv .1 .size }, search needs)
+shared-slice-read-byte : tie.Need-shared-slice-read-byte Inv-loop μ-loop
+shared-slice-read-byte c = omega (arith, c .before .before .before .before .before .before .pre .1 .input-size)
 
-add-q : tie.Need-add-q Inv-loop μ-loop
-add-q c = search needs
+pushed-requires : tie.Need-pushed-requires Inv-loop μ-loop
+pushed-requires c κs = omega (arith, coding-small 1 8 16 _ (bit-lt _) _ _ _ (c .before .before .loop .inv .1))
+
+mul-half-turn : tie.Need-mul-half-turn Inv-loop μ-loop
+mul-half-turn c = search needs
+
+half-turn-requires : tie.Need-half-turn-requires Inv-loop μ-loop
+half-turn-requires c κs = (c .before .before .before .before .before .before .before .before .pre .0, omega (arith, c .before .before .before .before .loop .inv .1 .filled .size))
+
+cast-before : tie.Need-cast-before Inv-loop μ-loop
+cast-before c = search needs
+
+add-i : tie.Need-add-i Inv-loop μ-loop
+add-i c = search needs
 
 loop-less : tie.Need-loop-less Inv-loop μ-loop
 loop-less c = search needs
 
 loop-again : tie.Need-loop-again Inv-loop μ-loop
 loop-again c =
-    let at = c .before .before .before .before .before in
-    (search needs, fill-two _ wordBits (at .loop .coded) _ (at .loop .q) (omega arith) (c .before .before .two .ensures) (at .loop .inv .1))
+    let l = c .before .before .before .before .before .before .before .loop in
+    let s = c .before .before .before .before .before .before .before .before .before .before .before in
+    let xs = s .args .input .now in
+    let p = c .before .before .before .before .pushed in
+    let all = p .ensures ∙ push-byte xs (λ k. omega (arith, c .before .before .before .before .before .shared-slice-known3 .given k)) 8 (l .i) 0 _ (l .i) (l .inv .1 .carried) (omega arith) in
+    (search needs, coding-on 1 8 16 half-turns (bitAt xs) (bit-lt xs) _ _ _ (l .i) _ _ (l .inv .1) all (last-two _ _ _ (p .ensures)) (c .before .before .half-turn .ensures))
 
 same-length : tie.Need-same-length Inv-loop μ-loop
-same-length c = c .before .loop .inv .1 .size ∙ sym (c .before .before .before .before .pre .coded-size)
+same-length c = c .before .loop .inv .1 .filled .size ∙ sym (c .before .before .before .before .before .pre .1 .coded-size)
 
 returns : tie.Need-returns Inv-loop μ-loop
-returns c = filled-all _ wordBits _ (2 * c .before .loop .q) (omega arith) (c .before .loop .inv .1)
+returns c = coding-done 1 8 16 945 _ _ _ (c .before .loop .i) refl (omega arith) (c .before .loop .inv .1)
 
 pub halves-spec : {M : Type 1} → statement M
 halves-spec =
@@ -49,8 +60,12 @@ halves-spec =
     Inv-loop
     μ-loop
     loop-holds
-    two-requires
-    add-q
+    shared-slice-read-byte
+    pushed-requires
+    mul-half-turn
+    half-turn-requires
+    cast-before
+    add-i
     loop-less
     loop-again
     same-length

@@ -1,13 +1,8 @@
 -- Starts and bytes of the columns, their numbers in order, and the bits of these.
-use mathlib.Core.Path.{_≡_, refl, sym, ap, ap₂, _∙_}
-use mathlib.Core.List.{List}
-use Prim.Native.Nat.{ℕ, _+_, _-_, _*_, _/_, _%_, _^_, _≤_, _<_}
-use native.Mathlib.Omega.{arith}
-use lib.ListN.{length, getD, set, length-set}
 use borrow.Author.Needs.{needs}
-use Rattle.interleaver.specs.Sevens.{upIn, splitIn, codedIn}
+use Rattle.interleaver.specs.Columns.{upIn}
 use Rattle.interleaver.proofs.Numbers.{masks-rolled}
-use Rattle.interleaver.proofs.Reading.{in-lt}
+use Rattle.interleaver.proofs.Reading.{in-lt, starts-right, given-bits}
 use Rattle.interleaver.proofs.back.given.Statement.{statement}
 use Rattle.interleaver.proofs.back.given.Tie as tie
 
@@ -35,7 +30,7 @@ slice-aggregate-all-rows-2 c = search needs
 all-rows-requires : tie.Need-all-rows-requires
 all-rows-requires c κs =
     let first = c .before .before .before .before .before .before .before in
-    (first .before .before .before .before .before .before .pre .0, first .starts .ensures .0, search needs)
+    (first .before .before .before .before .before .before .pre .0, starts-right (first .starts .last .1 .0) (first .starts .kept .1 .0) (first .starts .ensures .0), search needs)
 
 slice-aggregate-split : tie.Need-slice-aggregate-split
 slice-aggregate-split c = search needs
@@ -44,22 +39,24 @@ slice-aggregate-split-2 : tie.Need-slice-aggregate-split-2
 slice-aggregate-split-2 c = search needs
 
 split-requires : tie.Need-split-requires
-split-requires c κs =
-    let roll = c .before .before .before .before .before .before .before .before in
-    let first = roll .before .before .before .before in
-    let s = first .before .before .before .before .before .before in
-    (search needs, masks-rolled upIn in-lt _ _ (first .starts .ensures .1) (roll .rolled .ensures), s .pre .2)
+split-requires c κs = search needs
 
 same-length : tie.Need-same-length
 same-length c = search needs
 
 returns : tie.Need-returns
-unfolding splitIn codedIn
-returns c = λ x h.
+returns c =
     let end = c .before .before in
     let rows = end .before .before .before .before .before in
-    end .split .ensures x h
-    ∙ ap (λ (v : ℕ). v / 2 ^ ((x / 2160 + upIn (x % 72)) % 7) % 2) (rows .all-rows .ensures (x % 2160) (omega arith))
+    let roll = rows .before .before .before .before in
+    let first = roll .before .before .before .before in
+    let s = first .before .before .before .before .before .before in
+    let mask = roll .rolled .last .0 in
+    given-bits (s .args .v .now) (first .starts .last .1 .0) (rows .all-rows .last .1 .1 .0) mask (end .split .last .1 .1 .0)
+    (first .starts .ensures .0)
+    (masks-rolled upIn in-lt _ mask (first .starts .ensures .1) (roll .rolled .ensures))
+    (rows .all-rows .ensures)
+    (end .split .ensures)
 
 pub given-spec : {M : Type 1} → statement M
 given-spec =

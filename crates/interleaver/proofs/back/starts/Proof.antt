@@ -1,12 +1,11 @@
 -- The columns that the word's columns before c take have their start and their bytes.
-use mathlib.Core.Path.{_≡_, refl, sym, ap, ap₂, _∙_}
-use mathlib.Core.List.{List}
-use Prim.Native.Nat.{ℕ, _+_, _-_, _*_, _/_, _%_, _^_, _≤_, _<_}
+use mathlib.Core.Path.{_≡_, ap, _∙_}
+use Prim.Native.Nat.{ℕ, _-_, _/_, _%_, _^_, _≤_, _<_}
 use native.Mathlib.Omega.{arith}
-use lib.ListN.{length, getD, set, length-set}
+use lib.ListN.{length, getD}
 use borrow.Author.Needs.{needs}
 use Rattle.interleaver.specs.Interleaver.{place, place-lt}
-use Rattle.interleaver.specs.Sevens.{columnOf, startIn, upIn}
+use Rattle.interleaver.specs.Columns.{columnOf, startIn, upIn}
 use Rattle.interleaver.proofs.Numbers.{column-lt, columns-more}
 use Rattle.interleaver.proofs.Reading.{start-place, in-place, start-more}
 use Rattle.interleaver.proofs.back.starts.Statement.{statement}
@@ -54,8 +53,8 @@ mul-at-3 c = search needs
 slice-write-at : tie.Need-slice-write-at Inv-loop μ-loop
 slice-write-at c = search needs
 
-put-mask-requires : tie.Need-put-mask-requires Inv-loop μ-loop
-put-mask-requires c κs = search needs
+put-requires : tie.Need-put-requires Inv-loop μ-loop
+put-requires c κs = search needs
 
 add-c : tie.Need-add-c Inv-loop μ-loop
 add-c c = search needs
@@ -67,7 +66,7 @@ loop-again : tie.Need-loop-again Inv-loop μ-loop
 loop-again c =
     let l = c .before .before .before .before .before .before .loop in
     let s = c .before .before .before .before .before .before .before .before .before .before in
-    let o = c .before .before .put-mask in
+    let o = c .before .before .put in
     let h : l .c < 72 = omega arith in
     let p : getD (s .args .off .now) (l .c) 0 ≡ place (l .c) = s .pre .0 .entry (l .c) h in (
       search needs,
@@ -89,7 +88,7 @@ same-length-2 c = search needs
 returns : tie.Need-returns Inv-loop μ-loop
 returns c =
     let l = c .before .loop in (
-      record { size = l .inv .1; entry = λ b h. l .inv .3 b h (let k = column-lt b in omega arith) },
+      λ b h. l .inv .3 b h (let k = column-lt b in omega arith),
       record { size = l .inv .2; entry = λ y h. l .inv .4 y h (let k = column-lt (y % 72) in omega arith) },
     )
 
@@ -110,7 +109,7 @@ starts-spec =
     add-at-2
     mul-at-3
     slice-write-at
-    put-mask-requires
+    put-requires
     add-c
     loop-less
     loop-again

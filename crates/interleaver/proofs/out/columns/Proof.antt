@@ -1,14 +1,14 @@
 -- The columns before c stand in their places.
-use mathlib.Core.Path.{_≡_, refl, sym, ap, ap₂, _∙_}
-use mathlib.Core.List.{List}
-use Prim.Native.Nat.{ℕ, _+_, _-_, _*_, _/_, _%_, _^_, _≤_, _<_}
+use mathlib.Core.Path.{_≡_, sym, ap, _∙_}
+use Prim.Native.Nat.{ℕ, _+_, _-_, _*_, _/_, _%_, _≤_, _<_}
 use native.Mathlib.Omega.{arith}
-use lib.ListN.{length, getD, set, length-set}
-use borrow.Author.Needs.{needs}
+use lib.ListN.{length, getD}
 use mathlib.Core.Logic.{⊎-elim}
+use borrow.Author.Needs.{needs}
 use Rattle.bits.specs.Choice.{lt-or-le, eq-or-ne}
 use Rattle.interleaver.specs.Interleaver.{place}
-use Rattle.interleaver.specs.Sevens.{columnAt}
+use Rattle.interleaver.specs.Columns.{columnAt}
+use Rattle.interleaver.proofs.Writing.{column-made, column-else}
 use Rattle.interleaver.proofs.out.columns.Statement.{statement}
 use Rattle.interleaver.proofs.out.columns.Tie as tie
 
@@ -30,11 +30,17 @@ mul-column c = search needs
 shared-slice-read-column : tie.Need-shared-slice-read-column Inv-loop μ-loop
 shared-slice-read-column c = search needs
 
+sub-column : tie.Need-sub-column Inv-loop μ-loop
+sub-column c = search needs
+
+mul-column-2 : tie.Need-mul-column-2 Inv-loop μ-loop
+mul-column-2 c = search needs
+
+add-column : tie.Need-add-column Inv-loop μ-loop
+add-column c = search needs
+
 column-requires : tie.Need-column-requires Inv-loop μ-loop
-column-requires c κs =
-    let l = c .before .before .before .loop in
-    let s = c .before .before .before .before .before .before .before in
-    (s .pre .0, omega arith, omega arith, l .inv .1)
+column-requires c κs = search needs
 
 add-c : tie.Need-add-c Inv-loop μ-loop
 add-c c = search needs
@@ -47,13 +53,16 @@ loop-again c =
     let l = c .before .before .before .before .before .before .loop in
     let s = c .before .before .before .before .before .before .before .before .before .before in
     let o = c .before .before .column in
-    let p : getD (s .args .off .now) (l .c) 0 ≡ place (l .c) = s .pre .1 .entry (l .c) (omega arith) in (
+    let v = s .args .v .now in
+    let p = s .pre .1 .entry (l .c) (omega arith) in (
       search needs,
-      o .kept .1 .1 .1 .0 ∙ l .inv .1,
+      o .ensures .long ∙ l .inv .1,
       λ y h k. ⊎-elim
           (λ (q : columnAt y ≡ l .c).
-          o .ensures .0 y h q ∙ ap (λ (j : ℕ). getD (s .args .v .now) (j % 2160 + 72 * (y % 270 / 9)) 0) (p ∙ ap place (sym q)))
-          (λ (q : columnAt y ≡ l .c → ⊥). o .ensures .1 y h q ∙ l .inv .2 y h (below (columnAt y) (l .c) q k))
+          column-made v (l .seen) (o .last .1 .1 .0) _ (l .c) y (o .ensures) h q
+          ∙ ap (λ (j : ℕ). getD v (j % 2160 + 72 * (y % 270 / 9)) 0) (p ∙ ap place (sym q)))
+          (λ (q : columnAt y ≡ l .c → ⊥).
+          column-else v (l .seen) (o .last .1 .1 .0) _ (l .c) y (o .ensures) (omega arith) q ∙ l .inv .2 y h (below (columnAt y) (l .c) q k))
           (eq-or-ne (columnAt y) (l .c)),
     )
 
@@ -72,6 +81,9 @@ columns-spec =
     loop-holds
     mul-column
     shared-slice-read-column
+    sub-column
+    mul-column-2
+    add-column
     column-requires
     add-c
     loop-less

@@ -1,12 +1,11 @@
 -- The columns of the word before c have their bytes.
-use mathlib.Core.Path.{_≡_, refl, sym, ap, ap₂, _∙_}
-use mathlib.Core.List.{List}
-use Prim.Native.Nat.{ℕ, _+_, _-_, _*_, _/_, _%_, _^_, _≤_, _<_}
+use mathlib.Core.Path.{_≡_, sym, ap, _∙_}
+use Prim.Native.Nat.{ℕ, _-_, _/_, _%_, _^_, _≤_, _<_}
 use native.Mathlib.Omega.{arith}
-use lib.ListN.{length, getD, set, length-set}
+use lib.ListN.{length, getD}
 use borrow.Author.Needs.{needs}
 use Rattle.interleaver.specs.Interleaver.{place, place-lt}
-use Rattle.interleaver.specs.Sevens.{columnOf, upOut}
+use Rattle.interleaver.specs.Columns.{columnOf, upOut}
 use Rattle.interleaver.proofs.Numbers.{column-lt, columns-more, out-place}
 use Rattle.interleaver.proofs.out.first_masks.Statement.{statement}
 use Rattle.interleaver.proofs.out.first_masks.Tie as tie
@@ -26,14 +25,14 @@ mul-p c = search needs
 shared-slice-read-p : tie.Need-shared-slice-read-p Inv-loop μ-loop
 shared-slice-read-p c = search needs
 
-sub-put-mask : tie.Need-sub-put-mask Inv-loop μ-loop
-sub-put-mask c =
+sub-put : tie.Need-sub-put Inv-loop μ-loop
+sub-put c =
     let l = c .before .before .before .loop in
     let row = c .before .before .before .before .before .before .pre .0 in
     omega (arith, row .entry (l .c) (omega arith), place-lt (l .c))
 
-put-mask-requires : tie.Need-put-mask-requires Inv-loop μ-loop
-put-mask-requires c κs = (c .before .before .before .loop .inv .1, omega arith, omega arith)
+put-requires : tie.Need-put-requires Inv-loop μ-loop
+put-requires c κs = (c .before .before .before .loop .inv .1, omega arith, omega arith)
 
 add-c : tie.Need-add-c Inv-loop μ-loop
 add-c c = search needs
@@ -45,7 +44,7 @@ loop-again : tie.Need-loop-again Inv-loop μ-loop
 loop-again c =
     let l = c .before .before .before .before .before .before .loop in
     let row = c .before .before .before .before .before .before .before .before .before .pre .0 in
-    let o = c .before .before .put-mask in
+    let o = c .before .before .put in
     let mask = o .last .0 in
     let p : getD (c .before .before .before .before .before .before .before .before .before .args .off .now) (l .c) 0 ≡ place (l .c) = row .entry (l .c) (omega arith) in (
       search needs,
@@ -73,8 +72,8 @@ first-masks-spec =
     loop-holds
     mul-p
     shared-slice-read-p
-    sub-put-mask
-    put-mask-requires
+    sub-put
+    put-requires
     add-c
     loop-less
     loop-again

@@ -1,12 +1,8 @@
 -- The columns' bytes, the rows, and the rows turned.
-use mathlib.Core.Path.{_≡_, refl, sym, ap, ap₂, _∙_}
-use mathlib.Core.List.{List}
-use Prim.Native.Nat.{ℕ, _+_, _-_, _*_, _/_, _%_, _^_, _≤_, _<_}
-use native.Mathlib.Omega.{arith}
-use lib.ListN.{length, getD, set, length-set}
+use lib.ListN.{getD}
 use borrow.Author.Needs.{needs}
-use Rattle.interleaver.specs.Sevens.{upOut}
-use Rattle.interleaver.proofs.Numbers.{masks-rolled, out-lt}
+use Rattle.interleaver.specs.Columns.{upOut}
+use Rattle.interleaver.proofs.Numbers.{masks-rolled, masks-light, mixed-out, out-lt}
 use Rattle.interleaver.proofs.Writing.{out-turned}
 use Rattle.interleaver.proofs.out.taken.Statement.{statement}
 use Rattle.interleaver.proofs.out.taken.Tie as tie
@@ -31,7 +27,8 @@ all-rows-requires c κs =
     let roll = c .before .before .before in
     let first = roll .before .before .before in
     let s = first .before .before .before .before .before in
-    (s .pre .0, masks-rolled upOut out-lt _ _ (first .first-masks .ensures) (roll .rolled .ensures), s .pre .2)
+    let mask = roll .rolled .last .0 in
+    (s .pre .0, masks-light upOut out-lt mask (masks-rolled upOut out-lt _ mask (first .first-masks .ensures) (roll .rolled .ensures)), s .pre .2)
 
 turned-requires : tie.Need-turned-requires
 turned-requires c κs = search needs
@@ -43,8 +40,15 @@ returns : tie.Need-returns
 returns c =
     let last = c .before .before in
     let rows = last .before .before .before .before in
-    let s = rows .before .before .before .before .before .before .before .before .before .before .before .before in
-    out-turned (λ j. getD (s .args .coded .now) j 0) (s .pre .0 .bits) _ _ (rows .all-rows .ensures) (last .turned .ensures)
+    let roll = rows .before .before .before .before in
+    let first = roll .before .before .before in
+    let s = first .before .before .before .before .before in
+    let mask = roll .rolled .last .0 in
+    let masks = masks-rolled upOut out-lt _ mask (first .first-masks .ensures) (roll .rolled .ensures) in
+    let v = rows .all-rows .last .1 .1 .0 in
+    out-turned (λ j. getD (s .args .coded .now) j 0) (s .pre .0 .bits) v (last .turned .last .0)
+    (mixed-out (s .args .coded .now) mask v masks (rows .all-rows .ensures))
+    (last .turned .ensures)
 
 pub taken-spec : {M : Type 1} → statement M
 taken-spec =

@@ -9,7 +9,7 @@ use Rattle.sizes.specs.Sizes.{wordBytes}
 use Rattle.word.specs.Word.{blockIn}
 use Rattle.word.specs.Word.{readSays as wordReads}
 use Rattle.bits.specs.Pieces.{piece}
-use Rattle.pass.specs.Row.{part-piece}
+use Rattle.pass.proofs.Parts.{part-piece}
 use Rattle.pass.proofs.reader.read_word.Statement.{statement}
 use Rattle.pass.proofs.reader.read_word.Tie as tie
 

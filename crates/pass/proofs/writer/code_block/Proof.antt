@@ -14,7 +14,8 @@ use Rattle.sizes.specs.Rate.{blockBytes, block-room}
 use Rattle.word.specs.Word.{wordOf}
 use Rattle.word.specs.Word.{writeSays as wordWrites}
 use Rattle.word.specs.Exports.{always-written}
-use Rattle.pass.specs.Row.{inside, part-piece}
+use Rattle.pass.specs.Row.{inside}
+use Rattle.pass.proofs.Parts.{part-piece}
 use Rattle.pass.proofs.writer.code_block.Statement.{statement}
 use Rattle.pass.proofs.writer.code_block.Tie as tie
 

@@ -1,6 +1,5 @@
 -- Ahead, level, or behind.
 use mathlib.Core.Path.{refl}
-use Prim.Native.Nat.{_-_}
 use borrow.Author.Tests.{lt-ltb, le-ltb, eq-eqb, ne-eqb}
 use Rattle.pool.proofs.counts.in_front.Statement.{statement}
 use Rattle.pool.proofs.counts.in_front.Tie as tie

@@ -1,5 +1,4 @@
 -- Where there is room to look 57 slots ahead.
-use Prim.Native.Nat.{_-_}
 use borrow.Author.Needs.{needs}
 use Rattle.pool.proofs.counts.skip.Statement.{statement}
 use Rattle.pool.proofs.counts.skip.Tie as tie

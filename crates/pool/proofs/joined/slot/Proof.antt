@@ -1,5 +1,4 @@
 -- All slots of the symbol are small numbers.
-use Prim.Native.Nat.{_-_}
 use native.Mathlib.Omega.{arith}
 use borrow.Author.Needs.{needs}
 use Rattle.pool.proofs.Joining.{slot-lt, few}

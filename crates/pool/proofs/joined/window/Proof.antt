@@ -1,6 +1,6 @@
 -- Eight bytes, shifted up to bit y.
 use mathlib.Core.Path.{ap, _∙_}
-use Prim.Native.Nat.{ℕ, _-_, _*_, _%_, _^_}
+use Prim.Native.Nat.{ℕ, _*_, _%_, _^_}
 use borrow.Author.Needs.{needs}
 use Rattle.pool.proofs.Joining.{window-is}
 use Rattle.pool.proofs.joined.window.Statement.{statement}

@@ -1,6 +1,5 @@
 -- Where all are good, none is bad.
 use mathlib.Core.Path.{sym}
-use native.Mathlib.Omega.{arith}
 use borrow.Author.Tests.{lt-ltb}
 use Rattle.bits.specs.First.{found-none}
 use Rattle.pulses.specs.Pulses.{symbolIn, grouped}

@@ -4,7 +4,7 @@ use Prim.Native.Nat.{_-_}
 use native.Mathlib.Omega.{arith}
 use lib.ListN.{getD-replicate}
 use borrow.Author.Needs.{needs}
-use Rattle.pulses.specs.Zeros.{Upto, upto-none, upto-more, upto-all}
+use Rattle.pulses.proofs.Laying.{Upto, upto-none, upto-more, upto-all}
 use Rattle.pulses.proofs.groups.zeros.Statement.{statement}
 use Rattle.pulses.proofs.groups.zeros.Tie as tie
 

@@ -1,5 +1,5 @@
 -- All numbers but one are 0, and that tells.
-use mathlib.Core.Path.{_≡_, sym, ap, _∙_}
+use mathlib.Core.Path.{_≡_, ap, _∙_}
 use native.Mathlib.Omega.{arith}
 use native.Mathlib.Nat.{mul-left-comm}
 use lib.Dec.{eqb}

@@ -1,7 +1,4 @@
 -- The first one of its window is the symbol.
-use mathlib.Core.Path.{sym, ap, _∙_}
-use Prim.Native.Nat.{ℕ, _*_, _%_, _^_}
-use native.Mathlib.Omega.{arith}
 use Rattle.pulses.proofs.Seen.{near-some, near-seen}
 use borrow.Author.Needs.{needs}
 use Rattle.pulses.proofs.numbers.seen_near.Statement.{statement}

@@ -1,12 +1,11 @@
 -- The search for slots that are the marker's is the search for the marker.
-use mathlib.Core.Path.{_≡_, ap, _∙_}
-use Prim.Native.Nat.{ℕ, _+_, _-_, _*_, _≤_, _<_}
+use mathlib.Core.Path.{ap, _∙_}
+use Prim.Native.Nat.{ℕ, _-_, _<_}
 use native.Mathlib.Omega.{arith}
-use lib.ListN.{length, getD, length-replicate, getD-replicate}
+use lib.ListN.{length-replicate, getD-replicate}
 use borrow.Author.Needs.{needs}
 use Rattle.bits.specs.Pack.{bitAt}
-use Rattle.search.specs.Laws.{slots-most}
-use Rattle.search.proofs.Pulses.{mark-inside, mark-pulse, whole}
+use Rattle.search.proofs.Pulses.{slots-most, mark-inside, mark-pulse, whole}
 use Rattle.search.proofs.marker.first_fit.Statement.{statement}
 use Rattle.search.proofs.marker.first_fit.Tie as tie
 

@@ -1,5 +1,4 @@
 -- A marker has no more than 10,240 slots.
-use Prim.Native.Nat.{ℕ, _+_, _*_, _<_}
 use native.Mathlib.Omega.{arith}
 use Rattle.search.proofs.Pulses.{room}
 use borrow.Author.Needs.{needs}

@@ -8,8 +8,8 @@ use borrow.Author.Needs.{needs}
 use Rattle.bits.specs.Pack.{bitAt}
 use Rattle.bits.specs.Put.{putBit}
 use Rattle.pulses.specs.Pulses.{slotBit}
-use Rattle.search.specs.Laws.{marker-sizes, slots-most}
-use Rattle.search.proofs.Pulses.{room, pulses-none, pulses-more}
+use Rattle.search.specs.Laws.{marker-sizes}
+use Rattle.search.proofs.Pulses.{slots-most, room, pulses-none, pulses-more}
 use Rattle.search.proofs.marker.put_marker.Statement.{statement}
 use Rattle.search.proofs.marker.put_marker.Tie as tie
 

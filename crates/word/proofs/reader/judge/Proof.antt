@@ -1,106 +1,117 @@
--- Each answer is the one that questions 13 to 15 give, in their order.
-use mathlib.Core.Path.{refl, ap}
+-- Each answer is the one that the questions give, in their order, to the input bits that were read.
+use mathlib.Core.Path.{_≡_, ap, _∙_}
+use mathlib.Core.List.{List}
+use Prim.Native.Nat.{ℕ, _*_}
 use native.Mathlib.Omega.{arith}
 use lib.ListN.{length, getD}
-use Rattle.sizes.specs.Rate.{infoBits, inputBits, block-size, input-room}
-use Rattle.word.specs.Word.Lists.{packed-length}
-use Rattle.word.specs.Word.Judging.{says-13, says-14, says-14-last, says-15, says-0}
+use Rattle.sizes.specs.Rate.{inputBits, info-ge}
+use Rattle.sizes.specs.Sizes.{wordBits}
+use Rattle.convolution.specs.Code.{decode, decode-bits}
+use Rattle.word.specs.Word.Judging.{says-13, says-14, says-15, says-0}
 use borrow.Author.Needs.{needs}
 use Rattle.word.proofs.reader.judge.Statement.{statement}
 use Rattle.word.proofs.reader.judge.Tie as tie
 
-first-wrong-requires : tie.Need-first-wrong-requires
-first-wrong-requires c κs = search needs
+-- the coded bits, and the input bits that they give
+y : tie.Start → ℕ → ℕ
+y s j = getD (s .args .coded .now) j 0
+
+x : tie.Start → ℕ → ℕ
+x s = decode (s .args .rate) (y s)
+
+-- as many bytes as before the reading
+size : (s : tie.Start) (input : List ℕ) → length input ≡ length (s .args .input .now) → 8 * length input ≡ inputBits (s .args .rate)
+size s input e = ap (λ (n : ℕ). 8 * n) e ∙ s .pre .input-size
+
+read-requires : tie.Need-read-requires
+read-requires c κs = search needs
+
+same-length : tie.Need-same-length
+same-length c = search needs
 
 returns : tie.Need-returns
+unfolding y x
 returns c =
-    let s = c .before .before .before .before .before in
-    says-13 (s .args .rate) (s .args .coded .now) (s .args .input .now) (c .before .first-wrong .result) (infoBits (s .args .rate)) (c .before .first-wrong .ensures) refl (c .if1 .taken)
+    let s = c .before .before .before .before .before .before .before in
+    let r = c .before .before .before .read in
+    (says-13 (s .args .rate) (y s) (x s) _ (r .ensures .0) (c .if1 .taken), r .ensures .1)
+
+end-of-requires : tie.Need-end-of-requires
+unfolding inputBits
+end-of-requires c κs =
+    let s = c .before .before .before .before .before .before .before .before in
+    let r = c .before .before .before .before .read in
+    omega (arith, size s (r .last .1 .1 .0) (r .kept .1 .1 .0), info-ge (s .args .rate))
+
+same-length-2 : tie.Need-same-length-2
+same-length-2 c = search needs
+
+returns-2 : tie.Need-returns-2
+unfolding y x
+returns-2 c =
+    let s = c .before .before .before .before .before .before .before .before .before .before in
+    let r = c .before .before .before .before .before .before .read in
+    let all : r .result ≡ wordBits = omega arith in (
+      says-14 (s .args .rate) (y s) (x s) _ (r .ensures .0) all (r .last .1 .1 .0) (size s (r .last .1 .1 .0) (r .kept .1 .1 .0)) (r .ensures .1) (decode-bits (s .args .rate) (y s) (s .pre .coded-bits))
+          _ (c .before .end-of .ensures) (c .if2 .taken),
+      r .ensures .1,
+    )
 
 info-bits-requires : tie.Need-info-bits-requires
 info-bits-requires c κs = search needs
 
-add-if2 : tie.Need-add-if2
-add-if2 c = let s = c .before .before .before .before .before .before in omega (arith, c .info-bits .ensures, input-room (s .args .rate) (s .pre .rate-is))
-
-shared-slice-read-if2 : tie.Need-shared-slice-read-if2
-unfolding inputBits
-shared-slice-read-if2 c = let s = c .before .before .before .before .before .before .before in omega (arith, c .before .info-bits .ensures, s .pre .input-is)
-
-returns-2 : tie.Need-returns-2
-returns-2 c =
-    let s = c .before .before .before .before .before .before .before .before in
-    let f = c .before .before .before .before in
-    let k = c .before .before in
-    says-14 (s .args .rate) (s .args .coded .now) (s .args .input .now) (f .first-wrong .result) (k .info-bits .result) (f .first-wrong .ensures) (k .info-bits .ensures)
-    (omega arith) (c .if2 .taken)
-
-add-if3 : tie.Need-add-if3
-add-if3 c = let s = c .before .before .before .before .before .before .before .before in omega (arith, c .before .before .info-bits .ensures, input-room (s .args .rate) (s .pre .rate-is))
-
-shared-slice-read-if3 : tie.Need-shared-slice-read-if3
-unfolding inputBits
-shared-slice-read-if3 c = let s = c .before .before .before .before .before .before .before .before .before in omega (arith, c .before .before .before .info-bits .ensures, s .pre .input-is)
-
-returns-3 : tie.Need-returns-3
-returns-3 c =
-    let s = c .before .before .before .before .before .before .before .before .before .before in
-    let f = c .before .before .before .before .before .before in
-    let k = c .before .before .before .before in
-    says-14-last (s .args .rate) (s .args .coded .now) (s .args .input .now) (f .first-wrong .result) (k .info-bits .result) (f .first-wrong .ensures) (k .info-bits .ensures)
-    (omega arith) (c .before .before .if2 .left) (c .if3 .taken)
-
-number-requires : tie.Need-number-requires
-unfolding inputBits
-number-requires c κs =
-    let s = c .before .before .before .before .before .before .before .before .before .before in
-    let k = c .before .before .before .before in
-    (omega (arith, k .info-bits .ensures, s .pre .input-is), omega arith, s .pre .input-bits)
-
 check-requires : tie.Need-check-requires
+unfolding inputBits
 check-requires c κs =
-    let s = c .before .before .before .before .before .before .before .before .before .before .before in
-    let k = c .before .before .before .before .before in
-    omega (arith, k .info-bits .ensures, ap length (s .pre .block-is), packed-length (s .args .rate) (λ i. getD (s .args .input .now) i 0), block-size (s .args .rate) (s .pre .rate-is))
+    let s = c .before .before .before .before .before .before .before .before .before .before .before .before in
+    let r = c .before .before .before .before .before .before .before .before .read in
+    omega (arith, size s (r .last .1 .1 .0) (r .kept .1 .1 .0), c .info-bits .ensures)
 
 cast-check : tie.Need-cast-check
 cast-check c = search needs
 
-returns-4 : tie.Need-returns-4
-returns-4 c =
-    let s = c .before .before .before .before .before .before .before .before .before .before .before .before .before in
-    let f = c .before .before .before .before .before .before .before .before .before in
-    let k = c .before .before .before .before .before .before .before in
-    says-15 (s .args .rate) (s .args .coded .now) (s .args .input .now) (f .first-wrong .result) (k .info-bits .result) (f .first-wrong .ensures) (k .info-bits .ensures)
-    (omega arith) (c .before .before .before .before .before .if2 .left) (c .before .before .before .if3 .left)
-    (s .args .block .now) (c .before .before .number .result) (c .before .check .result) (s .pre .rate-is) (s .pre .input-bits) (s .pre .block-is)
-    (c .before .before .number .ensures) (c .before .check .ensures) (c .if4 .taken)
+same-length-3 : tie.Need-same-length-3
+same-length-3 c = search needs
 
-returns-5 : tie.Need-returns-5
-returns-5 c =
-    let s = c .before .before .before .before .before .before .before .before .before .before .before .before .before in
-    let f = c .before .before .before .before .before .before .before .before .before in
-    let k = c .before .before .before .before .before .before .before in
-    says-0 (s .args .rate) (s .args .coded .now) (s .args .input .now) (f .first-wrong .result) (k .info-bits .result) (f .first-wrong .ensures) (k .info-bits .ensures)
-    (omega arith) (c .before .before .before .before .before .if2 .left) (c .before .before .before .if3 .left)
-    (s .args .block .now) (c .before .before .number .result) (c .before .check .result) (s .pre .rate-is) (s .pre .input-bits) (s .pre .block-is)
-    (c .before .before .number .ensures) (c .before .check .ensures) (c .if4 .left)
+returns-3 : tie.Need-returns-3
+unfolding y x
+returns-3 c =
+    let s = c .before .before .before .before .before .before .before .before .before .before .before .before .before .before in
+    let r = c .before .before .before .before .before .before .before .before .before .before .read in
+    let all : r .result ≡ wordBits = omega arith in (
+      says-15 (s .args .rate) (y s) (x s) _ (r .ensures .0) all (r .last .1 .1 .0) (size s (r .last .1 .1 .0) (r .kept .1 .1 .0)) (r .ensures .1) (decode-bits (s .args .rate) (y s) (s .pre .coded-bits))
+          _ (c .before .before .before .before .before .end-of .ensures) (omega arith) _ _ (c .before .before .info-bits .ensures) (c .before .check .ensures) (c .if3 .taken),
+      r .ensures .1,
+    )
+
+same-length-4 : tie.Need-same-length-4
+same-length-4 c = search needs
+
+returns-4 : tie.Need-returns-4
+unfolding y x
+returns-4 c =
+    let s = c .before .before .before .before .before .before .before .before .before .before .before .before .before .before in
+    let r = c .before .before .before .before .before .before .before .before .before .before .read in
+    let all : r .result ≡ wordBits = omega arith in (
+      says-0 (s .args .rate) (y s) (x s) _ (r .ensures .0) all (r .last .1 .1 .0) (size s (r .last .1 .1 .0) (r .kept .1 .1 .0)) (r .ensures .1) (decode-bits (s .args .rate) (y s) (s .pre .coded-bits))
+          _ (c .before .before .before .before .before .end-of .ensures) (omega arith) _ _ (c .before .before .info-bits .ensures) (c .before .check .ensures) (omega arith),
+      r .ensures .1,
+    )
 
 pub judge-spec : {M : Type 1} → statement M
 judge-spec =
     tie.close
     (tie.spec
-    first-wrong-requires
+    read-requires
+    same-length
     returns
-    info-bits-requires
-    add-if2
-    shared-slice-read-if2
+    end-of-requires
+    same-length-2
     returns-2
-    add-if3
-    shared-slice-read-if3
-    returns-3
-    number-requires
+    info-bits-requires
     check-requires
     cast-check
-    returns-4
-    returns-5)
+    same-length-3
+    returns-3
+    same-length-4
+    returns-4)

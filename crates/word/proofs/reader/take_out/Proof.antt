@@ -1,13 +1,8 @@
--- The word is copied, and two steps are undone on the copy.
-use mathlib.Core.Path.{_∙_, sym}
-use Rattle.bits.specs.Table.{copied}
+-- Two steps are undone, the last first.
 use Rattle.word.specs.Word.Laws.{coded-made}
 use borrow.Author.Needs.{needs}
 use Rattle.word.proofs.reader.take_out.Statement.{statement}
 use Rattle.word.proofs.reader.take_out.Tie as tie
-
-copy-requires : tie.Need-copy-requires
-copy-requires c κs = search needs
 
 differentiate-requires : tie.Need-differentiate-requires
 differentiate-requires c κs = search needs
@@ -23,20 +18,10 @@ same-length-2 c = search needs
 
 returns : tie.Need-returns
 returns c =
-    let p = c .before .before .before .before .before .before .before .before .before .before .before in
-    let s = p .before .before .before .before .before in
     let w1 = c .before .before .before .before .before .before .before .differentiate in
+    let s = c .before .before .before .before .before .before .before .before .before .before .before .before in
     let w2 = c .before .before .deinterleave in
-    coded-made (s .args .word .now) (p .copy .last .1 .0) (w1 .last .0) (w2 .last .1 .0) (s .pre .word-is)
-    (p .copy .ensures .1 ∙ copied (s .args .word .now) (s .args .work .now) (s .pre .work-is ∙ sym (s .pre .word-is))) (w1 .ensures) (w2 .ensures)
+    coded-made (s .args .word .now) (w1 .last .1 .0) (w2 .last .1 .0) (s .pre .word-is) (w1 .ensures) (w2 .ensures)
 
 pub take-out-spec : {M : Type 1} → statement M
-take-out-spec =
-    tie.close
-    (tie.spec
-    copy-requires
-    differentiate-requires
-    deinterleave-requires
-    same-length
-    same-length-2
-    returns)
+take-out-spec = tie.close (tie.spec differentiate-requires deinterleave-requires same-length same-length-2 returns)

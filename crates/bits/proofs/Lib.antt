@@ -1,0 +1,5 @@
+pub mod Changing
+pub mod Fields
+pub mod Joining
+pub mod Stretches
+pub mod Windows

@@ -1,0 +1,4 @@
+pub mod Sixes
+pub mod Ahead
+pub mod Entries
+pub mod ByBytes

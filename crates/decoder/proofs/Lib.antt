@@ -1,0 +1,9 @@
+pub mod Columns
+pub mod Digits
+pub mod Transposing
+pub mod Joining
+pub mod Outputs
+pub mod Reading
+pub mod Decoding
+pub mod Rates
+pub mod Agreeing

@@ -1,0 +1,29 @@
+-- The columns of the rows, and behind them those of the next row.
+use Rattle.decoder.specs.Rows.{bitsOf}
+use Rattle.decoder.proofs.Columns.{coded-past, held-next}
+use borrow.Author.Needs.{needs}
+use Rattle.decoder.proofs.rows.columns.Statement.{statement}
+use Rattle.decoder.proofs.rows.columns.Tie as tie
+
+sevens-requires : tie.Need-sevens-requires
+sevens-requires c κs = search needs
+
+follow-requires : tie.Need-follow-requires
+follow-requires c κs = search needs
+
+same-length : tie.Need-same-length
+same-length c = search needs
+
+returns : tie.Need-returns
+returns c =
+    let s = c .before .before .before .before .before .before .before .before .before .before in
+    held-next (bitsOf (s .args .coded .now)) (s .pre .0 .bits) (coded-past (s .args .coded .now) (s .pre .0)) _ _ (c .before .before .before .before .before .before .sevens .ensures) (c .before .before .follow .ensures)
+
+pub columns-spec : {M : Type 1} → statement M
+columns-spec =
+    tie.close
+    (tie.spec
+    sevens-requires
+    follow-requires
+    same-length
+    returns)

@@ -1,0 +1,83 @@
+// Step 4 undone, and question 13. Input bits are packed; coded bits stand one to a place.
+mod apart;
+mod back;
+mod compare;
+mod quick;
+mod rows;
+mod turned;
+
+ghost use mathlib.Core.Path.{_≡_};
+ghost use Prim.Native.Nat.{ℕ, _<_};
+ghost use lib.Dec.{eqb};
+ghost use lib.ListN.{length, getD};
+ghost use Rattle.bits.specs.First.{upTo};
+ghost use Rattle.bits.specs.Pack.{bitAt};
+ghost use Rattle.bits.specs.Table.{tab};
+ghost use Rattle.sizes.specs.Rate.{inputBits};
+ghost use Rattle.sizes.specs.Sizes.{wordBits};
+ghost use Rattle.convolution.specs.Code.{encode as encoded, decode as decoded};
+ghost use Rattle.convolution.specs.Needs.{Encodes};
+ghost use Rattle.decoder.specs.Needs.{Decodes, Unpacks, Packs};
+
+// The input bits from the second output alone, one to a place.
+fn unpacked(rate: u64, coded: &[u8], bits: &mut [u8])
+    requires { ⌜ Unpacks rate (now coded) (now bits) ⌝ }
+    ensures { λ _. ⌜ now (bits .exit) ≡ tab (inputBits rate) (decoded rate (λ j. getD (now (coded .entry)) j 0)) ⌝ }
+{
+    match rate {
+        0 => back::steps(3, 5040, coded, bits),
+        1 => back::steps(2, 7560, coded, bits),
+        _ => back::pairs(coded, bits),
+    }
+}
+
+// The same, packed. `room` is for them one to a place, at any rate.
+fn packed(rate: u64, coded: &[u8], room: &mut [u8], input: &mut [u8])
+    requires { ⌜ Packs rate (now coded) (now room) (now input) ⌝ }
+    ensures { λ _. ⌜ ((i : ℕ) → i < inputBits rate → bitAt (now (input .exit)) i ≡ decoded rate (λ j. getD (now (coded .entry)) j 0) i) ⌝ }
+{
+    let n = sizes::input_bits(rate);
+    unpacked(rate, coded, &mut room[..n]);
+    bits::packing::pack(&room[..n], input);
+}
+
+// Step 4 undone, from the second output alone.
+fn decode(rate: u64, coded: &[u8], input: &mut [u8])
+    requires { ⌜ Decodes rate (now coded) (now input) ⌝ }
+    ensures { λ _. ⌜ ((i : ℕ) → i < inputBits rate → bitAt (now (input .exit)) i ≡ decoded rate (λ j. getD (now (coded .entry)) j 0) i) ⌝ }
+{
+    let mut room = [0u8; 10080];
+    packed(rate, coded, &mut room, input);
+}
+
+// Question 13: the first coded bit that the input bits do not make; 15120 where they make all.
+fn first_wrong(rate: u64, input: &[u8], coded: &[u8]) -> usize
+    requires { ⌜ Encodes rate (now input) (now coded) ⌝ }
+    ensures { λ r. ⌜ r ≡ upTo (λ j. eqb (getD (now (coded .entry)) j 0) (encoded rate (bitAt (now (input .entry))) j)) 0 wordBits ⌝ }
+{
+    let mut made = [0u8; 15120];
+    remade(rate, input, coded, &mut made)
+}
+
+// The coded bits of the input bits are made once more, in `made`, and compared.
+fn remade(rate: u64, input: &[u8], coded: &[u8], made: &mut [u8]) -> usize
+    requires { ⌜ Encodes rate (now input) (now coded) ⌝ }
+    requires { ⌜ length (now made) ≡ wordBits ⌝ }
+    ensures { λ r. ⌜ r ≡ upTo (λ j. eqb (getD (now (coded .entry)) j 0) (encoded rate (bitAt (now (input .entry))) j)) 0 wordBits ⌝ }
+{
+    convolution::encode(rate, input, made);
+    compare::first_apart(made, coded)
+}
+
+// Step 4 undone, and question 13 of the input bits that this gives.
+pub fn read(rate: u64, coded: &[u8], input: &mut [u8]) -> usize
+    requires { ⌜ Decodes rate (now coded) (now input) ⌝ }
+    ensures { λ r. ⌜ r ≡ upTo (λ j. eqb (getD (now (coded .entry)) j 0) (encoded rate (decoded rate (λ j. getD (now (coded .entry)) j 0)) j)) 0 wordBits ⌝ }
+    ensures { λ _. ⌜ ((i : ℕ) → i < inputBits rate → bitAt (now (input .exit)) i ≡ decoded rate (λ j. getD (now (coded .entry)) j 0) i) ⌝ }
+{
+    if quick::quick(rate, coded, input) == 0 {
+        return sizes::WORD_BITS;
+    }
+    decode(rate, coded, input);
+    first_wrong(rate, input, coded)
+}

@@ -1,0 +1,72 @@
+-- One byte more is made from the one 144 before it.
+use mathlib.Core.Path.{_≡_, refl}
+use Prim.Native.Nat.{_-_, _≤_}
+use native.Mathlib.Omega.{arith}
+use borrow.Author.Needs.{needs}
+use Rattle.sevens.specs.Sevens.{Rolled}
+use Rattle.sevens.proofs.Loops.{rolled-none, rolled-more}
+use Rattle.sevens.proofs.masks.rolled.Statement.{statement}
+use Rattle.sevens.proofs.masks.rolled.Tie as tie
+
+abbrev Inv-loop : tie.InvT-loop
+Inv-loop mask₀ x₀ mask x = (x ≤ 864) × Rolled x mask₀ mask
+
+abbrev μ-loop : tie.MeasureT-loop
+μ-loop mask₀ x₀ mask x = 864 - x
+
+loop-holds : tie.Need-loop-holds Inv-loop μ-loop
+loop-holds c = (search needs, rolled-none _)
+
+slice-read-b : tie.Need-slice-read-b Inv-loop μ-loop
+slice-read-b c = search needs
+
+mul-mask : tie.Need-mul-mask Inv-loop μ-loop
+mul-mask c = search needs
+
+add-mask : tie.Need-add-mask Inv-loop μ-loop
+add-mask c = omega (arith, c .slice-known .given (c .before .before .loop .x))
+
+add-mask-2 : tie.Need-add-mask-2 Inv-loop μ-loop
+add-mask-2 c = search needs
+
+slice-write-mask : tie.Need-slice-write-mask Inv-loop μ-loop
+slice-write-mask c = search needs
+
+add-x : tie.Need-add-x Inv-loop μ-loop
+add-x c = search needs
+
+loop-less : tie.Need-loop-less Inv-loop μ-loop
+loop-less c = search needs
+
+loop-again : tie.Need-loop-again Inv-loop μ-loop
+loop-again c =
+    let l = c .before .before .loop in
+    let e = l .inv .1 .long in
+    (search needs, rolled-more (c .before .before .before .args .mask .now) (l .mask) (l .x) _ (omega arith) refl (l .inv .1))
+
+same-length : tie.Need-same-length Inv-loop μ-loop
+same-length c = c .before .loop .inv .1 .long
+
+returns : tie.Need-returns Inv-loop μ-loop
+returns c =
+    let l = c .before .loop in
+    let e : l .x ≡ 864 = omega arith in
+    rw e at (l .inv .1)
+
+pub rolled-spec : {M : Type 1} → statement M
+rolled-spec =
+    tie.close
+    (tie.spec
+    Inv-loop
+    μ-loop
+    loop-holds
+    slice-read-b
+    mul-mask
+    add-mask
+    add-mask-2
+    slice-write-mask
+    add-x
+    loop-less
+    loop-again
+    same-length
+    returns)

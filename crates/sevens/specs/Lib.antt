@@ -1,0 +1,2 @@
+pub mod Sevens
+pub mod Planes
