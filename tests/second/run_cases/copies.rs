@@ -150,9 +150,10 @@ pub(super) const POOLED: [Damage; 14] = [
             Some(slots)
         },
     },
+    // 15 where a word has nothing but zeros, which are coded bits of zeros.
     Damage {
         name: "the run sent several times in place of each symbol",
-        numbers: &[10, 11, 12, 13, 14],
+        numbers: &[10, 11, 12, 13, 14, 15],
         slots: |_, sample| {
             let all = sample.repeated()?;
             let symbols = sample.symbols().repeat(all);
