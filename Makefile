@@ -308,8 +308,9 @@ $(addprefix $(HOST)/bench_,words passes uplinks runs delays): bench/timing.h
 $(HOST)/bench_words: bench/bench_words.c $(HOST)/plain_word.o bench/plain_word.h $(HEADER) $(LINKED)
 	@$(COMPILE) $< $(HOST)/plain_word.o $(LIBS) -o $@
 
-$(HOST)/bench_passes: bench/bench_passes.c $(HEADER) $(LINKED)
-	@$(COMPILE) $< $(LIBS) -o $@
+$(HOST)/bench_passes: bench/bench_passes.c $(HOST)/plain_word.o $(HOST)/plain_pass.o \
+    bench/plain_pass.h $(HEADER) $(LINKED)
+	@$(COMPILE) $< $(HOST)/plain_word.o $(HOST)/plain_pass.o $(LIBS) -o $@
 
 $(HOST)/bench_uplinks: bench/bench_uplinks.c $(HOST)/plain_uplink.o bench/plain_uplink.h \
     $(HEADER) $(LINKED)
@@ -341,7 +342,7 @@ fuzz: $(HOST)/fuzz_drive
 	@tests/fuzz/run $(SECONDS) $< $(LIBS)
 
 # The crates of the product that have code.
-CRATES ?= bits answers sizes crc convolution decoder sevens interleaver accumulator randomizer \
+CRATES ?= bits answers sizes crc convolution sevens decoder interleaver accumulator randomizer \
     word pass spread header quantities questions convert parameters plan stream frames pulses \
     pool channel fades delay slots capture starts search cut run_writer run_reader rack_keeper \
     ldpc uplink uplink_writer uplink_reader calls sheet runsheet

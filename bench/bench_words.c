@@ -78,13 +78,13 @@ static void row(const char *name, call_type *library, call_type *plain, int writ
             best_plain = took_plain < best_plain ? took_plain : best_plain;
         }
     }
-    printf("%-5s %-11s %9.1f %9.1f %15.2f\n", RATE_NAMES[rate], name, best_library, best_plain,
-           best_library / best_plain);
+    printf("%-5s %-11s %9.2f %9.2f %15.1f\n", RATE_NAMES[rate], name, best_library, best_plain,
+           best_plain / best_library);
 }
 
 int main(void) {
     printf("microseconds a word, best of %d batches of %d words\n", BATCHES, WORDS);
-    printf("%-5s %-11s %9s %9s %15s\n", "rate", "call", "library", "plain C", "library/plain");
+    printf("%-5s %-11s %9s %9s %15s\n", "rate", "call", "library", "plain C", "plain/library");
     for (uint64_t rate = 0; rate < RATES; rate++) {
         fill_blocks(rate);
         compare(rate);

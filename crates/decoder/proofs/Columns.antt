@@ -2,27 +2,22 @@
 use mathlib.Core.Path.{_≡_, sym, ap, _∙_}
 use mathlib.Core.List.{List}
 use mathlib.Core.Logic.{⊎-elim}
-use Prim.Native.Nat.{ℕ, _+_, _-_, _*_, _/_, _%_, _^_, _≤_, _<_}
+use Prim.Native.Nat.{ℕ, _+_, _-_, _*_, _/_, _^_, _≤_, _<_}
 use native.Mathlib.Omega.{arith}
 use lib.Bits.{bitXor}
 use lib.ListN.{length, getD, set, length-set, List·getD-eq-default}
 use Rattle.bits.specs.Choice.{lt-or-le}
 use Rattle.bits.specs.Table.{fill}
-use Rattle.bits.specs.Pack.{Bits, val, val-same, bit-val}
+use Rattle.bits.specs.Pack.{Bits, val, val-same}
 use Rattle.bits.specs.Parts.{val-split, val-plus, none-val}
 use Rattle.sizes.specs.Sizes.{wordBits}
 use Rattle.convolution.specs.Turns.{Put}
-use Rattle.decoder.specs.Rows.{column, Coded, bitsOf, Row, Held}
+use Rattle.sevens.specs.Sevens.{column, Coded}
+use Rattle.decoder.specs.Rows.{bitsOf, Row, Held}
 
 -- the bits of a column, from the last row's on
 abbrev pub rowBit : (ℕ → ℕ) → ℕ → ℕ → ℕ
 rowBit f x t = f (x + 2160 * (6 - t))
-
-pub column-bit : (f : ℕ → ℕ) → Bits f → (x k : ℕ) → k < 7 → column f x / 2 ^ k % 2 ≡ f (x + 2160 * k)
-unfolding column
-column-bit f b x k l =
-    let e : 6 - (6 - k) ≡ k = omega arith in
-    bit-val (rowBit f x) (λ t. b (x + 2160 * (6 - t))) k (6 - k) 7 (omega arith) ∙ ap (λ (r : ℕ). f (x + 2160 * r)) e
 
 pub column-none : (f : ℕ → ℕ) → Bits f → (x : ℕ) → column f x ≡ 0 → (k : ℕ) → k < 7 → f (x + 2160 * k) ≡ 0
 unfolding column

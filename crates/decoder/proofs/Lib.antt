@@ -1,5 +1,4 @@
 pub mod Columns
-pub mod Digits
 pub mod Transposing
 pub mod Joining
 pub mod Outputs

@@ -10,11 +10,12 @@ use borrow.Author.Tests.{eq-eqb, ne-eqb}
 use Rattle.bits.specs.Choice.{bit-cases}
 use Rattle.bits.specs.Sum.{xor-bit, xor-cancel-r, same-xor}
 use Rattle.bits.specs.Pack.{Bits, bitAt}
-use Rattle.decoder.specs.Rows.{column, Coded, bitsOf, Held, sumTwo, sumFive}
+use Rattle.sevens.specs.Sevens.{column, column-bit, Coded}
+use Rattle.decoder.specs.Rows.{bitsOf, Held, sumTwo, sumFive}
 use Rattle.decoder.specs.Apart.{NoSum}
 use Rattle.decoder.specs.Turned.{source, Taken}
-use Rattle.decoder.specs.Quick.{Made, pairOf, Spread, Starts}
-use Rattle.decoder.proofs.Columns.{column-bit, column-none, column-plus, column-on}
+use Rattle.decoder.specs.Quick.{Made, pairOf, Summed, StartsRight}
+use Rattle.decoder.proofs.Columns.{column-none, column-plus, column-on}
 use Rattle.decoder.proofs.Outputs as out
 
 -- the sum of five neighbours
@@ -79,7 +80,7 @@ no-sum f g h bf bg bh a b c na nb nc p q step n ha hb hc la lb lc none u m r hu 
 
 -- ---- bits that are taken
 
-taken-bit : (a b : List ℕ) (x y s n : ℕ) (input : List ℕ) → Taken a b x y s n n input → (f : ℕ → ℕ) → Bits f → (g r u place : ℕ) → g < n → r < 7 → u < 8
+taken-bit : (a b : List ℕ) (x y s n : ℕ) (input : List ℕ) → Taken a b x y s n input → (f : ℕ → ℕ) → Bits f → (g r u place : ℕ) → g < n → r < 7 → u < 8
     → source a b (x + 4 * (s * g)) (y + 4 * (s * g)) s u ≡ column f place → bitAt input (8 * (g + n * r) + u) ≡ f (place + 2160 * r)
 taken-bit a b x y s n input t f bf g r u place hg hr hu e =
     t g r u hg hr hu ∙ ap (λ (v : ℕ). v / 2 ^ r % 2) e ∙ column-bit f bf place r hr
@@ -94,7 +95,7 @@ unfolding source
 source-odd a b x y s u e = let ne : u % 2 ≡ 0 → ⊥ = λ z. omega arith in rw (ne-eqb (u % 2) 0 ne) refl
 
 module _ (coded d input : List ℕ) (h : Coded coded) (hd : Held (column (pairOf coded)) 2167 d) where
-  third-bits : Taken d d 3 6 6 90 90 input → (i : ℕ) → i < 5040 → bitAt input i ≡ pairOf coded (3 * (i + 1))
+  third-bits : Taken d d 3 6 6 90 input → (i : ℕ) → i < 5040 → bitAt input i ≡ pairOf coded (3 * (i + 1))
   third-bits t i l =
       let g : ℕ = i / 8 % 90 in
       let r : ℕ = i / 8 / 90 in
@@ -113,7 +114,7 @@ module _ (coded d input : List ℕ) (h : Coded coded) (hd : Held (column (pairOf
       ∙ hd .below place (omega arith))
       ∙ ap (pairOf coded) there
 
-  half-bits : Taken d d 2 4 4 135 135 input → (i : ℕ) → i < 7560 → bitAt input i ≡ pairOf coded (2 * (i + 1))
+  half-bits : Taken d d 2 4 4 135 input → (i : ℕ) → i < 7560 → bitAt input i ≡ pairOf coded (2 * (i + 1))
   half-bits t i l =
       let g : ℕ = i / 8 % 135 in
       let r : ℕ = i / 8 / 135 in
@@ -132,7 +133,7 @@ module _ (coded d input : List ℕ) (h : Coded coded) (hd : Held (column (pairOf
       ∙ hd .below place (omega arith))
       ∙ ap (pairOf coded) there
 
-  module _ (e : List ℕ) (he : Held (column (fiveOf coded)) 2164 e) (t : Taken e d 0 3 3 180 180 input) where
+  module _ (e : List ℕ) (he : Held (column (fiveOf coded)) 2164 e) (t : Taken e d 0 3 3 180 input) where
     two-even : (i : ℕ) → i < 5040 → bitAt input (2 * i) ≡ fiveOf coded (3 * i)
     two-even i l =
         let k : ℕ = 2 * i in
@@ -179,17 +180,17 @@ module _ (f g h : ℕ → ℕ) (bf : Bits f) (bg : Bits g) (bh : Bits h) (a b c 
       rw at at (no-sum f g h bf bg bh a b c na nb nc p q 2 24 ha hb hc la lb lc none (x / 48) (x % 48 / 2) (m / 1080) (omega arith) (omega arith) (omega arith) (omega arith))
 
 -- the first coded bit by the column w
-starts-at : (coded : List ℕ) (f : ℕ → ℕ) → Bits f → (x w : ℕ) → w ≡ column f x → Starts coded w → bitsOf coded 0 ≡ f x
+starts-at : (coded : List ℕ) (f : ℕ → ℕ) → Bits f → (x w : ℕ) → w ≡ column f x → StartsRight coded w → bitsOf coded 0 ≡ f x
 starts-at coded f b x w e s =
     let one : column f x % 2 ≡ column f x / 2 ^ 0 % 2 = ap (λ (v : ℕ). v % 2) (let q : column f x ≡ column f x / 2 ^ 0 = omega arith in q) in
     let at : x + 2160 * 0 ≡ x = omega arith in
     s .first ∙ ap (λ (v : ℕ). v % 2) e ∙ one ∙ column-bit f b x 0 (omega arith) ∙ ap f at
 
-module _ (coded v d input : List ℕ) (sp : Spread coded v d) where
+module _ (coded v d input : List ℕ) (sp : Summed coded v d) where
   c : ℕ → ℕ
   c = bitsOf coded
 
-  pub third-read : Starts coded (getD d 3 0) → NoSum d v d 3 6 3 16 → NoSum d v v 0 2 3 16 → Taken d d 3 6 6 90 90 input → Made 0 coded input
+  pub third-read : StartsRight coded (getD d 3 0) → NoSum d v d 3 6 3 16 → NoSum d v v 0 2 3 16 → Taken d d 3 6 6 90 input → Made 0 coded input
   unfolding c
   third-read s firsts thirds t =
       let h = sp .coded-is in
@@ -212,7 +213,7 @@ module _ (coded v d input : List ℕ) (sp : Spread coded v d) where
       sym (ap (λ (k : ℕ). bitXor (pairOf coded (3 * i)) (c k)) e ∙ ap (λ (w : ℕ). bitXor w (c (3 * i))) (xor-comm (c (3 * i)) (c (3 * i + 1))) ∙ xor-cancel-r (c (3 * i + 1)) (c (3 * i)))
       ∙ same-xor (bitXor (pairOf coded (3 * i)) (c (3 * i + 0))) (c (3 * i + 2)) sum)
 
-  pub half-read : Starts coded (getD d 2 0) → NoSum d v d 2 4 2 24 → Taken d d 2 4 4 135 135 input → Made 1 coded input
+  pub half-read : StartsRight coded (getD d 2 0) → NoSum d v d 2 4 2 24 → Taken d d 2 4 4 135 input → Made 1 coded input
   unfolding c
   half-read s firsts t =
       let h = sp .coded-is in
@@ -228,7 +229,7 @@ module _ (coded v d input : List ℕ) (sp : Spread coded v d) where
       ∙ sums-two (pairOf coded) c (pairOf coded) b (h .bits) b d v d 2167 2168 2167 2 4 (sp .pairs) (sp .columns) (sp .pairs) (omega arith) (omega arith) (omega arith) firsts m (omega arith) in
       out.half-made c z (out.step-first c z 2 7560 none behind start sums) (out.step-second c z 2 7560 none behind start sums)
 
-  pub two-read : (e : List ℕ) → Held (column (fiveOf coded)) 2164 e → Starts coded (getD e 0 0) → NoSum e v e 3 3 3 16 → Taken e d 0 3 3 180 180 input → Made 2 coded input
+  pub two-read : (e : List ℕ) → Held (column (fiveOf coded)) 2164 e → StartsRight coded (getD e 0 0) → NoSum e v e 3 3 3 16 → Taken e d 0 3 3 180 input → Made 2 coded input
   unfolding c
   two-read e he s firsts t =
       let h = sp .coded-is in

@@ -8,7 +8,8 @@ use lib.ListN.{getD}
 use Rattle.bits.specs.Pack.{bitAt}
 use Rattle.sizes.specs.Sizes.{wordBits}
 use Rattle.convolution.specs.Code.{encode}
-use Rattle.decoder.specs.Rows.{column, Coded, bitsOf, Row, Held}
+use Rattle.sevens.specs.Sevens.{column, Coded}
+use Rattle.decoder.specs.Rows.{bitsOf, Held}
 
 -- the input bits make all coded bits
 abbrev pub Made : ℕ → List ℕ → List ℕ → Type 0
@@ -19,18 +20,12 @@ abbrev pub pairOf : List ℕ → ℕ → ℕ
 pairOf coded j = bitXor (bitsOf coded j) (bitsOf coded (j + 1))
 
 -- coded bits, their columns, and those of the sums of two neighbours
-pub record Spread (coded v d : List ℕ) : Type 0 where
+pub record Summed (coded v d : List ℕ) : Type 0 where
   pub coded-is : Coded coded
   pub columns : Held (column (bitsOf coded)) 2168 v
   pub pairs : Held (column (pairOf coded)) 2167 d
 
 -- the first coded bit is the second, and the lowest bit of w
-pub record Starts (coded : List ℕ) (w : ℕ) : Type 0 where
+pub record StartsRight (coded : List ℕ) (w : ℕ) : Type 0 where
   pub same : bitsOf coded 0 ≡ bitsOf coded 1
   pub first : bitsOf coded 0 ≡ w % 2
-
--- room for three rows
-pub record Rooms (v d e : List ℕ) : Type 0 where
-  pub v-size : Row v
-  pub d-size : Row d
-  pub e-size : Row e

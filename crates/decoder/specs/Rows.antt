@@ -1,22 +1,13 @@
--- The coded word in seven rows of 2,160 bits. A column has the seven bits at one place of the rows, the first row's lowest, so that one byte says of
--- seven places at once what the code says of one.
+-- The coded word in seven rows of 2,160 bits. A column (`column` of crate `sevens`) has the seven bits at one place of the rows, the first row's
+-- lowest, so that one byte says of seven places at once what the code says of one.
 use mathlib.Core.Path.{_≡_}
 use mathlib.Core.List.{List}
-use Prim.Native.Nat.{ℕ, _+_, _-_, _*_, _<_}
+use Prim.Native.Nat.{ℕ, _+_}
 use lib.Bits.{bitXor}
 use lib.ListN.{length, getD}
-use Rattle.bits.specs.Pack.{val}
-use Rattle.sizes.specs.Sizes.{wordBits}
-
--- the column of f at place x
-unfoldable pub column : (ℕ → ℕ) → ℕ → ℕ
-column f x = val (λ t. f (x + 2160 * (6 - t))) 7
+use Rattle.sevens.specs.Sevens.{Filled}
 
 -- the coded bits, one to a place
-pub record Coded (coded : List ℕ) : Type 0 where
-  pub size : length coded ≡ wordBits
-  pub bits : (j : ℕ) → getD coded j 0 < 2
-
 abbrev pub bitsOf : List ℕ → ℕ → ℕ
 bitsOf coded j = getD coded j 0
 
@@ -27,7 +18,7 @@ Row xs = length xs ≡ 2168
 -- of these, the first n are g 0, g 1, ..
 pub record Held (g : ℕ → ℕ) (n : ℕ) (xs : List ℕ) : Type 0 where
   pub size : Row xs
-  pub below : (x : ℕ) → x < n → getD xs x 0 ≡ g x
+  pub below : Filled g xs n
 
 -- sums of neighbours
 abbrev pub sumTwo : List ℕ → ℕ → ℕ

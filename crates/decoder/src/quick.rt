@@ -4,15 +4,16 @@ use crate::rows;
 use crate::turned::take;
 ghost use mathlib.Core.Path.{_≡_};
 ghost use lib.ListN.{length};
-ghost use Rattle.decoder.specs.Rows.{Coded, Row};
+ghost use Rattle.sevens.specs.Sevens.{Coded};
+ghost use Rattle.decoder.specs.Rows.{Row};
 ghost use Rattle.decoder.specs.Needs.{Decodes};
-ghost use Rattle.decoder.specs.Quick.{Made, Spread, Starts, Rooms};
+ghost use Rattle.decoder.specs.Quick.{Made, Summed, StartsRight};
 
 // The columns of the coded bits, and of the sums of two neighbours.
-fn spread(coded: &[u8], v: &mut [u8], d: &mut [u8])
+fn summed(coded: &[u8], v: &mut [u8], d: &mut [u8])
     requires { ⌜ Coded (now coded) ⌝ }
     requires { ⌜ Row (now v) × Row (now d) ⌝ }
-    ensures { λ _. ⌜ Spread (now (coded .entry)) (now (v .exit)) (now (d .exit)) ⌝ }
+    ensures { λ _. ⌜ Summed (now (coded .entry)) (now (v .exit)) (now (d .exit)) ⌝ }
 {
     rows::columns(coded, v);
     rows::twos(v, d);
@@ -21,14 +22,14 @@ fn spread(coded: &[u8], v: &mut [u8], d: &mut [u8])
 // Before the first input bit there are zeros: 0 only where the first two outputs are alike, and the lowest bit of w.
 fn start_apart(coded: &[u8], w: u8) -> u8
     requires { ⌜ Coded (now coded) ⌝ }
-    ensures { λ r. ⌜ (r ≡ 0 → Starts (now (coded .entry)) w) ⌝ }
+    ensures { λ r. ⌜ (r ≡ 0 → StartsRight (now (coded .entry)) w) ⌝ }
 {
     (coded[0] ^ coded[1]) | (coded[0] ^ (w & 1))
 }
 
 // Rate 1/3, where the third output is the second once more. As at the other rates, 0 only where nothing is wrong.
 fn thirds(coded: &[u8], v: &[u8], d: &[u8], input: &mut [u8]) -> u8
-    requires { ⌜ Spread (now coded) (now v) (now d) ⌝ }
+    requires { ⌜ Summed (now coded) (now v) (now d) ⌝ }
     requires { ⌜ length (now input) ≡ 630 ⌝ }
     ensures { λ r. ⌜ (r ≡ 0 → Made 0 (now (coded .entry)) (now (input .exit))) ⌝ }
 {
@@ -38,7 +39,7 @@ fn thirds(coded: &[u8], v: &[u8], d: &[u8], input: &mut [u8]) -> u8
 
 // Rate 1/2.
 fn halves(coded: &[u8], v: &[u8], d: &[u8], input: &mut [u8]) -> u8
-    requires { ⌜ Spread (now coded) (now v) (now d) ⌝ }
+    requires { ⌜ Summed (now coded) (now v) (now d) ⌝ }
     requires { ⌜ length (now input) ≡ 945 ⌝ }
     ensures { λ r. ⌜ (r ≡ 0 → Made 1 (now (coded .entry)) (now (input .exit))) ⌝ }
 {
@@ -47,34 +48,28 @@ fn halves(coded: &[u8], v: &[u8], d: &[u8], input: &mut [u8]) -> u8
 }
 
 // Rate 2/3: the even input bits, whose next has no first output, are sums of five.
-fn two_thirds(coded: &[u8], v: &[u8], d: &[u8], e: &mut [u8], input: &mut [u8]) -> u8
-    requires { ⌜ Spread (now coded) (now v) (now d) ⌝ }
-    requires { ⌜ Row (now e) × (length (now input) ≡ 1260) ⌝ }
+fn two_thirds(coded: &[u8], v: &[u8], d: &[u8], input: &mut [u8]) -> u8
+    requires { ⌜ Summed (now coded) (now v) (now d) ⌝ }
+    requires { ⌜ length (now input) ≡ 1260 ⌝ }
     ensures { λ r. ⌜ (r ≡ 0 → Made 2 (now (coded .entry)) (now (input .exit))) ⌝ }
 {
-    rows::fives(v, e);
-    take(e, d, 0, 3, 3, 180, input);
-    start_apart(coded, e[0]) | apart(e, v, e, 3, 3, 3, 16)
+    let mut e = [0u8; 2168];
+    rows::fives(v, &mut e);
+    take(&e, d, 0, 3, 3, 180, input);
+    start_apart(coded, e[0]) | apart(&e, v, &e, 3, 3, 3, 16)
 }
 
-// The same at any rate. v, d and e are room for columns.
-fn by_rate(
-    rate: u64,
-    coded: &[u8],
-    v: &mut [u8],
-    d: &mut [u8],
-    e: &mut [u8],
-    input: &mut [u8],
-) -> u8
+// The same at any rate. v and d are room for columns.
+fn by_rate(rate: u64, coded: &[u8], v: &mut [u8], d: &mut [u8], input: &mut [u8]) -> u8
     requires { ⌜ Decodes rate (now coded) (now input) ⌝ }
-    requires { ⌜ Rooms (now v) (now d) (now e) ⌝ }
+    requires { ⌜ Row (now v) × Row (now d) ⌝ }
     ensures { λ r. ⌜ (r ≡ 0 → Made rate (now (coded .entry)) (now (input .exit))) ⌝ }
 {
-    spread(coded, v, d);
+    summed(coded, v, d);
     match rate {
         0 => thirds(coded, v, d, input),
         1 => halves(coded, v, d, input),
-        _ => two_thirds(coded, v, d, e, input),
+        _ => two_thirds(coded, v, d, input),
     }
 }
 
@@ -84,6 +79,5 @@ pub fn quick(rate: u64, coded: &[u8], input: &mut [u8]) -> u8
 {
     let mut v = [0u8; 2168];
     let mut d = [0u8; 2168];
-    let mut e = [0u8; 2168];
-    by_rate(rate, coded, &mut v, &mut d, &mut e, input)
+    by_rate(rate, coded, &mut v, &mut d, input)
 }

@@ -3,7 +3,8 @@ ghost use mathlib.Core.Path.{_≡_};
 ghost use Prim.Native.Nat.{_/_, _<_};
 ghost use lib.ListN.{getD};
 ghost use Rattle.convolution.specs.Turns.{Put};
-ghost use Rattle.decoder.specs.Rows.{column, Coded, bitsOf, Row, Held, sumTwo, sumFive};
+ghost use Rattle.sevens.specs.Sevens.{column, Coded};
+ghost use Rattle.decoder.specs.Rows.{bitsOf, Row, Held, sumTwo, sumFive};
 
 // The column at place x.
 fn column_at(coded: &[u8], x: usize) -> u8
@@ -20,7 +21,8 @@ fn column_at(coded: &[u8], x: usize) -> u8
     w
 }
 
-fn sevens(coded: &[u8], v: &mut [u8])
+// Those of a row's own places.
+fn within(coded: &[u8], v: &mut [u8])
     requires { ⌜ Coded (now coded) ⌝ }
     requires { ⌜ Row (now v) ⌝ }
     ensures { λ _. ⌜ Held (column (bitsOf (now (coded .entry)))) 2160 (now (v .exit)) ⌝ }
@@ -50,7 +52,7 @@ pub fn columns(coded: &[u8], v: &mut [u8])
     requires { ⌜ Row (now v) ⌝ }
     ensures { λ _. ⌜ Held (column (bitsOf (now (coded .entry)))) 2168 (now (v .exit)) ⌝ }
 {
-    sevens(coded, v);
+    within(coded, v);
     follow(v);
 }
 

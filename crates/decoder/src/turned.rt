@@ -1,63 +1,43 @@
-// Columns turned into rows again, eight at once.
+// Columns turned into rows again: rows of bytes dealt from the columns, of which rows and bits change places.
 ghost use mathlib.Core.Path.{_≡_};
-ghost use Prim.Native.Nat.{_+_, _*_, _/_, _%_, _≤_, _<_};
+ghost use Prim.Native.Nat.{ℕ, _+_, _*_, _≤_, _<_};
 ghost use lib.ListN.{length};
-ghost use Rattle.bits.specs.Pack.{val, bitOf};
-ghost use Rattle.convolution.specs.Turns.{bitIn};
-ghost use Rattle.decoder.specs.Turned.{source, Picks, Laid, Takes, Taken};
+ghost use Rattle.decoder.specs.Turned.{Dealt, Takes, Stacked, Taken};
+use sevens::planes;
 
-// Eight bytes as one number, from a and b in turn.
-fn picked(a: &[u8], b: &[u8], x: usize, y: usize, s: usize) -> u64
-    requires { ⌜ Picks (now a) (now b) x y s ⌝ }
-    ensures { λ r. ⌜ r ≡ val (λ j. bitIn 8 (source (now (a .entry)) (now (b .entry)) x y s (j / 8)) (j % 8)) 64 ⌝ }
+// n bytes, `step` places apart from x on, to place `at` and behind it.
+fn deal(from: &[u8], x: usize, step: usize, n: usize, out: &mut [u8], at: usize)
+    requires { ⌜ ((g : ℕ) → g < n → x + step * g < length (now from)) × (at + n ≤ length (now out)) ⌝ }
+    ensures { λ _. ⌜ Dealt (now (from .entry)) x step n at (now (out .entry)) (now (out .exit)) ⌝ }
 {
-    let bytes = [
-        a[x],
-        b[y],
-        a[x + s],
-        b[y + s],
-        a[x + 2 * s],
-        b[y + 2 * s],
-        a[x + 3 * s],
-        b[y + 3 * s],
-    ];
-    bits::packing::eight(&bytes, 0)
+    let mut g = 0;
+    while g < n {
+        out[at + g] = from[x + step * g];
+        g += 1;
+    }
 }
 
-// Bit c of byte r becomes bit r of byte c: single bits change places, then squares of two by two, then of four by four.
-fn transposed(x: u64) -> u64
-    ensures { λ r. ⌜ r ≡ val (λ j. bitOf x (8 * (j % 8) + j / 8)) 64 ⌝ }
+// The columns of a and of b in turn as eight rows, the first of them in the last row: from there it becomes a byte's highest bit.
+fn stack(a: &[u8], b: &[u8], x: usize, y: usize, s: usize, n: usize, room: &mut [u8])
+    requires { ⌜ Takes (now a) (now b) x y s n × (length (now room) ≡ 1440) ⌝ }
+    ensures { λ _. ⌜ Stacked (now (a .entry)) (now (b .entry)) x y s n 8 (now (room .exit)) ⌝ }
 {
-    let a = (x ^ (x >> 7)) & 0x00AA_00AA_00AA_00AA;
-    let y = x ^ a ^ (a << 7);
-    let b = (y ^ (y >> 14)) & 0x0000_CCCC_0000_CCCC;
-    let z = y ^ b ^ (b << 14);
-    let c = (z ^ (z >> 28)) & 0x0000_0000_F0F0_F0F0;
-    z ^ c ^ (c << 28)
-}
-
-// Seven bytes of a number, the lowest first, n places apart.
-fn put_rows(out: &mut [u8], at: usize, n: usize, v: u64)
-    requires { ⌜ (at < n) × (n ≤ 200) × (length (now out) ≡ 7 * n) ⌝ }
-    ensures { λ _. ⌜ Laid v at n 7 (now (out .entry)) (now (out .exit)) ⌝ }
-{
-    let mut r = 0usize;
-    while r < 7 {
-        out[at + n * r] = ((v >> (8 * r)) & 255) as u8;
-        r += 1;
+    let mut j = 0;
+    while j < 4 {
+        deal(a, x + s * j, 4 * s, n, room, n * (7 - 2 * j));
+        deal(b, y + s * j, 4 * s, n, room, n * (6 - 2 * j));
+        j += 1;
     }
 }
 
 // The bytes of seven rows from the columns of a and of b in turn.
 pub fn take(a: &[u8], b: &[u8], x: usize, y: usize, s: usize, n: usize, out: &mut [u8])
-    requires { ⌜ Takes (now a) (now b) x y s n (now out) ⌝ }
-    ensures { λ _. ⌜ Taken (now (a .entry)) (now (b .entry)) x y s n n (now (out .exit)) ⌝ }
+    requires { ⌜ Takes (now a) (now b) x y s n × (length (now out) ≡ 7 * n) ⌝ }
+    ensures { λ _. ⌜ Taken (now (a .entry)) (now (b .entry)) x y s n (now (out .exit)) ⌝ }
 {
-    let mut g = 0;
-    while g < n {
-        let on = 4 * (s * g);
-        let v = picked(a, b, x + on, y + on, s);
-        put_rows(out, g, n, transposed(v));
-        g += 1;
-    }
+    // eight rows of 180 at most
+    let mut room = [0u8; 1440];
+    stack(a, b, x, y, s, n, &mut room);
+    planes::transposed(&mut room, n);
+    bits::change::copy_part(&room, 0, out, 0, 7 * n);
 }

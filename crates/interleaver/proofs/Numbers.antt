@@ -10,36 +10,33 @@ use lib.ListN.{length, getD}
 use borrow.Author.Tests.{eq-eqb, ne-eqb}
 use Rattle.bits.specs.Choice.{pick, lt-or-le, eq-or-ne}
 use Rattle.bits.specs.Table.{below-all, tab, length-tab, getD-tab}
-use Rattle.bits.specs.Pack.{val, Bits, val-lt, val-same, val-bits, bit-val}
+use Rattle.bits.specs.Pack.{val, Bits, val-lt, val-same, val-bits}
 use Rattle.sizes.specs.Sizes.{wordBits}
 use Rattle.interleaver.specs.Interleaver.{place, placeBack}
-use Rattle.sevens.specs.Sevens.{turn, roll, Rolled, Light, mixSum, mixedAt, Filled}
-use Rattle.interleaver.specs.Columns.{seven, Row, columnOf, First, upOut, codedOut}
+use Rattle.sevens.specs.Sevens.{column, column-bit, turnOf, roll, Rolled, Light, mixSum, mixedAt, Filled}
+use Rattle.interleaver.specs.Columns.{seven, Each, takenBy, columnOf, First, upOut, numberOut}
 
 -- ---- seven bits
 
 pub seven-digit : (f : ℕ → ℕ) → Bits f → (p i : ℕ) → i < 7 → seven f p / 2 ^ i % 2 ≡ f ((p + 2160 * i) % wordBits)
 unfolding seven
-seven-digit f b p i h =
-    let e : 6 - (6 - i) ≡ i = omega arith in
-    bit-val (λ k. f ((p + 2160 * (6 - k)) % wordBits)) (λ k. b ((p + 2160 * (6 - k)) % wordBits)) i (6 - i) 7 (omega arith)
-    ∙ ap (λ (k : ℕ). f ((p + 2160 * k) % wordBits)) e
+seven-digit f b = column-bit (λ j. f (j % wordBits)) (λ j. b (j % wordBits))
 
 pub seven-lt : (f : ℕ → ℕ) → Bits f → (p : ℕ) → seven f p < 128
-unfolding seven
+unfolding seven column
 seven-lt f b p = val-lt (λ k. f ((p + 2160 * (6 - k)) % wordBits)) (λ k. b ((p + 2160 * (6 - k)) % wordBits)) 7
 
 pub seven-mod : (f : ℕ → ℕ) (p q : ℕ) → p % wordBits ≡ q % wordBits → seven f p ≡ seven f q
-unfolding seven
+unfolding seven column
 seven-mod f p q e =
     val-same (λ k. f ((p + 2160 * (6 - k)) % wordBits)) (λ k. f ((q + 2160 * (6 - k)) % wordBits)) 7 (λ k l. ap f (omega arith))
 
-turned-val : (h : ℕ → ℕ) → h 0 < 2 → val (λ k. h ((7 - k) % 7)) 7 ≡ turn (val (λ k. h (6 - k)) 7)
+turned-val : (h : ℕ → ℕ) → h 0 < 2 → val (λ k. h ((7 - k) % 7)) 7 ≡ turnOf (val (λ k. h (6 - k)) 7)
 unfolding val
 turned-val h b = omega arith
 
-pub seven-turn : (f : ℕ → ℕ) → Bits f → (p : ℕ) → seven f (p + 2160) ≡ turn (seven f p)
-unfolding seven
+pub seven-turn : (f : ℕ → ℕ) → Bits f → (p : ℕ) → seven f (p + 2160) ≡ turnOf (seven f p)
+unfolding seven column
 seven-turn f b p =
     let h : ℕ → ℕ = λ i. f ((p + 2160 * i) % wordBits) in
     val-same (λ k. f ((p + 2160 + 2160 * (6 - k)) % wordBits)) (λ k. h ((7 - k) % 7)) 7 (λ k l. ap f (omega arith))
@@ -72,7 +69,7 @@ unfolding mixSum val
 mix-all h = below-seven (λ u. mixSum h (power u) 7 ≡ val (λ k. h ((13 - k - u) % 7)) 7) (omega arith) (omega arith) (omega arith) (omega arith) (omega arith) (omega arith) (omega arith)
 
 mix-seven : (f : ℕ → ℕ) (x u : ℕ) → x < 2160 → u < 7 → mixSum (λ i. f (x + 2160 * i)) (power u) 7 ≡ seven f (x + 2160 * (7 - u))
-unfolding seven
+unfolding seven column
 mix-seven f x u l h =
     mix-all (λ i. f (x + 2160 * i)) u h
     ∙ val-same (λ k. f (x + 2160 * ((13 - k - u) % 7))) (λ k. f ((x + 2160 * (7 - u) + 2160 * (6 - k)) % wordBits)) 7 (λ k m. ap f (omega arith))
@@ -97,8 +94,8 @@ unfolding columnOf place placeBack
 place-column b h = eqb→eq (place (columnOf b) % 72) b (below-all 72 (λ b. eqb (place (columnOf b) % 72) b) tt b h)
 
 -- the row that `first_row` makes
-pub row-made : (off : List ℕ) → off ≡ tab 72 place → Row off
-row-made off e = rw e (record { size = length-tab 72 place; entry = getD-tab 72 place })
+pub row-made : (off : List ℕ) → off ≡ tab 72 place → Each place off
+row-made off e = rw e (length-tab 72 place, getD-tab 72 place)
 
 -- ---- masks
 
@@ -119,6 +116,14 @@ columns-more f c y v old new h e n so-far l =
         let w : columnOf (y % 72) ≡ c = omega arith in
         absurd (q (sym (place-column (y % 72) (omega arith)) ∙ ap (λ (j : ℕ). place j % 72) w)))
         (lt-or-le (columnOf (y % 72)) c)
+
+-- by what the word's columns take, the masks are those of the columns taken
+pub first-same : (f : ℕ → ℕ) (up mask : List ℕ) → Filled (λ c. f (takenBy c)) up 72 → First (λ b. getD up (columnOf b) 0) mask → First f mask
+first-same f up mask e m =
+    record {
+      size = m .size;
+      entry = λ y l. m .entry y l ∙ ap (λ (j : ℕ). 2 ^ j) (e (columnOf (y % 72)) (column-lt (y % 72)) ∙ ap f (place-column (y % 72) (omega arith)));
+    }
 
 rolled-power : (a : ℕ) → a < 7 → roll (2 ^ a) ≡ 2 ^ ((a + 1) % 7)
 rolled-power a h = eqb→eq (roll (2 ^ a)) (2 ^ ((a + 1) % 7)) (below-all 7 (λ a. eqb (roll (2 ^ a)) (2 ^ ((a + 1) % 7))) tt a h)
@@ -168,8 +173,8 @@ masks-light up small mask m =
     }
 
 -- with them the coded bits are mixed to the numbers that the columns ask for
-pub mixed-out : (coded mask v : List ℕ) → Masks upOut mask → Filled (mixedAt coded mask) v 2160 → Filled (codedOut (λ j. getD coded j 0)) v 2160
-unfolding mixedAt codedOut
+pub mixed-out : (coded mask v : List ℕ) → Masks upOut mask → Filled (mixedAt coded mask) v 2160 → Filled (numberOut (λ j. getD coded j 0)) v 2160
+unfolding mixedAt numberOut
 mixed-out coded mask v m h x l =
     let f : ℕ → ℕ = λ j. getD coded j 0 in
     let y : ℕ = x % 144 in

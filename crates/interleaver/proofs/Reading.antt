@@ -17,8 +17,8 @@ use Rattle.bits.specs.Pack.{Bits, bitAt, bit-lt}
 use Rattle.sizes.specs.Sizes.{wordBits, wordBytes}
 use Rattle.interleaver.specs.Interleaver.{place, placeBack, place-lt, back-place, deinterleave}
 use Rattle.sevens.specs.Planes.{Transposed}
-use Rattle.sevens.specs.Sevens.{turn, Filled, doubledAt, nineOf, Starts, pickedAt, bitIn, splitAt}
-use Rattle.interleaver.specs.Columns.{seven, columnOf, backRow, startIn, upIn, codedIn}
+use Rattle.sevens.specs.Sevens.{turnOf, Filled, doubledAt, nineOf, Starts, pickedAt, hasBit, splitAt}
+use Rattle.interleaver.specs.Columns.{seven, columnOf, backRow, startIn, upIn, bitBack}
 use Rattle.interleaver.proofs.Numbers.{Masks, seven-digit, seven-lt, seven-turn, byte-same, column-lt, column-place, place-column, columns-more}
 use Rattle.interleaver.proofs.Rows.{place-row}
 
@@ -32,9 +32,9 @@ one-bit x d =
     ap (bitAnd x) (sym m) ∙ and-high x 1 d
 
 -- so the mask of bit d tells it
-bit-in : (x d : ℕ) → bitIn x (2 ^ d) ≡ x / 2 ^ d % 2
-unfolding bitIn
-bit-in x d =
+has-bit : (x d : ℕ) → hasBit x (2 ^ d) ≡ x / 2 ^ d % 2
+unfolding hasBit
+has-bit x d =
     let p : 0 < 2 ^ d = pow-pos d in
     ⊎-elim
     (λ (q : x / 2 ^ d % 2 ≡ 0).
@@ -96,12 +96,12 @@ thirty-rows : (x : ℕ) → x % 2160 % 72 ≡ x % 72
 thirty-rows x = omega arith
 
 -- what is picked and split are the coded bits
-pub starts-right : (at : List ℕ) → length at ≡ 72 → ((b : ℕ) → b < 72 → getD at b 0 ≡ startIn b) → Starts at
+pub starts-right : (at : List ℕ) → length at ≡ 72 → Filled startIn at 72 → Starts at
 starts-right at size h = record { size = size; room = λ b l. rw (h b l) (start-lt b) }
 
-pub given-bits : (v at seen mask coded : List ℕ) → ((b : ℕ) → b < 72 → getD at b 0 ≡ startIn b) → Masks upIn mask → Filled (pickedAt v at) seen 2160
-    → Filled (splitAt seen mask) coded wordBits → Filled (codedIn v) coded wordBits
-unfolding pickedAt splitAt codedIn
+pub given-bits : (v at seen mask coded : List ℕ) → Filled startIn at 72 → Masks upIn mask → Filled (pickedAt v at) seen 2160
+    → Filled (splitAt seen mask) coded wordBits → Filled (bitBack v) coded wordBits
+unfolding pickedAt splitAt bitBack
 given-bits v at seen mask coded start m p s x h =
     let few : x / 2160 < 7 = omega arith in
     let low : x % 144 < 144 = omega arith in
@@ -113,7 +113,7 @@ given-bits v at seen mask coded start m p s x h =
     let number : getD seen (x % 2160) 0 ≡ getD v (9 * n + startIn (x % 72)) 0 =
     p (x % 2160) (omega arith) ∙ ap (λ (k : ℕ). getD v (9 * n + k) 0) (ap (λ (k : ℕ). getD at k 0) b ∙ start (x % 72) (omega arith)) in
     let bit : getD mask (144 * i + y) 0 ≡ 2 ^ ((i + upIn (x % 72)) % 7) = m .entry i y few low ∙ ap (λ (k : ℕ). 2 ^ ((i + upIn k) % 7)) col in
-    s x h ∙ ap₂ bitIn number bit ∙ bit-in (getD v (9 * n + startIn (x % 72)) 0) ((i + upIn (x % 72)) % 7)
+    s x h ∙ ap₂ hasBit number bit ∙ has-bit (getD v (9 * n + startIn (x % 72)) 0) ((i + upIn (x % 72)) % 7)
 
 -- ---- all of them
 
@@ -145,7 +145,7 @@ from-bit x p hx hp e =
 
 module _ (word ordered planes v : List ℕ)
     (rows : (k : ℕ) → k < wordBytes → getD ordered k 0 ≡ getD word (nineOf 191 k) 0) (none : (k : ℕ) → wordBytes ≤ k → getD ordered k 0 ≡ 0)
-    (turned : Transposed ordered planes) (double : Filled (doubledAt planes) v 4320) where
+    (turned : Transposed 270 ordered planes) (double : Filled (doubledAt planes) v 4320) where
   -- the bits of the word with its rows in the order of the coded bits
   g : ℕ → ℕ
   g = bitAt ordered
@@ -182,7 +182,7 @@ module _ (word ordered planes v : List ℕ)
       (λ (l : i < 270). rw (lt-ltb i 270 l) (plane d i (omega arith) l))
       (λ (l : 270 ≤ i).
       let e : 8 * (i - 270) + (7 - d) + 2160 ≡ 8 * i + (7 - d) = omega arith in
-      rw (le-ltb i 270 l) (ap turn (plane d (i - 270) (omega arith) (omega arith)) ∙ sym (seven-turn g bits (8 * (i - 270) + (7 - d))) ∙ ap (seven g) e))
+      rw (le-ltb i 270 l) (ap turnOf (plane d (i - 270) (omega arith) (omega arith)) ∙ sym (seven-turn g bits (8 * (i - 270) + (7 - d))) ∙ ap (seven g) e))
       (lt-or-le i 270)
 
   -- bit c of row a is that of the word's row 191 a
@@ -212,8 +212,8 @@ module _ (word ordered planes v : List ℕ)
       doubled y (omega arith) ∙ ap₂ (λ (p q : ℕ). seven g (8 * p + (7 - q))) i d ∙ ap (seven g) e
 
   -- its bits are the coded bits
-  pub coded-made : (x : ℕ) → x < wordBits → codedIn v x ≡ deinterleave (bitAt word) x
-  unfolding codedIn upIn deinterleave
+  pub coded-made : (x : ℕ) → x < wordBits → bitBack v x ≡ deinterleave (bitAt word) x
+  unfolding bitBack upIn deinterleave
   coded-made x h =
       let b : ℕ = x % 72 in
       let c : ℕ = columnOf b in

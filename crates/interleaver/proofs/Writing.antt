@@ -4,85 +4,86 @@ use mathlib.Core.List.{List}
 use mathlib.Core.Logic.{⊎-elim}
 use Prim.Native.Nat.{ℕ, _+_, _-_, _*_, _/_, _%_, _^_, _≤_, _<_}
 use native.Mathlib.Omega.{arith}
-use native.Mathlib.Nat.{add-mul-mod-self-right}
-use lib.ListN.{length, getD}
+use native.Mathlib.Nat.{mod-lt, add-mul-mod-self-right}
+use lib.ListN.{length, getD, set}
+use lib.Seq.{getD-set-same, getD-set-other}
 use Rattle.bits.specs.Choice.{lt-or-le, eq-or-ne}
 use Rattle.bits.specs.Pack.{Bits, val, bytesOf, val-same, val-bits, bytes-by-byte}
 use Rattle.sizes.specs.Sizes.{wordBits, wordBytes}
 use Rattle.interleaver.specs.Interleaver.{place, place-lt, interleave}
-use Rattle.sevens.specs.Sevens.{turn, Filled, Turned, Column, nineOf}
+use Rattle.sevens.specs.Sevens.{turnOf, Filled, Turned, nineOf}
 use Rattle.sevens.specs.Planes.{Transposed}
-use Rattle.interleaver.specs.Columns.{seven, upOut, codedOut, columnAt}
+use Rattle.interleaver.specs.Columns.{seven, upOut, numberOut, columnAt, fromOut, seenOut}
 use Rattle.interleaver.proofs.Rows.{place-row}
 use Rattle.interleaver.proofs.Numbers.{seven-digit, seven-mod, seven-turn, out-place}
 
 -- the second half is the first, turned
-pub out-turned : (f : ℕ → ℕ) → Bits f → (before after : List ℕ) → Filled (codedOut f) before 2160 → Turned 0 2160 2160 before after → Filled (codedOut f) after 4320
-unfolding codedOut
+pub out-turned : (f : ℕ → ℕ) → Bits f → (before after : List ℕ) → Filled (numberOut f) before 2160 → Turned 2160 2160 before after → Filled (numberOut f) after 4320
+unfolding numberOut
 out-turned f b before after h t k l =
     ⊎-elim
-    (λ (q : k < 2160). t .earlier k (omega arith) ∙ h k q)
+    (λ (q : k < 2160). t .earlier k q ∙ h k q)
     (λ (q : 2160 ≤ k).
     let x : ℕ = k - 2160 in
-    let e : k ≡ 0 + 2160 + x = omega arith in
-    let z : 0 + x ≡ x = omega arith in
+    let e : k ≡ 2160 + x = omega arith in
     let p : x + 2160 * (7 - upOut (x % 72)) + 2160 ≡ k + 2160 * (7 - upOut (x % 72)) = omega arith in
     let c : x % 72 ≡ k % 72 = omega arith in
     ap (λ (j : ℕ). getD after j 0) e
     ∙ t .here x (omega arith)
-    ∙ ap (λ (j : ℕ). turn (getD before j 0)) z
-    ∙ ap turn (h x (omega arith))
+    ∙ ap turnOf (h x (omega arith))
     ∙ sym (seven-turn f b (x + 2160 * (7 - upOut (x % 72))))
     ∙ ap (seven f) p
     ∙ ap (λ (j : ℕ). seven f (k + 2160 * (7 - upOut j))) c)
     (lt-or-le k 2160)
 
--- ---- a column
+-- ---- a number of the planes
 
--- the place of its number n, and no other place has both
-abbrev spotOf : ℕ → ℕ → ℕ
-spotOf c n = 270 * (7 - c % 8) + c / 8 + 9 * n
+pub begin-lt : (q : ℕ) → fromOut q < 2160
+unfolding fromOut
+begin-lt q = mod-lt (place (columnAt (q / 9) (q % 9))) (omega arith)
 
--- plane t, row n, byte q
-plane-of : (t n q : ℕ) → q < 9 → n < 30 → (270 * t + q + 9 * n) / 270 ≡ t
-plane-of t n q a b = omega arith
+nine-mod : (e d : ℕ) → d < 9 → (9 * e + d) % 9 ≡ d
+nine-mod e d l = omega arith
 
-byte-of : (t n q : ℕ) → q < 9 → n < 30 → (270 * t + q + 9 * n) % 9 ≡ q
-byte-of t n q a b = let e : 270 * t + q + 9 * n ≡ q + 9 * (30 * t + n) = omega arith in rw e (omega arith)
+nine-div : (e d : ℕ) → d < 9 → (9 * e + d) / 9 ≡ e
+nine-div e d l = omega arith
 
-row-of : (t n q : ℕ) → q < 9 → n < 30 → (270 * t + q + 9 * n) % 270 / 9 ≡ n
-row-of t n q a b = let e : (270 * t + q + 9 * n) % 270 ≡ q + 9 * n = omega arith in rw e (omega arith)
+-- one more in the order of the planes
+pub begin-more : (from : List ℕ) (c v : ℕ) → length from ≡ 72 → c < 72 → v ≡ place c % 2160
+    → ((q : ℕ) → q < 72 → columnAt (q / 9) (q % 9) < c → getD from q 0 ≡ fromOut q)
+    → (q : ℕ) → q < 72 → columnAt (q / 9) (q % 9) < c + 1 → getD (set from (9 * (7 - c % 8) + c / 8) v) q 0 ≡ fromOut q
+unfolding fromOut
+begin-more from c v size h e so-far q l k =
+    ⊎-elim
+    (λ (w : q ≡ 9 * (7 - c % 8) + c / 8).
+    let small : c / 8 < 9 = omega arith in
+    let byte : q % 9 ≡ c / 8 = rw w (nine-mod (7 - c % 8) (c / 8) small) in
+    let plane : q / 9 ≡ 7 - c % 8 = rw w (nine-div (7 - c % 8) (c / 8) small) in
+    let column : columnAt (q / 9) (q % 9) ≡ c = omega arith in
+    rw column (rw w (getD-set-same from (9 * (7 - c % 8) + c / 8) v 0 (omega arith)) ∙ e))
+    (λ (w : q ≡ 9 * (7 - c % 8) + c / 8 → ⊥).
+    getD-set-other from (9 * (7 - c % 8) + c / 8) q v 0 w ∙ so-far q l (earlier w))
+    (eq-or-ne q (9 * (7 - c % 8) + c / 8))
+  where
+    earlier : (q ≡ 9 * (7 - c % 8) + c / 8 → ⊥) → columnAt (q / 9) (q % 9) < c
+    earlier w = ⊎-elim (λ (z : columnAt (q / 9) (q % 9) < c). z) (λ (z : c ≤ columnAt (q / 9) (q % 9)). absurd (w (omega arith))) (lt-or-le (columnAt (q / 9) (q % 9)) c)
 
-whole : (y : ℕ) → y ≡ 270 * (y / 270) + y % 9 + 9 * (y % 270 / 9)
-whole y =
-    let e : y % 270 % 9 ≡ y % 9 = omega arith in
-    omega arith
-
-spot-column : (c n : ℕ) → c < 72 → n < 30 → (columnAt (spotOf c n) ≡ c) × (spotOf c n % 270 / 9 ≡ n) × (spotOf c n < 2160)
-spot-column c n h l =
-    let q : c / 8 < 9 = omega arith in
-    (rw (plane-of (7 - c % 8) n (c / 8) q l, byte-of (7 - c % 8) n (c / 8) q l) (omega arith), row-of (7 - c % 8) n (c / 8) q l, omega arith)
-
-column-spot : (c n y : ℕ) → y < 2160 → columnAt y ≡ c → y % 270 / 9 ≡ n → y ≡ spotOf c n
-column-spot c n y h e z =
-    let t : y / 270 < 8 = omega arith in
-    let q : y % 9 ≡ c / 8 = omega arith in
-    let p : y / 270 ≡ 7 - c % 8 = omega arith in
-    whole y ∙ ap₂ (λ (a b : ℕ). 270 * a + b + 9 * (y % 270 / 9)) p q ∙ ap (λ (k : ℕ). 270 * (7 - c % 8) + c / 8 + 9 * k) z
-
--- a column more: its numbers, and the other columns
-module _ (v before after : List ℕ) (from c y : ℕ) (o : Column from (270 * (7 - c % 8) + c / 8) 30 v before after) where
-  pub column-made : y < 2160 → columnAt y ≡ c → getD after y 0 ≡ getD v (from + 72 * (y % 270 / 9)) 0
-  column-made h q = ap (λ (k : ℕ). getD after k 0) (column-spot c (y % 270 / 9) y h q refl) ∙ o .here (y % 270 / 9) (omega arith)
-
-  pub column-else : c < 72 → (columnAt y ≡ c → ⊥) → getD after y 0 ≡ getD before y 0
-  column-else h q = o .other y (λ n l w. q (ap columnAt w ∙ spot-column c n h l .0))
+pub seen-made : (v : List ℕ) (m n k x : ℕ) → m < 8 → n < 30 → k < 9 → x ≡ fromOut (9 * m + k) → getD v (x + 72 * n) 0 ≡ seenOut v (270 * m + 9 * n + k)
+unfolding fromOut seenOut
+seen-made v m n k x hm hn hk e =
+    let plane : (270 * m + 9 * n + k) / 270 ≡ m = omega arith in
+    let low : (270 * m + 9 * n + k) % 270 ≡ 9 * n + k = omega arith in
+    let byte : (270 * m + 9 * n + k) % 9 ≡ k = let w : 270 * m + 9 * n + k ≡ k + 9 * (30 * m + n) = omega arith in rw w (omega arith) in
+    let row : (9 * n + k) / 9 ≡ n = omega arith in
+    let q : (9 * m + k) / 9 ≡ m = omega arith in
+    let r : (9 * m + k) % 9 ≡ k = omega arith in
+    rw (plane, low, byte, row) (ap (λ (j : ℕ). getD v (j + 72 * n) 0) (e ∙ ap₂ (λ (a b : ℕ). place (columnAt b a) % 2160) r q))
 
 -- ---- all of them
 
 -- number y of the planes
 unfoldable pub wordOut : (ℕ → ℕ) → ℕ → ℕ
-wordOut f y = seven f (72 * (y % 270 / 9) + place (columnAt y))
+wordOut f y = seven f (72 * (y % 270 / 9) + place (columnAt (y / 270) (y % 9)))
 
 -- byte k of the word with its rows in the order of the coded bits
 unfoldable pub inOrder : (ℕ → ℕ) → ℕ → ℕ
@@ -107,11 +108,11 @@ rows-order r p = let e : 72 * (11 * r % 210) ≡ 792 * r % wordBits = omega arit
 
 module _ (f : ℕ → ℕ) (bits : Bits f) where
   -- turned by the rows that their place is on, the numbers of a column are those of the word's
-  pub gathered : (v seen : List ℕ) → Filled (codedOut f) v 4320
-      → ((y : ℕ) → y < 2160 → getD seen y 0 ≡ getD v (place (columnAt y) % 2160 + 72 * (y % 270 / 9)) 0) → Filled (wordOut f) seen 2160
-  unfolding codedOut wordOut
+  pub gathered : (v seen : List ℕ) → Filled (numberOut f) v 4320
+      → Filled (seenOut v) seen 2160 → Filled (wordOut f) seen 2160
+  unfolding numberOut wordOut seenOut
   gathered v seen h g y l =
-      let c : ℕ = columnAt y in
+      let c : ℕ = columnAt (y / 270) (y % 9) in
       let n : ℕ = y % 270 / 9 in
       let p : ℕ = place c in
       let col : c < 72 = omega arith in
@@ -125,7 +126,7 @@ module _ (f : ℕ → ℕ) (bits : Bits f) where
       ∙ seven-mod f (k + 2160 * (7 - (7 - p / 2160) % 7)) (72 * n + p) (turned-back p n small)
 
   -- with rows and bits changed they are the bytes of the word, its rows in the order of the coded bits
-  pub in-order : (seen after : List ℕ) → Filled (wordOut f) seen 2160 → Transposed seen after → Filled (inOrder f) after wordBytes
+  pub in-order : (seen after : List ℕ) → Filled (wordOut f) seen 2160 → Transposed 270 seen after → Filled (inOrder f) after wordBytes
   unfolding wordOut inOrder
   in-order seen after h s k l =
       let m : ℕ = k / 270 in
@@ -140,12 +141,12 @@ module _ (f : ℕ → ℕ) (bits : Bits f) where
       let low : y % 270 ≡ i = omega arith in
       let plane : y / 270 ≡ d = omega arith in
       let byte : y % 9 ≡ k % 9 = omega arith in
-      let col : columnAt y ≡ 8 * (k % 9) + t = omega arith in
-      let at : 72 * (i / 9) + place (columnAt y) + 2160 * m ≡ 72 * (k / 9) + place (columnAt y) = omega arith in
+      let col : columnAt (y / 270) (y % 9) ≡ 8 * (k % 9) + t = omega arith in
+      let at : 72 * (i / 9) + place (columnAt (y / 270) (y % 9)) + 2160 * m ≡ 72 * (k / 9) + place (columnAt (y / 270) (y % 9)) = omega arith in
       ap (λ (j : ℕ). getD after j 0 / 2 ^ d % 2) w
       ∙ s .cells m d i (omega arith) (omega arith) (omega arith)
-      ∙ ap (λ (v : ℕ). v / 2 ^ m % 2) (h y (omega arith) ∙ ap (λ (j : ℕ). seven f (72 * (j / 9) + place (columnAt y))) low)
-      ∙ seven-digit f bits (72 * (i / 9) + place (columnAt y)) m (omega arith)
+      ∙ ap (λ (v : ℕ). v / 2 ^ m % 2) (h y (omega arith) ∙ ap (λ (j : ℕ). seven f (72 * (j / 9) + place (columnAt (y / 270) (y % 9)))) low)
+      ∙ seven-digit f bits (72 * (i / 9) + place (columnAt (y / 270) (y % 9))) m (omega arith)
       ∙ ap (λ (v : ℕ). f (v % wordBits)) at
       ∙ ap (λ (c : ℕ). f ((72 * (k / 9) + place c) % wordBits)) col)
 

@@ -4,20 +4,22 @@ use mathlib.Core.Path.{_≡_}
 use mathlib.Core.List.{List}
 use Prim.Native.Nat.{ℕ, _+_, _-_, _*_, _/_, _%_, _^_, _<_}
 use lib.ListN.{length, getD}
-use Rattle.bits.specs.Pack.{val}
 use Rattle.sizes.specs.Sizes.{wordBits}
+use Rattle.sevens.specs.Sevens.{Filled, column}
 use Rattle.interleaver.specs.Interleaver.{place, placeBack}
 
--- the seven bits that stand 2,160 apart from p on, the first lowest
+-- the seven bits that stand 2,160 apart from p on, where the first follows the last
 unfoldable pub seven : (ℕ → ℕ) → ℕ → ℕ
-seven f p = val (λ k. f ((p + 2160 * (6 - k)) % wordBits)) 7
+seven f = column (λ j. f (j % wordBits))
 
--- the places of the first row of 72
-pub record Row (off : List ℕ) : Type 0 where
-  pub size : length off ≡ 72
-  pub entry : (c : ℕ) → c < 72 → getD off c 0 ≡ place c
+-- a number for each of 72 columns
+abbrev pub Each : (ℕ → ℕ) → List ℕ → Type 0
+Each f xs = (length xs ≡ 72) × Filled f xs 72
 
--- the word's column that takes the coded bits of column b
+-- the column of the coded bits that column c of the word takes, and the word's column that takes column b
+abbrev pub takenBy : ℕ → ℕ
+takenBy c = place c % 72
+
 unfoldable pub columnOf : ℕ → ℕ
 columnOf b = placeBack b % 72
 
@@ -32,12 +34,21 @@ pub record First (up : ℕ → ℕ) (mask : List ℕ) : Type 0 where
 unfoldable pub upOut : ℕ → ℕ
 upOut b = (7 - place (columnOf b) / 2160) % 7
 
-unfoldable pub codedOut : (ℕ → ℕ) → ℕ → ℕ
-codedOut f k = seven f (k + 2160 * (7 - upOut (k % 72)))
+-- seven coded bits as number k, with their column's rows gone up
+unfoldable pub numberOut : (ℕ → ℕ) → ℕ → ℕ
+numberOut f k = seven f (k + 2160 * (7 - upOut (k % 72)))
 
--- the column of place y in the order of the word: planes of 270, the last bit of a byte first, and in each 30 rows of nine
-abbrev pub columnAt : ℕ → ℕ
-columnAt y = 8 * (y % 9) + (7 - y / 270)
+-- the word's column of byte k of plane m: of eight planes the last has the first bits of the bytes
+abbrev pub columnAt : ℕ → ℕ → ℕ
+columnAt m k = 8 * k + (7 - m)
+
+-- where columns begin among the numbers, nine of each plane side by side
+unfoldable pub fromOut : ℕ → ℕ
+fromOut q = place (columnAt (q / 9) (q % 9)) % 2160
+
+-- number y of the planes, each of which has 30 rows of nine
+unfoldable pub seenOut : List ℕ → ℕ → ℕ
+seenOut v y = getD v (place (columnAt (y / 270) (y % 9)) % 2160 + 72 * (y % 270 / 9)) 0
 
 -- ---- reading
 
@@ -52,5 +63,5 @@ unfoldable pub upIn : ℕ → ℕ
 upIn b = backRow b / 30 % 7
 
 -- coded bit x out of the planes
-unfoldable pub codedIn : List ℕ → ℕ → ℕ
-codedIn v x = getD v (9 * (x % 2160 / 72) + startIn (x % 72)) 0 / 2 ^ ((x / 2160 + upIn (x % 72)) % 7) % 2
+unfoldable pub bitBack : List ℕ → ℕ → ℕ
+bitBack v x = getD v (9 * (x % 2160 / 72) + startIn (x % 72)) 0 / 2 ^ ((x / 2160 + upIn (x % 72)) % 7) % 2

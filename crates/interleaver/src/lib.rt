@@ -10,6 +10,7 @@ ghost use Rattle.interleaver.specs.Interleaver.{place};
 ghost use Rattle.interleaver.specs.Squares.{Squares};
 
 mod back;
+mod columns;
 mod out;
 mod table;
 
@@ -29,14 +30,14 @@ fn place_at(squares: &[usize], j: usize) -> usize
 }
 
 // The places of the first row of 72; each further row stands 792 places on.
-fn first_row(off: &mut [usize])
+fn first_row(off: &mut [u16])
     requires { ⌜ length (now off) ≡ 72 ⌝ }
     ensures { λ _. ⌜ now (off .exit) ≡ tab 72 place ⌝ }
 {
     let squares = SQUARES;
     let mut c = 0;
     while c < 72 {
-        off[c] = place_at(&squares, c);
+        off[c] = place_at(&squares, c) as u16;
         c += 1;
     }
 }
@@ -46,13 +47,13 @@ pub fn interleave(coded: &[u8], word: &mut [u8])
     requires { ⌜ (length (now coded) ≡ wordBits) × ((i : ℕ) → getD (now coded) i 0 < 2) × (length (now word) ≡ wordBytes) ⌝ }
     ensures { λ _. ⌜ now (word .exit) ≡ bytesOf wordBytes (step.interleave (λ j. getD (now (coded .entry)) j 0)) ⌝ }
 {
-    let mut off = [0usize; 72];
+    let mut off = [0u16; 72];
     first_row(&mut off);
     let mut v = [0u8; 4320];
     out::taken(coded, &off, &mut v);
     let mut seen = [0u8; 2160];
     out::columns(&v, &off, &mut seen);
-    sevens::planes::transposed(&mut seen);
+    sevens::planes::transposed(&mut seen, 270);
     sevens::rows::nines(&seen, 11, word);
 }
 
@@ -61,12 +62,13 @@ pub fn deinterleave(word: &[u8], coded: &mut [u8])
     requires { ⌜ (length (now word) ≡ wordBytes) × (length (now coded) ≡ wordBits) ⌝ }
     ensures { λ _. ⌜ now (coded .exit) ≡ tab wordBits (step.deinterleave (bitAt (now (word .entry)))) ⌝ }
 {
-    let mut off = [0usize; 72];
+    let mut off = [0u16; 72];
     first_row(&mut off);
     let mut ordered = [0u8; 2160];
     sevens::rows::nines(word, 191, &mut ordered);
-    sevens::planes::transposed(&mut ordered);
+    sevens::planes::transposed(&mut ordered, 270);
     let mut v = [0u8; 4320];
     sevens::rows::doubled(&ordered, &mut v);
-    back::given(&v, &off, coded);
+    // `ordered` is done with, and is the room.
+    back::given(&v, &off, &mut ordered, coded);
 }

@@ -5,7 +5,7 @@ use mathlib.Core.List.{List}
 use mathlib.Core.Logic.{⊎-elim}
 use Prim.Native.Nat.{ℕ, _+_, _-_, _*_, _/_, _%_, _^_, _≤_, _<_}
 use native.Mathlib.Omega.{arith}
-use native.Mathlib.Nat.{div-eq-of-lt, div-add-mod', mod-lt, mul-comm, mul-le-mul, le-refl, le-div-iff-mul-le}
+use native.Mathlib.Nat.{div-eq-of-lt, div-add-mod', mod-lt, mul-add, mul-comm, mul-le-mul, le-refl, le-div-iff-mul-le}
 use lib.Bits.{bitAnd, bitOr, and-mask, and-zero-r, and-shr, and-mod, or-shr, or-mod, or-zero-l, or-zero-r}
 use lib.Dec.{T, ltb, eqb, eqb→eq, ltb→lt}
 use lib.ListN.{length, getD, set, length-set}
@@ -139,10 +139,19 @@ exchanged-more e m d at n before after l r s x y ex ey =
 
 -- ---- two times e rows more
 
-pub stage-none : (e : ℕ) (s : List ℕ) → Stage e 0 s s
-stage-none e s = record { long = refl; done = λ t d i h l r. absurd (omega arith); rest = λ t i h r. refl }
+-- the places that turn k of n works on
+pub stage-fits : (w e n k l : ℕ) → 1 ≤ w → k < n → 2 * (w * (e * n)) ≤ l → (e * k + e ≤ l) × (2 * (w * (e * k)) + 2 * (w * e) ≤ l)
+stage-fits w e n k l some h fits =
+    let more : k + 1 ≤ n = omega arith in
+    let rows : e * (k + 1) ≤ e * n = mul-le-mul (le-refl e) more in
+    let bytes : w * (e * (k + 1)) ≤ w * (e * n) = mul-le-mul (le-refl w) rows in
+    let once : 1 * (e * (k + 1)) ≤ w * (e * (k + 1)) = mul-le-mul some (le-refl (e * (k + 1))) in
+    (omega arith, omega (arith, bytes, mul-add w (e * k) e, once))
 
-module _ (e m k : ℕ) (before s after : List ℕ) (mask : Mask e m) (st : Stage e k before s) (x : Exchanged e m (270 * e) (540 * (e * k)) (270 * e) s after) where
+pub stage-none : (w e : ℕ) (s : List ℕ) → Stage w e 0 s s
+stage-none w e s = record { long = refl; done = λ t d i h l r. absurd (omega arith); rest = λ t i h r. refl }
+
+module _ (w e m k : ℕ) (before s after : List ℕ) (mask : Mask e m) (st : Stage w e k before s) (x : Exchanged e m (w * e) (2 * (w * (e * k))) (w * e) s after) where
   pos : 0 < e
   pos = let h = mask .some in omega arith
 
@@ -156,55 +165,67 @@ module _ (e m k : ℕ) (before s after : List ℕ) (mask : Mask e m) (st : Stage
   behind-rows t j h = omega (arith, div-add-mod' t e, mul-le-mul h (le-refl e))
 
   -- a row that was not touched yet
-  kept : (t i : ℕ) → (2 * k) * e ≤ t → i < 270 → getD s (270 * t + i) 0 ≡ getD before (270 * t + i) 0
+  kept : (t i : ℕ) → (2 * k) * e ≤ t → i < w → getD s (w * t + i) 0 ≡ getD before (w * t + i) 0
   kept t i h r = st .rest t i (le-div-iff-mul-le pos .1 h) r
 
-  module _ (t d i : ℕ) (l : d < 8) (r : i < 270) where
-    even-row : t / e ≡ 2 * k → cell after t d i ≡ cell before (swapFrom e t d) (swapFrom e d t) i
+  -- the places of rows, by w
+  scaled : {a b : ℕ} → a ≤ b → w * a ≤ w * b
+  scaled h = mul-le-mul (le-refl w) h
+
+  module _ (t d i : ℕ) (l : d < 8) (r : i < w) where
+    even-row : t / e ≡ 2 * k → cell w after t d i ≡ cell w before (swapFrom e t d) (swapFrom e d t) i
     even-row q =
         let z : t / e % 2 ≡ 0 = omega arith in
         let lo : (2 * k) * e ≤ t = behind-rows t (2 * k) (omega arith) in
         let p : t ≡ 2 * (e * k) + t % e = sym (div-add-mod' t e) ∙ ap (λ (j : ℕ). j * e + t % e) q ∙ omega (arith, mul-comm k e) in
-        let y : ℕ = 270 * t + i in
-        let partner : y + 270 * e ≡ 270 * (t + e) + i = omega arith in
+        let y : ℕ = w * t + i in
+        let at : w * t ≡ w * (2 * (e * k) + t % e) = ap (λ (j : ℕ). w * j) p in
+        let inside : w * (t % e + 1) ≤ w * e = scaled (omega (arith, mod-lt t pos)) in
+        let partner : y + w * e ≡ w * (t + e) + i = omega arith in
         let a : ℕ = getD before y 0 in
-        let b : ℕ = getD before (270 * (t + e) + i) 0 in
+        let b : ℕ = getD before (w * (t + e) + i) 0 in
         let made : getD after y 0 ≡ lowOf e m a b =
-        x .low y (omega arith) (omega (arith, mod-lt t pos))
+        x .low y (omega arith) (omega arith)
         ∙ ap₂ (lowOf e m) (kept t i lo r) (ap (λ (j : ℕ). getD s j 0) partner ∙ kept (t + e) i (omega arith) r) in
         ap (λ (v : ℕ). v / 2 ^ d % 2) made ∙ ⊎-elim
-        (λ (o : d / e % 2 ≡ 0). low-even e m a b d mask l o ∙ sym (rw (z, o) (ap₂ (λ (u v : ℕ). cell before u v i) (omega arith) (omega arith))))
-        (λ (o : d / e % 2 ≡ 1). low-odd e m a b d mask l o ∙ sym (rw (z, o) (ap₂ (λ (u v : ℕ). cell before u v i) (omega arith) (omega arith))))
+        (λ (o : d / e % 2 ≡ 0). low-even e m a b d mask l o ∙ sym (rw (z, o) (ap₂ (λ (u v : ℕ). cell w before u v i) (omega arith) (omega arith))))
+        (λ (o : d / e % 2 ≡ 1). low-odd e m a b d mask l o ∙ sym (rw (z, o) (ap₂ (λ (u v : ℕ). cell w before u v i) (omega arith) (omega arith))))
         (bit-cases (d / e % 2) (omega arith))
 
-    odd-row : t / e ≡ 2 * k + 1 → cell after t d i ≡ cell before (swapFrom e t d) (swapFrom e d t) i
+    odd-row : t / e ≡ 2 * k + 1 → cell w after t d i ≡ cell w before (swapFrom e t d) (swapFrom e d t) i
     odd-row q =
         let z : t / e % 2 ≡ 1 = omega arith in
         let lo : (2 * k) * e ≤ t = behind-rows t (2 * k) (omega arith) in
         let p : t ≡ 2 * (e * k) + e + t % e = sym (div-add-mod' t e) ∙ ap (λ (j : ℕ). j * e + t % e) q ∙ omega (arith, mul-comm k e) in
-        let y : ℕ = 270 * (t - e) + i in
-        let partner : y + 270 * e ≡ 270 * t + i = omega arith in
+        let u : ℕ = t - e in
+        let y : ℕ = w * u + i in
+        let up : u ≡ 2 * (e * k) + t % e = omega arith in
+        let at : w * u ≡ w * (2 * (e * k) + t % e) = ap (λ (j : ℕ). w * j) up in
+        let inside : w * (t % e + 1) ≤ w * e = scaled (omega (arith, mod-lt t pos)) in
+        let back : u + e ≡ t = omega arith in
+        let next : w * (u + e) ≡ w * t = ap (λ (j : ℕ). w * j) back in
+        let partner : y + w * e ≡ w * t + i = omega arith in
         let a : ℕ = getD before y 0 in
-        let b : ℕ = getD before (270 * t + i) 0 in
-        let made : getD after (270 * t + i) 0 ≡ highOf e m a b =
+        let b : ℕ = getD before (w * t + i) 0 in
+        let made : getD after (w * t + i) 0 ≡ highOf e m a b =
         ap (λ (j : ℕ). getD after j 0) (sym partner)
-        ∙ x .high y (omega arith) (omega (arith, mod-lt t pos))
-        ∙ ap₂ (highOf e m) (kept (t - e) i (omega (arith, mul-comm k e)) r) (ap (λ (j : ℕ). getD s j 0) partner ∙ kept t i lo r) in
+        ∙ x .high y (omega arith) (omega arith)
+        ∙ ap₂ (highOf e m) (kept u i (omega (arith, mul-comm k e)) r) (ap (λ (j : ℕ). getD s j 0) partner ∙ kept t i lo r) in
         ap (λ (v : ℕ). v / 2 ^ d % 2) made ∙ ⊎-elim
-        (λ (o : d / e % 2 ≡ 0). high-even e m a b d mask l o ∙ sym (rw (z, o) (ap₂ (λ (u v : ℕ). cell before u v i) (omega arith) (omega arith))))
+        (λ (o : d / e % 2 ≡ 0). high-even e m a b d mask l o ∙ sym (rw (z, o) (ap₂ (λ (u v : ℕ). cell w before u v i) (omega arith) (omega arith))))
         (λ (o : d / e % 2 ≡ 1).
         let h : e ≤ d = odd-le e m a b d mask l o in
-        high-odd e m a b d mask l o ∙ sym (rw (z, o) (ap₂ (λ (u v : ℕ). cell before u v i) (omega arith) (omega arith))))
+        high-odd e m a b d mask l o ∙ sym (rw (z, o) (ap₂ (λ (u v : ℕ). cell w before u v i) (omega arith) (omega arith))))
         (bit-cases (d / e % 2) (omega arith))
 
-  pub stage-more : Stage e (k + 1) before after
+  pub stage-more : Stage w e (k + 1) before after
   stage-more =
       record {
         long = x .long ∙ st .long;
         done = λ t d i h l r. ⊎-elim
             (λ (q : t / e < 2 * k).
-            let u : t < 2 * (e * k) = before-rows t q in
-            ap (λ (v : ℕ). v / 2 ^ d % 2) (x .other (270 * t + i) (λ a b. omega arith) (λ a b. omega arith)) ∙ st .done t d i q l r)
+            let u : w * (t + 1) ≤ w * (2 * (e * k)) = scaled (omega (arith, before-rows t q)) in
+            ap (λ (v : ℕ). v / 2 ^ d % 2) (x .other (w * t + i) (λ a b. omega arith) (λ a b. omega arith)) ∙ st .done t d i q l r)
             (λ (q : 2 * k ≤ t / e). ⊎-elim
             (λ (z : t / e ≡ 2 * k). even-row t d i l r z)
             (λ (z : t / e ≡ 2 * k → ⊥). odd-row t d i l r (next t z q h))
@@ -213,11 +234,12 @@ module _ (e m k : ℕ) (before s after : List ℕ) (mask : Mask e m) (st : Stage
         rest = λ t i h r.
             let q : 2 * k + 2 ≤ t / e = omega arith in
             let u : (2 * k + 2) * e ≤ t = behind-rows t (2 * k + 2) q in
-            x .other (270 * t + i) (λ a b. omega (arith, mul-comm k e)) (λ a b. omega (arith, mul-comm k e)) ∙ st .rest t i (omega arith) r;
+            let v : w * (2 * (e * k) + 2 * e) ≤ w * t = scaled (omega (arith, mul-comm k e)) in
+            x .other (w * t + i) (λ a b. omega arith) (λ a b. omega arith) ∙ st .rest t i (omega arith) r;
       }
     where
       next : (t : ℕ) → (t / e ≡ 2 * k → ⊥) → 2 * k ≤ t / e → t / e < 2 * (k + 1) → t / e ≡ 2 * k + 1
-      next t z q h = ⊎-elim (λ (w : t / e < 2 * k + 1). absurd (z (omega arith))) (λ (w : 2 * k + 1 ≤ t / e). omega arith) (lt-or-le (t / e) (2 * k + 1))
+      next t z q h = ⊎-elim (λ (l : t / e < 2 * k + 1). absurd (z (omega arith))) (λ (l : 2 * k + 1 ≤ t / e). omega arith) (lt-or-le (t / e) (2 * k + 1))
 
 -- ---- all of them
 
@@ -257,8 +279,8 @@ from t d ht hd =
       eqb→eq (four t d) d (both-right (ltb (two t d) 8) (eqb (four t d) d) r'),
     )
 
-pub transposed : (s₀ s₁ s₂ s₃ : List ℕ) → Stage 4 1 s₀ s₁ → Stage 2 2 s₁ s₂ → Stage 1 4 s₂ s₃ → ((k : ℕ) → getD s₃ k 0 < 256) → Transposed s₀ s₃
-transposed s₀ s₁ s₂ s₃ a b c small =
+pub transposed : (w : ℕ) → 1 ≤ w → (s₀ s₁ s₂ s₃ : List ℕ) → Stage w 4 1 s₀ s₁ → Stage w 2 2 s₁ s₂ → Stage w 1 4 s₂ s₃ → ((k : ℕ) → getD s₃ k 0 < 256) → Transposed w s₀ s₃
+transposed w some s₀ s₁ s₂ s₃ a b c small =
     record {
       long = c .long ∙ b .long ∙ a .long;
       small = small;
@@ -268,5 +290,12 @@ transposed s₀ s₁ s₂ s₃ a b c small =
           c .done t d i (omega arith) hd l
           ∙ b .done (one t d) (one d t) i (omega arith) (g .0) l
           ∙ a .done (two t d) (two d t) i (omega arith) (g .1) l
-          ∙ ap₂ (λ (u v : ℕ). cell s₀ u v i) (f .2) (g .2);
+          ∙ ap₂ (λ (u v : ℕ). cell w s₀ u v i) (f .2) (g .2);
+      rest = λ k h.
+          let t : ℕ = k / w in
+          let i : ℕ = k % w in
+          let behind : 8 ≤ t = le-div-iff-mul-le some .1 h in
+          let inside : i < w = mod-lt k some in
+          let row : k ≡ w * t + i = sym (div-add-mod' k w) ∙ omega (arith, mul-comm t w) in
+          rw row (c .rest t i (omega arith) inside ∙ b .rest t i (omega arith) inside ∙ a .rest t i (omega arith) inside);
     }

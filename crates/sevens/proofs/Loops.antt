@@ -1,5 +1,5 @@
--- What the loops keep: one place more is filled, turned, rolled or copied.
-use mathlib.Core.Path.{_≡_, refl, sym, ap, _∙_}
+-- What the loops keep: one place more is filled, turned, picked, rolled or copied.
+use mathlib.Core.Path.{_≡_, refl, sym, ap, ap₂, _∙_}
 use mathlib.Core.List.{List}
 use mathlib.Core.Logic.{⊎-elim}
 use Prim.Native.Nat.{ℕ, zero, suc, _+_, _-_, _*_, _/_, _%_, _^_, _≤_, _<_}
@@ -13,68 +13,112 @@ use Rattle.bits.specs.Choice.{pick, lt-or-le, eq-or-ne}
 use Rattle.bits.specs.Change.{Copied}
 use Rattle.bits.specs.Table.{below-all}
 use Rattle.bits.specs.Pack.{Bits}
-use Rattle.sevens.specs.Sevens.{Filled, turn, Turned, Column, doubledAt, roll, Rolled, mixSum}
+use Rattle.sevens.specs.Sevens.{Filled, turnOf, Turned, doubledAt, roll, Rolled, mixSum, pickedAt, Picked}
 
 -- ---- numbers turned
 
-pub turned-none : (at n : ℕ) (xs : List ℕ) → Turned at n 0 xs xs
-turned-none at n xs = record { long = refl; earlier = λ k l. refl; here = λ x l. absurd (omega arith) }
+pub turned-none : (n : ℕ) (xs : List ℕ) → Turned n 0 xs xs
+turned-none n xs = record { long = refl; earlier = λ k l. refl; here = λ x l. absurd (omega arith) }
 
-pub turned-more : (at n m v : ℕ) (before after : List ℕ) → m < n → at + n + m < length after → v ≡ turn (getD after (at + m) 0) → Turned at n m before after
-    → Turned at n (m + 1) before (set after (at + n + m) v)
-turned-more at n m v before after h l e t =
+pub turned-more : (n m v : ℕ) (before after : List ℕ) → m < n → n + m < length after → v ≡ turnOf (getD after m 0) → Turned n m before after
+    → Turned n (m + 1) before (set after (n + m) v)
+turned-more n m v before after h l e t =
     record {
-      long = length-set after (at + n + m) v ∙ t .long;
-      earlier = λ k a. getD-set-other after (at + n + m) k v 0 (λ q. omega arith) ∙ t .earlier k a;
+      long = length-set after (n + m) v ∙ t .long;
+      earlier = λ k a. getD-set-other after (n + m) k v 0 (λ q. omega arith) ∙ t .earlier k a;
       here = λ x a. ⊎-elim
-          (λ (q : x ≡ m). rw q (getD-set-same after (at + n + m) v 0 l ∙ e ∙ ap turn (t .earlier (at + m) (omega arith))))
-          (λ (q : x ≡ m → ⊥). getD-set-other after (at + n + m) (at + n + x) v 0 (λ w. q (omega arith)) ∙ t .here x (omega arith))
+          (λ (q : x ≡ m). rw q (getD-set-same after (n + m) v 0 l ∙ e ∙ ap turnOf (t .earlier m h)))
+          (λ (q : x ≡ m → ⊥). getD-set-other after (n + m) (n + x) v 0 (λ w. q (omega arith)) ∙ t .here x (omega arith))
           (eq-or-ne x m);
     }
 
--- a plane more, and its numbers turned
-pub doubled-more : (planes before copy after : List ℕ) (m : ℕ) → Copied planes (270 * m) before (540 * m) 270 copy → Turned (540 * m) 270 270 copy after
-    → Filled (doubledAt planes) before (540 * m) → (k : ℕ) → k < 540 * (m + 1) → getD after k 0 ≡ doubledAt planes k
-unfolding doubledAt
-doubled-more planes before copy after m c t h k l =
-    ⊎-elim
-    (λ (q : k < 540 * m). t .earlier k (omega arith) ∙ c .earlier k q ∙ h k q)
-    (λ (q : 540 * m ≤ k).
-    let x : ℕ = k % 540 in
-    let p : k / 540 ≡ m = omega arith in
-    let w : k ≡ 540 * m + x = omega arith in
-    ⊎-elim
-    (λ (z : x < 270).
-    ap (λ (j : ℕ). getD after j 0) w
-    ∙ t .earlier (540 * m + x) (omega arith)
-    ∙ c .here x z
-    ∙ sym (rw (lt-ltb x 270 z, p) refl))
-    (λ (z : 270 ≤ x).
-    let y : ℕ = x - 270 in
-    let u : 540 * m + x ≡ 540 * m + 270 + y = omega arith in
-    ap (λ (j : ℕ). getD after j 0) (w ∙ u)
-    ∙ t .here y (omega arith)
-    ∙ ap turn (c .here y (omega arith))
-    ∙ sym (rw (le-ltb x 270 z, p) refl))
-    (lt-or-le x 270))
-    (lt-or-le k (540 * m))
+-- the planes before m, and of plane m and of its turned numbers the first x
+abbrev pub Partly : List ℕ → ℕ → ℕ → List ℕ → Type 0
+Partly planes m x v = (k : ℕ) → k < 540 * m + 540 → (540 * m ≤ k → k % 270 < x) → getD v k 0 ≡ doubledAt planes k
 
--- ---- a column
+module _ (planes : List ℕ) (m : ℕ) where
+  doubled-low : (x : ℕ) → x < 270 → doubledAt planes (540 * m + x) ≡ getD planes (270 * m + x) 0
+  unfolding doubledAt
+  doubled-low x l =
+      let p : (540 * m + x) / 540 ≡ m = omega arith in
+      let q : (540 * m + x) % 540 ≡ x = omega arith in
+      rw (p, q, lt-ltb x 270 l) refl
 
-pub column-none : (from to : ℕ) (v xs : List ℕ) → Column from to 0 v xs xs
-column-none from to v xs = record { long = refl; here = λ n l. absurd (omega arith); other = λ y h. refl }
+  doubled-high : (x : ℕ) → x < 270 → doubledAt planes (540 * m + 270 + x) ≡ turnOf (getD planes (270 * m + x) 0)
+  unfolding doubledAt
+  doubled-high x l =
+      let p : (540 * m + 270 + x) / 540 ≡ m = omega arith in
+      let q : (540 * m + 270 + x) % 540 ≡ x + 270 = omega arith in
+      let z : 270 ≤ x + 270 = omega arith in
+      let w : x + 270 - 270 ≡ x = omega arith in
+      rw (p, q, le-ltb (x + 270) 270 z, w) refl
 
-pub column-more : (from to m x : ℕ) (v before after : List ℕ) → to + 9 * m < length after → x ≡ getD v (from + 72 * m) 0 → Column from to m v before after
-    → Column from to (m + 1) v before (set after (to + 9 * m) x)
-column-more from to m x v before after l e c =
-    record {
-      long = length-set after (to + 9 * m) x ∙ c .long;
-      here = λ n h. ⊎-elim
-          (λ (q : n ≡ m). rw q (getD-set-same after (to + 9 * m) x 0 l ∙ e))
-          (λ (q : n ≡ m → ⊥). getD-set-other after (to + 9 * m) (to + 9 * n) x 0 (λ w. q (omega arith)) ∙ c .here n (omega arith))
-          (eq-or-ne n m);
-      other = λ y h. getD-set-other after (to + 9 * m) y x 0 (λ w. h m (omega arith) w) ∙ c .other y (λ n k w. h n (omega arith) w);
-    }
+  pub partly-none : (v : List ℕ) → Filled (doubledAt planes) v (540 * m) → Partly planes m 0 v
+  partly-none v h k l part = ⊎-elim (λ (q : k < 540 * m). h k q) (λ (q : 540 * m ≤ k). let z = part q in absurd (omega arith)) (lt-or-le k (540 * m))
+
+  pub partly-more : (v : List ℕ) (x b t : ℕ) → x < 270 → 540 * m + 540 ≤ length v → b ≡ getD planes (270 * m + x) 0 → t ≡ turnOf b → Partly planes m x v
+      → Partly planes m (x + 1) (set (set v (540 * m + x) b) (540 * m + 270 + x) t)
+  partly-more v x b t l room eb et h k lk part =
+      ⊎-elim
+      (λ (q : k ≡ 540 * m + 270 + x).
+      rw q (getD-set-same (set v low b) high t 0 (rw (length-set v low b) (omega arith)) ∙ et ∙ ap turnOf eb ∙ sym (doubled-high x l)))
+      (λ (q : k ≡ 540 * m + 270 + x → ⊥). getD-set-other (set v low b) high k t 0 q ∙ ⊎-elim
+      (λ (r : k ≡ 540 * m + x). rw r (getD-set-same v low b 0 (omega arith) ∙ eb ∙ sym (doubled-low x l)))
+      (λ (r : k ≡ 540 * m + x → ⊥). getD-set-other v low k b 0 r ∙ h k lk (λ a. earlier q r a (part a)))
+      (eq-or-ne k (540 * m + x)))
+      (eq-or-ne k (540 * m + 270 + x))
+    where
+      low : ℕ
+      low = 540 * m + x
+
+      high : ℕ
+      high = 540 * m + 270 + x
+
+      earlier : (k ≡ 540 * m + 270 + x → ⊥) → (k ≡ 540 * m + x → ⊥) → 540 * m ≤ k → k % 270 < x + 1 → k % 270 < x
+      earlier q r a p =
+          ⊎-elim
+          (λ (e : k % 270 ≡ x). ⊎-elim
+          (λ (w : k < 540 * m + 270). absurd (r (omega arith)))
+          (λ (w : 540 * m + 270 ≤ k). absurd (q (omega arith)))
+          (lt-or-le k (540 * m + 270)))
+          (λ (e : k % 270 ≡ x → ⊥). omega (arith, e))
+          (eq-or-ne (k % 270) x)
+
+-- ---- eight numbers of a row
+
+-- what was picked before, and the first t of this row's eight
+abbrev pub Begun : List ℕ → List ℕ → ℕ → ℕ → ℕ → List ℕ → Type 0
+Begun v at k n t seen = Picked v at (30 * k + n) seen × ((u : ℕ) → u < t → getD seen (72 * n + 8 * k + u) 0 ≡ pickedAt v at (72 * n + 8 * k + u))
+
+module _ (v at : List ℕ) (k n : ℕ) (hk : k < 9) (hn : n < 30) where
+  pub begun-more : (t x : ℕ) (seen : List ℕ) → t < 8 → length seen ≡ 2160 → x ≡ getD v (9 * n + getD at (8 * k + t) 0) 0 → Begun v at k n t seen
+      → Begun v at k n (t + 1) (set seen (72 * n + 8 * k + t) x)
+  unfolding pickedAt
+  begun-more t x seen ht size e b = (
+    λ y l h. getD-set-other seen p y x 0 (λ q. absurd (omega arith)) ∙ b .0 y l h,
+    λ u l. ⊎-elim
+        (λ (q : u ≡ t). rw q (getD-set-same seen p x 0 (omega arith) ∙ e ∙ ap₂ (λ (r c : ℕ). getD v (9 * r + getD at c 0) 0) row col))
+        (λ (q : u ≡ t → ⊥). getD-set-other seen p (72 * n + 8 * k + u) x 0 (λ w. q (omega arith)) ∙ b .1 u (omega arith))
+        (eq-or-ne u t),
+  )
+    where
+      p : ℕ
+      p = 72 * n + 8 * k + t
+
+      row : n ≡ (72 * n + 8 * k + t) / 72
+      row = omega arith
+
+      col : 8 * k + t ≡ (72 * n + 8 * k + t) % 72
+      col = omega arith
+
+  pub begun-all : (seen : List ℕ) → Begun v at k n 8 seen → Picked v at (30 * k + n + 1) seen
+  begun-all seen b y l h =
+      ⊎-elim
+      (λ (q : 30 * (y % 72 / 8) + y / 72 < 30 * k + n). b .0 y l q)
+      (λ (q : 30 * k + n ≤ 30 * (y % 72 / 8) + y / 72).
+      let w : y ≡ 72 * n + 8 * k + y % 8 = omega arith in
+      rw w (b .1 (y % 8) (omega arith)))
+      (lt-or-le (30 * (y % 72 / 8) + y / 72) (30 * k + n))
 
 -- ---- rows of nine bytes
 

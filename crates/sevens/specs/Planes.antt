@@ -1,4 +1,4 @@
--- Eight rows of 270 bytes, of which rows and bits change places: bit d of row t becomes bit t of row d. First the fours change places, the upper
+-- Eight rows of w bytes, of which rows and bits change places: bit d of row t becomes bit t of row d. First the fours change places, the upper
 -- four bits of the upper rows with the lower four of the lower rows, then the twos within these, then the ones.
 use mathlib.Core.Path.{_≡_}
 use mathlib.Core.List.{List}
@@ -7,13 +7,14 @@ use lib.Bits.{bitAnd, bitOr}
 use lib.ListN.{length, getD}
 
 -- bit d of byte i in row t, the bits counted from the lowest
-abbrev pub cell : List ℕ → ℕ → ℕ → ℕ → ℕ
-cell s t d i = getD s (270 * t + i) 0 / 2 ^ d % 2
+abbrev pub cell : ℕ → List ℕ → ℕ → ℕ → ℕ → ℕ
+cell w s t d i = getD s (w * t + i) 0 / 2 ^ d % 2
 
-pub record Transposed (before after : List ℕ) : Type 0 where
+pub record Transposed (w : ℕ) (before after : List ℕ) : Type 0 where
   pub long : length after ≡ length before
   pub small : (k : ℕ) → getD after k 0 < 256
-  pub cells : (t d i : ℕ) → t < 8 → d < 8 → i < 270 → cell after t d i ≡ cell before d t i
+  pub cells : (t d i : ℕ) → t < 8 → d < 8 → i < w → cell w after t d i ≡ cell w before d t i
+  pub rest : (k : ℕ) → 8 * w ≤ k → getD after k 0 ≡ getD before k 0
 
 -- m has those of the eight bits that are in an even place, counted by e
 pub record Mask (e m : ℕ) : Type 0 where
@@ -41,7 +42,7 @@ abbrev pub swapFrom : ℕ → ℕ → ℕ → ℕ
 swapFrom e t d = t - e * (t / e % 2) + e * (d / e % 2)
 
 -- the first 2 e n rows have done so
-pub record Stage (e n : ℕ) (before after : List ℕ) : Type 0 where
+pub record Stage (w e n : ℕ) (before after : List ℕ) : Type 0 where
   pub long : length after ≡ length before
-  pub done : (t d i : ℕ) → t / e < 2 * n → d < 8 → i < 270 → cell after t d i ≡ cell before (swapFrom e t d) (swapFrom e d t) i
-  pub rest : (t i : ℕ) → 2 * n ≤ t / e → i < 270 → getD after (270 * t + i) 0 ≡ getD before (270 * t + i) 0
+  pub done : (t d i : ℕ) → t / e < 2 * n → d < 8 → i < w → cell w after t d i ≡ cell w before (swapFrom e t d) (swapFrom e d t) i
+  pub rest : (t i : ℕ) → 2 * n ≤ t / e → i < w → getD after (w * t + i) 0 ≡ getD before (w * t + i) 0

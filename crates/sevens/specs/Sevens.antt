@@ -1,17 +1,29 @@
 -- Rows of 2,160 bits, of which seven in a column are one number.
-use mathlib.Core.Path.{_≡_}
+use mathlib.Core.Path.{_≡_, ap, _∙_}
 use mathlib.Core.List.{List}
-use Prim.Native.Nat.{ℕ, zero, suc, _+_, _-_, _*_, _/_, _%_, _<_}
+use Prim.Native.Nat.{ℕ, zero, suc, _+_, _-_, _*_, _/_, _%_, _^_, _<_}
+use native.Mathlib.Omega.{arith}
 use lib.Bits.{bitAnd}
 use lib.Dec.{ltb, eqb}
 use lib.ListN.{length, getD}
 use Rattle.bits.specs.Choice.{pick}
+use Rattle.bits.specs.Pack.{val, Bits, bit-val}
 use Rattle.sizes.specs.Sizes.{wordBits}
 
 -- a coded word, a bit to a byte
 pub record Coded (coded : List ℕ) : Type 0 where
   pub size : length coded ≡ wordBits
   pub bits : (i : ℕ) → getD coded i 0 < 2
+
+-- the seven bits of f that stand 2,160 apart from x on as one number, the first lowest; and bit k of it
+unfoldable pub column : (ℕ → ℕ) → ℕ → ℕ
+column f x = val (λ t. f (x + 2160 * (6 - t))) 7
+
+pub column-bit : (f : ℕ → ℕ) → Bits f → (x k : ℕ) → k < 7 → column f x / 2 ^ k % 2 ≡ f (x + 2160 * k)
+unfolding column
+column-bit f b x k l =
+    let e : 6 - (6 - k) ≡ k = omega arith in
+    bit-val (λ t. f (x + 2160 * (6 - t))) (λ t. b (x + 2160 * (6 - t))) k (6 - k) 7 (omega arith) ∙ ap (λ (r : ℕ). f (x + 2160 * r)) e
 
 -- the first places of a list
 abbrev pub Filled : (ℕ → ℕ) → List ℕ → ℕ → Type 0
@@ -20,25 +32,19 @@ Filled f xs n = (k : ℕ) → k < n → getD xs k 0 ≡ f k
 -- ---- rows
 
 -- the seven bits from the next row on: the first becomes the last
-abbrev pub turn : ℕ → ℕ
-turn v = v / 2 + v % 2 * 64
+abbrev pub turnOf : ℕ → ℕ
+turnOf v = v / 2 + v % 2 * 64
 
--- of the n numbers from `at` on, m stand turned behind them
-pub record Turned (at n m : ℕ) (before after : List ℕ) : Type 0 where
+-- of the first n numbers, m stand turned behind them
+pub record Turned (n m : ℕ) (before after : List ℕ) : Type 0 where
   pub long : length after ≡ length before
-  pub earlier : (k : ℕ) → k < at + n → getD after k 0 ≡ getD before k 0
-  pub here : (x : ℕ) → x < m → getD after (at + n + x) 0 ≡ turn (getD before (at + x) 0)
-
--- m numbers of a column, 72 apart from `from` on, stand nine apart from `to` on; all else is as it was
-pub record Column (from to m : ℕ) (v before after : List ℕ) : Type 0 where
-  pub long : length after ≡ length before
-  pub here : (n : ℕ) → n < m → getD after (to + 9 * n) 0 ≡ getD v (from + 72 * n) 0
-  pub other : (y : ℕ) → ((n : ℕ) → n < m → y ≡ to + 9 * n → ⊥) → getD after y 0 ≡ getD before y 0
+  pub earlier : (k : ℕ) → k < n → getD after k 0 ≡ getD before k 0
+  pub here : (x : ℕ) → x < m → getD after (n + x) 0 ≡ turnOf (getD before x 0)
 
 -- planes of 270, each with its numbers turned behind it
 unfoldable pub doubledAt : List ℕ → ℕ → ℕ
 doubledAt planes y =
-    pick (ltb (y % 540) 270) (getD planes (270 * (y / 540) + y % 540) 0) (turn (getD planes (270 * (y / 540) + (y % 540 - 270)) 0))
+    pick (ltb (y % 540) 270) (getD planes (270 * (y / 540) + y % 540) 0) (turnOf (getD planes (270 * (y / 540) + (y % 540 - 270)) 0))
 
 -- where byte k comes from where row r of nine is row `by` times r
 abbrev pub nineOf : ℕ → ℕ → ℕ
@@ -79,12 +85,18 @@ pub record Starts (at : List ℕ) : Type 0 where
   pub size : length at ≡ 72
   pub room : (b : ℕ) → b < 72 → getD at b 0 < 4050
 
+-- number x: row x / 72 of column x % 72
 unfoldable pub pickedAt : List ℕ → List ℕ → ℕ → ℕ
 pickedAt v at x = getD v (9 * (x / 72) + getD at (x % 72) 0) 0
 
-unfoldable pub bitIn : ℕ → ℕ → ℕ
-bitIn x m = pick (eqb (bitAnd x m) 0) 0 1
+-- the first i times eight numbers: eight columns at a time, and of these row after row
+abbrev pub Picked : List ℕ → List ℕ → ℕ → List ℕ → Type 0
+Picked v at i seen = (y : ℕ) → y < 2160 → 30 * (y % 72 / 8) + y / 72 < i → getD seen y 0 ≡ pickedAt v at y
+
+-- 1 where x has a bit of m
+unfoldable pub hasBit : ℕ → ℕ → ℕ
+hasBit x m = pick (eqb (bitAnd x m) 0) 0 1
 
 -- coded bit x of the numbers
 unfoldable pub splitAt : List ℕ → List ℕ → ℕ → ℕ
-splitAt seen mask x = bitIn (getD seen (x % 2160) 0) (getD mask (144 * (x / 2160) + x % 144) 0)
+splitAt seen mask x = hasBit (getD seen (x % 2160) 0) (getD mask (144 * (x / 2160) + x % 144) 0)

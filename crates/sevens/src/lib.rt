@@ -1,5 +1,5 @@
-// Step 5's moves, whatever its places are. Bits that stand 2,160 apart are moved together, seven as one number: their rows turned, the numbers
-// mixed from coded bits and split into them again, and rows and bits of a word's bytes exchanged.
+// Bits that stand 2,160 apart, moved together, seven as one number, for step 5 whatever its places are: rows of these turned, the numbers mixed
+// from coded bits and split into them again. And rows of bytes whose rows and bits change places, for step 4's way back too.
 pub mod masks;
 pub mod mixing;
 pub mod picking;

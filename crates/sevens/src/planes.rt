@@ -1,6 +1,5 @@
-// Eight rows of 270 bytes, of which rows and bits change places: by fours, then by twos, then one by one.
+// Eight rows of w bytes, of which rows and bits change places: by fours, then by twos, then one by one.
 ghost use Prim.Native.Nat.{_+_, _*_, _≤_};
-ghost use mathlib.Core.Path.{_≡_};
 ghost use lib.ListN.{length};
 ghost use Rattle.sevens.specs.Planes.{Mask, Exchanged, Stage, Transposed};
 
@@ -24,22 +23,22 @@ fn exchanged(s: &mut [u8], at: usize, d: usize, e: usize, m: u8)
 }
 
 // The first 2 e n rows, e and e in turn.
-fn stage(s: &mut [u8], n: usize, e: usize, m: u8)
-    requires { ⌜ Mask e m × (540 * (e * n) ≤ length (now s)) ⌝ }
-    ensures { λ _. ⌜ Stage e n (now (s .entry)) (now (s .exit)) ⌝ }
+fn stage(s: &mut [u8], w: usize, n: usize, e: usize, m: u8)
+    requires { ⌜ Mask e m × (1 ≤ w) × (2 * (w * (e * n)) ≤ length (now s)) ⌝ }
+    ensures { λ _. ⌜ Stage w e n (now (s .entry)) (now (s .exit)) ⌝ }
 {
     let mut k = 0;
     while k < n {
-        exchanged(s, 540 * (e * k), 270 * e, e, m);
+        exchanged(s, 2 * (w * (e * k)), w * e, e, m);
         k += 1;
     }
 }
 
-pub fn transposed(s: &mut [u8])
-    requires { ⌜ length (now s) ≡ 2160 ⌝ }
-    ensures { λ _. ⌜ Transposed (now (s .entry)) (now (s .exit)) ⌝ }
+pub fn transposed(s: &mut [u8], w: usize)
+    requires { ⌜ (1 ≤ w) × (8 * w ≤ length (now s)) ⌝ }
+    ensures { λ _. ⌜ Transposed w (now (s .entry)) (now (s .exit)) ⌝ }
 {
-    stage(s, 1, 4, 0x0F);
-    stage(s, 2, 2, 0x33);
-    stage(s, 4, 1, 0x55);
+    stage(s, w, 1, 4, 0x0F);
+    stage(s, w, 2, 2, 0x33);
+    stage(s, w, 4, 1, 0x55);
 }

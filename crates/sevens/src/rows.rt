@@ -1,44 +1,51 @@
 // Rows of numbers and of bytes.
 ghost use mathlib.Core.Path.{_≡_};
-ghost use Prim.Native.Nat.{ℕ, _+_, _≤_, _<_};
+ghost use Prim.Native.Nat.{ℕ, _+_, _*_, _≤_, _<_};
 ghost use lib.ListN.{length, getD};
 ghost use Rattle.sizes.specs.Sizes.{wordBytes};
-ghost use Rattle.sevens.specs.Sevens.{Filled, Turned, Column, nineOf, doubledAt};
+ghost use Rattle.sevens.specs.Sevens.{Filled, turnOf, Turned, nineOf, doubledAt};
 
-// The n numbers from `at` on, turned, behind themselves.
-pub fn turned(v: &mut [u8], at: usize, n: usize)
-    requires { ⌜ at + n + n ≤ length (now v) ⌝ }
-    ensures { λ _. ⌜ Turned at n n (now (v .entry)) (now (v .exit)) ⌝ }
+// Seven bits from the next row on.
+fn turn(b: u8) -> u8
+    ensures { λ r. ⌜ r ≡ turnOf b ⌝ }
+{
+    b / 2 + b % 2 * 64
+}
+
+// The first n numbers once more behind themselves, turned.
+pub fn turned(v: &mut [u8], n: usize)
+    requires { ⌜ n + n ≤ length (now v) ⌝ }
+    ensures { λ _. ⌜ Turned n n (now (v .entry)) (now (v .exit)) ⌝ }
 {
     let mut x = 0;
     while x < n {
-        let b = v[at + x];
-        v[at + n + x] = b / 2 + b % 2 * 64;
+        v[n + x] = turn(v[x]);
         x += 1;
     }
 }
 
-// The 30 numbers of a column: 72 apart from `from` on, and then nine apart from `to` on.
-pub fn column(v: &[u8], from: usize, out: &mut [u8], to: usize)
-    requires { ⌜ (from + 2088 < length (now v)) × (to + 261 < length (now out)) ⌝ }
-    ensures { λ _. ⌜ Column from to 30 (now (v .entry)) (now (out .entry)) (now (out .exit)) ⌝ }
+// Plane m of 270, and behind it its numbers turned.
+fn plane(planes: &[u8], m: usize, v: &mut [u8])
+    requires { ⌜ (length (now planes) ≡ 2160) × (m < 8) × (length (now v) ≡ 4320) × Filled (doubledAt (now planes)) (now v) (540 * m) ⌝ }
+    ensures { λ _. ⌜ Filled (doubledAt (now (planes .entry))) (now (v .exit)) (540 * m + 540) ⌝ }
 {
-    let mut n = 0;
-    while n < 30 {
-        out[to + 9 * n] = v[from + 72 * n];
-        n += 1;
+    let mut x = 0;
+    while x < 270 {
+        let b = planes[270 * m + x];
+        v[540 * m + x] = b;
+        v[540 * m + 270 + x] = turn(b);
+        x += 1;
     }
 }
 
-// Each of eight planes of 270, and behind it its numbers turned.
+// All eight of them.
 pub fn doubled(planes: &[u8], v: &mut [u8])
     requires { ⌜ (length (now planes) ≡ 2160) × (length (now v) ≡ 4320) ⌝ }
     ensures { λ _. ⌜ Filled (doubledAt (now (planes .entry))) (now (v .exit)) 4320 ⌝ }
 {
     let mut m = 0;
     while m < 8 {
-        bits::change::copy_part(planes, 270 * m, v, 540 * m, 270);
-        turned(v, 540 * m, 270);
+        plane(planes, m, v);
         m += 1;
     }
 }

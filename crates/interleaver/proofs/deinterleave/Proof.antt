@@ -43,23 +43,26 @@ slice-aggregate-given c = search needs
 slice-aggregate-given-2 : tie.Need-slice-aggregate-given-2
 slice-aggregate-given-2 c = search needs
 
+slice-aggregate-given-3 : tie.Need-slice-aggregate-given-3
+slice-aggregate-given-3 c = search needs
+
 given-requires : tie.Need-given-requires
 given-requires c κs =
-    let row = c .before .before .before .before .before .before .before .before .before .before .before .before .before .before in
-    (search needs, row-made (row .first-row .last .0) (row .first-row .ensures), row .before .before .before .before .pre .1)
+    let row = c .before .before .before .before .before .before .before .before .before .before .before .before .before .before .before in
+    (search needs, row-made (row .first-row .last .0) (row .first-row .ensures), search needs, row .before .before .before .before .pre .1)
 
 same-length : tie.Need-same-length
 same-length c = search needs
 
 returns : tie.Need-returns
 returns c =
-    let end = c .before .before in
-    let double = end .before .before .before .before .before in
+    let end = c .before .before .before in
+    let double = end .before .before .before .before .before .before in
     let turn = double .before .before .before .before in
     let order = turn .before .before .before in
     let s = order .before .before .before .before .before .before .before in
     let word = s .args .word .now in
-    tab-made wordBits (deinterleave (bitAt word)) (end .given .last .1 .1 .0) (end .given .kept .1 .1 .0 ∙ s .pre .1) (λ x h.
+    tab-made wordBits (deinterleave (bitAt word)) (end .given .last .1 .1 .1 .0) (end .given .kept .1 .1 .1 .0 ∙ s .pre .1) (λ x h.
     end .given .ensures x h
     ∙ coded-made word (order .nines .last .1 .1 .0) (turn .transposed .last .0) (double .doubled .last .1 .0)
     (order .nines .ensures .0) (λ k g. order .nines .ensures .1 k g ∙ fresh 2160 k) (turn .transposed .ensures) (double .doubled .ensures) x h)
@@ -79,6 +82,7 @@ deinterleave-spec =
     doubled-requires
     slice-aggregate-given
     slice-aggregate-given-2
+    slice-aggregate-given-3
     given-requires
     same-length
     returns)

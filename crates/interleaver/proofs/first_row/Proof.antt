@@ -5,7 +5,7 @@ use native.Mathlib.Omega.{arith}
 use lib.ListN.{length, getD}
 use borrow.Author.Count.{below-none}
 use Rattle.bits.specs.Table.{fill, tab-made}
-use Rattle.interleaver.specs.Interleaver.{place}
+use Rattle.interleaver.specs.Interleaver.{place, place-lt}
 use Rattle.interleaver.specs.Squares.{Squares, table-right}
 use borrow.Author.Needs.{needs}
 use Rattle.interleaver.proofs.first_row.Statement.{statement}
@@ -25,6 +25,9 @@ slice-aggregate-place-at c = search needs
 
 place-at-requires : tie.Need-place-at-requires Inv-loop μ-loop
 place-at-requires c κs = (c .before .before .loop .inv .1, omega arith)
+
+cast-off : tie.Need-cast-off Inv-loop μ-loop
+cast-off c = omega (arith, c .place-at .ensures, place-lt (c .before .before .before .loop .c))
 
 mul-off : tie.Need-mul-off Inv-loop μ-loop
 mul-off c = search needs
@@ -60,6 +63,7 @@ first-row-spec =
     loop-holds
     slice-aggregate-place-at
     place-at-requires
+    cast-off
     mul-off
     slice-write-off
     add-c

@@ -5,7 +5,8 @@ use native.Mathlib.Omega.{arith}
 use lib.Bits.{bitOr}
 use Rattle.bits.specs.Pack.{val}
 use Rattle.bits.specs.Loops.{push}
-use Rattle.decoder.specs.Rows.{column, bitsOf}
+use Rattle.sevens.specs.Sevens.{column}
+use Rattle.decoder.specs.Rows.{bitsOf}
 use Rattle.decoder.proofs.Columns.{rowBit}
 use borrow.Author.Needs.{needs}
 use Rattle.decoder.proofs.rows.column_at.Statement.{statement}

@@ -5,8 +5,8 @@ use borrow.Author.Needs.{needs}
 use Rattle.decoder.proofs.rows.columns.Statement.{statement}
 use Rattle.decoder.proofs.rows.columns.Tie as tie
 
-sevens-requires : tie.Need-sevens-requires
-sevens-requires c κs = search needs
+within-requires : tie.Need-within-requires
+within-requires c κs = search needs
 
 follow-requires : tie.Need-follow-requires
 follow-requires c κs = search needs
@@ -17,13 +17,13 @@ same-length c = search needs
 returns : tie.Need-returns
 returns c =
     let s = c .before .before .before .before .before .before .before .before .before .before in
-    held-next (bitsOf (s .args .coded .now)) (s .pre .0 .bits) (coded-past (s .args .coded .now) (s .pre .0)) _ _ (c .before .before .before .before .before .before .sevens .ensures) (c .before .before .follow .ensures)
+    held-next (bitsOf (s .args .coded .now)) (s .pre .0 .bits) (coded-past (s .args .coded .now) (s .pre .0)) _ _ (c .before .before .before .before .before .before .within .ensures) (c .before .before .follow .ensures)
 
 pub columns-spec : {M : Type 1} → statement M
 columns-spec =
     tie.close
     (tie.spec
-    sevens-requires
+    within-requires
     follow-requires
     same-length
     returns)

@@ -21,22 +21,16 @@ slice-aggregate-rolled c = search needs
 rolled-requires : tie.Need-rolled-requires
 rolled-requires c κs = search needs
 
-slice-aggregate-all-rows : tie.Need-slice-aggregate-all-rows
-slice-aggregate-all-rows c = search needs
+slice-aggregate-all-columns : tie.Need-slice-aggregate-all-columns
+slice-aggregate-all-columns c = search needs
 
-slice-aggregate-all-rows-2 : tie.Need-slice-aggregate-all-rows-2
-slice-aggregate-all-rows-2 c = search needs
-
-all-rows-requires : tie.Need-all-rows-requires
-all-rows-requires c κs =
+all-columns-requires : tie.Need-all-columns-requires
+all-columns-requires c κs =
     let first = c .before .before .before .before .before .before .before in
-    (first .before .before .before .before .before .before .pre .0, starts-right (first .starts .last .1 .0) (first .starts .kept .1 .0) (first .starts .ensures .0), search needs)
+    (first .before .before .before .before .before .before .before .pre .0, starts-right (first .starts .last .1 .0) (first .starts .kept .1 .0) (first .starts .ensures .0), search needs)
 
 slice-aggregate-split : tie.Need-slice-aggregate-split
 slice-aggregate-split c = search needs
-
-slice-aggregate-split-2 : tie.Need-slice-aggregate-split-2
-slice-aggregate-split-2 c = search needs
 
 split-requires : tie.Need-split-requires
 split-requires c κs = search needs
@@ -44,18 +38,21 @@ split-requires c κs = search needs
 same-length : tie.Need-same-length
 same-length c = search needs
 
+same-length-2 : tie.Need-same-length-2
+same-length-2 c = search needs
+
 returns : tie.Need-returns
 returns c =
     let end = c .before .before in
-    let rows = end .before .before .before .before .before in
+    let rows = end .before .before .before .before .before .before in
     let roll = rows .before .before .before .before in
     let first = roll .before .before .before .before in
-    let s = first .before .before .before .before .before .before in
+    let s = first .before .before .before .before .before .before .before in
     let mask = roll .rolled .last .0 in
-    given-bits (s .args .v .now) (first .starts .last .1 .0) (rows .all-rows .last .1 .1 .0) mask (end .split .last .1 .1 .0)
+    given-bits (s .args .v .now) (first .starts .last .1 .0) (rows .all-columns .last .1 .1 .0) mask (end .split .last .1 .1 .0)
     (first .starts .ensures .0)
     (masks-rolled upIn in-lt _ mask (first .starts .ensures .1) (roll .rolled .ensures))
-    (rows .all-rows .ensures)
+    (rows .all-columns .ensures)
     (end .split .ensures)
 
 pub given-spec : {M : Type 1} → statement M
@@ -67,11 +64,10 @@ given-spec =
     starts-requires
     slice-aggregate-rolled
     rolled-requires
-    slice-aggregate-all-rows
-    slice-aggregate-all-rows-2
-    all-rows-requires
+    slice-aggregate-all-columns
+    all-columns-requires
     slice-aggregate-split
-    slice-aggregate-split-2
     split-requires
     same-length
+    same-length-2
     returns)

@@ -6,7 +6,7 @@ use lib.ListN.{length, getD}
 use borrow.Author.Needs.{needs}
 use Rattle.bits.specs.Table.{fill}
 use Rattle.sizes.specs.Sizes.{wordBits}
-use Rattle.sevens.specs.Sevens.{bitIn, splitAt}
+use Rattle.sevens.specs.Sevens.{hasBit, splitAt}
 use Rattle.sevens.proofs.picking.two_rows.Statement.{statement}
 use Rattle.sevens.proofs.picking.two_rows.Tie as tie
 
@@ -27,20 +27,20 @@ loop-holds c =
     let s = c .before .before .before in
     (search needs, s .pre .3, λ k h. s .pre .4 k (omega arith))
 
-add-bit-in : tie.Need-add-bit-in Inv-loop μ-loop
-add-bit-in c = search needs
+add-has-bit : tie.Need-add-has-bit Inv-loop μ-loop
+add-has-bit c = search needs
 
-shared-slice-read-bit-in : tie.Need-shared-slice-read-bit-in Inv-loop μ-loop
-shared-slice-read-bit-in c = search needs
+shared-slice-read-has-bit : tie.Need-shared-slice-read-has-bit Inv-loop μ-loop
+shared-slice-read-has-bit c = search needs
 
-add-bit-in-2 : tie.Need-add-bit-in-2 Inv-loop μ-loop
-add-bit-in-2 c = search needs
+add-has-bit-2 : tie.Need-add-has-bit-2 Inv-loop μ-loop
+add-has-bit-2 c = search needs
 
-shared-slice-read-bit-in-2 : tie.Need-shared-slice-read-bit-in-2 Inv-loop μ-loop
-shared-slice-read-bit-in-2 c = search needs
+shared-slice-read-has-bit-2 : tie.Need-shared-slice-read-has-bit-2 Inv-loop μ-loop
+shared-slice-read-has-bit-2 c = search needs
 
-bit-in-requires : tie.Need-bit-in-requires Inv-loop μ-loop
-bit-in-requires c κs = search needs
+has-bit-requires : tie.Need-has-bit-requires Inv-loop μ-loop
+has-bit-requires c κs = search needs
 
 mul-coded : tie.Need-mul-coded Inv-loop μ-loop
 mul-coded c = search needs
@@ -70,8 +70,8 @@ loop-again c =
     let by : 144 * (k / 15) + l .y ≡ 144 * (x / 2160) + x % 144 = omega arith in (
       search needs,
       search needs,
-      λ j g. fill (l .coded) (splitAt seen mask) x (c .bit-in .result) (omega arith)
-          (c .bit-in .ensures ∙ ap₂ (λ (a b : ℕ). bitIn (getD seen a 0) (getD mask b 0)) from by)
+      λ j g. fill (l .coded) (splitAt seen mask) x (c .has-bit .result) (omega arith)
+          (c .has-bit .ensures ∙ ap₂ (λ (a b : ℕ). hasBit (getD seen a 0) (getD mask b 0)) from by)
           (l .inv .2) j (omega arith),
     )
 
@@ -90,11 +90,11 @@ two-rows-spec =
     mul-from
     mul-by
     loop-holds
-    add-bit-in
-    shared-slice-read-bit-in
-    add-bit-in-2
-    shared-slice-read-bit-in-2
-    bit-in-requires
+    add-has-bit
+    shared-slice-read-has-bit
+    add-has-bit-2
+    shared-slice-read-has-bit-2
+    has-bit-requires
     mul-coded
     add-coded
     slice-write-coded

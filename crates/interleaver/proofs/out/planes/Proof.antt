@@ -1,30 +1,31 @@
--- One row more is filled.
+-- A plane more.
 use mathlib.Core.Path.{_≡_, _∙_}
 use Prim.Native.Nat.{_-_, _*_, _≤_}
 use native.Mathlib.Omega.{arith}
 use lib.ListN.{length}
 use borrow.Author.Needs.{needs}
-use Rattle.sevens.specs.Sevens.{Filled, pickedAt}
-use Rattle.sevens.proofs.picking.all_rows.Statement.{statement}
-use Rattle.sevens.proofs.picking.all_rows.Tie as tie
+use Rattle.sevens.specs.Sevens.{Filled}
+use Rattle.interleaver.specs.Columns.{seenOut}
+use Rattle.interleaver.proofs.out.planes.Statement.{statement}
+use Rattle.interleaver.proofs.out.planes.Tie as tie
 
 abbrev Inv-loop : tie.InvT-loop
-Inv-loop v at seen₀ n₀ seen n = (n ≤ 30) × (length seen ≡ 2160) × Filled (pickedAt v at) seen (72 * n)
+Inv-loop v from seen₀ m₀ seen m = (m ≤ 8) × (length seen ≡ 2160) × Filled (seenOut v) seen (270 * m)
 
 abbrev μ-loop : tie.MeasureT-loop
-μ-loop v at seen₀ n₀ seen n = 30 - n
+μ-loop v from seen₀ m₀ seen m = 8 - m
 
 loop-holds : tie.Need-loop-holds Inv-loop μ-loop
 loop-holds c = (search needs, search needs, λ k h. absurd (omega arith))
 
-row-requires : tie.Need-row-requires Inv-loop μ-loop
-row-requires c κs =
+plane-requires : tie.Need-plane-requires Inv-loop μ-loop
+plane-requires c κs =
     let l = c .before .before .loop in
-    let s = c .before .before .before .before .before .before in
-    (s .pre .0, s .pre .1, omega arith, l .inv .1, l .inv .2)
+    let g = c .before .before .before .before .before .before .pre in
+    ((g .0, g .1, omega arith), (l .inv .1, l .inv .2))
 
-add-n : tie.Need-add-n Inv-loop μ-loop
-add-n c = search needs
+add-m : tie.Need-add-m Inv-loop μ-loop
+add-m c = search needs
 
 loop-less : tie.Need-loop-less Inv-loop μ-loop
 loop-less c = search needs
@@ -32,7 +33,7 @@ loop-less c = search needs
 loop-again : tie.Need-loop-again Inv-loop μ-loop
 loop-again c =
     let l = c .before .before .before .before .before .loop in
-    let o = c .before .before .row in
+    let o = c .before .before .plane in
     (search needs, o .kept .1 .1 .1 .0 ∙ l .inv .1, λ k h. o .ensures k (omega arith))
 
 same-length : tie.Need-same-length Inv-loop μ-loop
@@ -41,15 +42,15 @@ same-length c = search needs
 returns : tie.Need-returns Inv-loop μ-loop
 returns c = λ k h. c .before .loop .inv .2 k (omega arith)
 
-pub all-rows-spec : {M : Type 1} → statement M
-all-rows-spec =
+pub planes-spec : {M : Type 1} → statement M
+planes-spec =
     tie.close
     (tie.spec
     Inv-loop
     μ-loop
     loop-holds
-    row-requires
-    add-n
+    plane-requires
+    add-m
     loop-less
     loop-again
     same-length

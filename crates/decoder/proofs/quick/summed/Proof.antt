@@ -1,8 +1,8 @@
 -- Sums of columns are columns of sums.
 use Rattle.decoder.proofs.Reading.{pairs-held}
 use borrow.Author.Needs.{needs}
-use Rattle.decoder.proofs.quick.spread.Statement.{statement}
-use Rattle.decoder.proofs.quick.spread.Tie as tie
+use Rattle.decoder.proofs.quick.summed.Statement.{statement}
+use Rattle.decoder.proofs.quick.summed.Tie as tie
 
 columns-requires : tie.Need-columns-requires
 columns-requires c κs = search needs
@@ -22,8 +22,8 @@ returns c =
     let v = c .before .before .before .before .before .before .before .columns .ensures in
     record { coded-is = s .pre .0; columns = v; pairs = pairs-held (s .args .coded .now) _ _ (s .pre .0) v (c .before .before .twos .ensures) }
 
-pub spread-spec : {M : Type 1} → statement M
-spread-spec =
+pub summed-spec : {M : Type 1} → statement M
+summed-spec =
     tie.close
     (tie.spec
     columns-requires

@@ -2,11 +2,12 @@
 use mathlib.Core.Path.{_≡_, sym, _∙_}
 use Prim.Native.Nat.{_-_, _≤_}
 use native.Mathlib.Omega.{arith}
-use Rattle.decoder.specs.Rows.{column, bitsOf, Held}
+use Rattle.sevens.specs.Sevens.{column}
+use Rattle.decoder.specs.Rows.{bitsOf, Held}
 use Rattle.decoder.proofs.Columns.{held-none, held-more}
 use borrow.Author.Needs.{needs}
-use Rattle.decoder.proofs.rows.sevens.Statement.{statement}
-use Rattle.decoder.proofs.rows.sevens.Tie as tie
+use Rattle.decoder.proofs.rows.within.Statement.{statement}
+use Rattle.decoder.proofs.rows.within.Tie as tie
 
 abbrev Inv-loop : tie.InvT-loop
 Inv-loop coded v₀ x₀ v x = (x ≤ 2160) × Held (column (bitsOf coded)) x v
@@ -43,8 +44,8 @@ returns c =
     let e : l .x ≡ 2160 = omega arith in
     rw e at (l .inv .1)
 
-pub sevens-spec : {M : Type 1} → statement M
-sevens-spec =
+pub within-spec : {M : Type 1} → statement M
+within-spec =
     tie.close
     (tie.spec
     Inv-loop
