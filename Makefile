@@ -18,21 +18,23 @@ WARNINGS = -Wall -Wextra -Wpedantic -Werror -Wconversion
 # A packager's CPPFLAGS, CFLAGS and LDFLAGS add to what the build needs.
 CFLAGS ?= -O2
 COMPILE = $(CC) -std=c11 $(WARNINGS) -Iinclude $(CPPFLAGS) $(CFLAGS)
-PLAIN = -O3 -march=native
+# What the reference is compiled with, so that the benches measure against the best of its kind.
+FAST = -O3 -march=native
 SANITIZED = -O1 -g -fsanitize=address,undefined -fno-sanitize-recover=all
 RUSTFLAGS = --edition 2021 -O -D warnings
 
-VERSION = 0.4.0
+# One place has the version: the C header.
+VERSION := $(shell sed -n 's/^\#define MAHYREI_VERSION "\(.*\)"$$/\1/p' include/mahyrei.h)
 
-# The static library: all calls. Another archive can stand in for it, such as the plain C version,
-# which shows that the tests outside the proofs hold without the library:
+# The static library: all calls. Another archive can stand in for it, such as the reference in plain
+# C, which shows that the tests outside the proofs hold without the library:
 #   make host-test LIBS=target/host/standin/libmahyrei.a RUNSHEET=
 # Several archives are linked in the order given.
 LIBRARY = target/lib/libmahyrei.a
 LIBS = $(LIBRARY)
 # The shared library, from the same objects. Programs look for it by its ABI, which changes when one
 # that was linked with an older one could no longer run with it, or would get other words from it.
-ABI = 3
+ABI = 4
 SHARED = $(dir $(firstword $(LIBS)))libmahyrei.so.$(VERSION)
 HOST = target/host
 HEADER = include/mahyrei.h include/mahyrei_plain.h
@@ -44,7 +46,8 @@ BINDIR ?= $(PREFIX)/bin
 LIBDIR ?= $(PREFIX)/lib
 INCLUDEDIR ?= $(PREFIX)/include
 MANDIR ?= $(PREFIX)/share/man
-PYTHONDIR ?= $(PREFIX)/share/mahyrei/python
+# Empty: below PREFIX where a Python of this system looks, or else share/mahyrei/python.
+PYTHONDIR ?=
 COMPLETIONDIR ?= $(PREFIX)/share/bash-completion/completions
 DESTDIR ?=
 
@@ -66,24 +69,38 @@ FADES ?=
 DELAYS ?=
 TRACES ?=
 UPLINKS ?=
+# A folder with 12 GB of room, where `make python-test` is to try the largest run.
+LARGE ?=
 
 help:
 	@echo 'make test       prove every crate (rt ci), then host-test; last line: N passed, 0 failed'
 	@echo 'make host-test  the tests outside the proofs alone; SEED=n, WORDS=n, PASSES=n, RUNS=n,'
 	@echo '                CAPTURES=n, HEADERS=n, FADES=n, DELAYS=n, TRACES=n and UPLINKS=n choose'
 	@echo '                what is compared'
-	@echo 'make demo       write a run, see its first symbols, read it back, damage it, look into it'
+	@echo 'make demo       the command at work: runs, recordings, damage, racks, uplinks; proves quietly,'
+	@echo '                and keeps its picture under target/demo'
 	@echo 'make bench      times of the library beside plain C and beside memory'
 	@echo 'make lib        the static library and the shared one: $(LIBS)'
 	@echo '                $(SHARED)'
 	@echo 'make program    the command: $(PROGRAM)'
 	@echo 'make install    libraries, headers, pkg-config file, command, man pages and Python module,'
 	@echo '                under PREFIX=$(PREFIX) and DESTDIR; make uninstall takes them away'
+	@echo 'make book       the promises as pages for the browser: target/book/index.html; needs Sphinx,'
+	@echo '                which is installed where root; tests/book tries them'
+	@echo 'make deb        Debian packages, in target/deb; make deb-test installs them into a fresh root'
 	@echo 'make clean      remove what was built outside the proofs'
 	@echo 'make soak       all calls against the second implementation, on all cores for'
 	@echo '                SECONDS=n, with a fresh seed or SEED=n'
 	@echo 'make fuzz       all calls under libFuzzer and the sanitizers, likewise'
+	@echo 'make peers      all calls that code against a chain made of parts by others'
+	@echo 'make crash      a power cut at every step of every command that writes, simulated'
+	@echo 'make wheel      a Python wheel with the shared library in it, in target/wheel'
+	@echo 'make python-test  the Python module beside numpy and mypy, and the wheel'
+	@echo 'make gnuradio-test  the GNU Radio blocks of integrations/gnuradio, with GNU Radio itself'
+	@echo 'make lint       compilers, linters and formatters, of which none may have a complaint'
 	@echo 'make stack      the most stack that each call takes, read from the machine code'
+	@echo 'make controls   a harmless change beside each must-fail edit that has one, which the prover has'
+	@echo '                to accept; CONTROLS="crate crate/edit" for some of them'
 	@echo 'make mutants    COUNT=n small changes of the code of each crate, which the prover has to'
 	@echo '                refuse; CRATES=name for one crate'
 
@@ -92,16 +109,30 @@ test:
 
 PYTHON_TEST = if ! command -v python3 >/dev/null; then \
     echo 'python: no python3 here; the module is not tried'; \
-    else MAHYREI_LIBRARY=$(abspath $(SHARED)) tests/python/module $(PROGRAM) $(HOST)/slots; fi
+    else MAHYREI_LIBRARY=$(abspath $(SHARED)) tests/python/module $(PROGRAM) $(HOST)/slots && \
+    MAHYREI_LIBRARY=$(abspath $(SHARED)) tests/python/ground $(PROGRAM); fi
+# The module beside numpy, its types, and the wheel: what needs more than python3 and the library.
+.PHONY: wheel python-test
+wheel: $(SHARED)
+	@host/package/wheel $< target/wheel
+python-test: $(SHARED) $(PROGRAM) $(HOST)/slots
+	@LARGE='$(LARGE)' tests/python/more $(PROGRAM) $(HOST)/slots $(abspath $<)
+.PHONY: gnuradio-test
+gnuradio-test: $(SHARED)
+	@tests/gnuradio/run $(abspath $<)
 # The stack of each call by the machine code, where it is the library's own and can be read.
 STACK_TEST = if [ '$(LIBS)' != '$(LIBRARY)' ]; then true; \
     elif ! command -v python3 >/dev/null || ! command -v objdump >/dev/null; then \
     echo 'stack: no python3 or no objdump here; the frames are not read'; \
     else tests/stack $(SHARED) >/dev/null && echo 'stack: no call takes more than 1 MiB'; fi
-HOST_TESTS = $(SHARED) $(addprefix $(HOST)/,mahyrei_lying word_calls pass_calls spread_calls \
-    run_calls long_calls find_calls header_calls fades_calls delay_calls rack_calls uplink_calls \
-    plain_calls sha256_vectors second_test compare_words compare_passes compare_spreads \
-    compare_runs compare_captures compare_headers compare_fades compare_delays compare_racks \
+CRASH_TEST = if ! command -v python3 >/dev/null; then \
+    echo 'crash: no python3 here; no power cut is simulated'; \
+    else tests/crash/run $(PROGRAM) $(HOST)/record.so --short; fi
+LINT = HOST_FLAGS='$(HOST_FLAGS)' WARNINGS='$(filter-out -Werror,$(WARNINGS))' tests/lint
+HOST_TESTS = $(SHARED) $(addprefix $(HOST)/,mahyrei_lying record.so word_calls pass_calls \
+    spread_calls run_calls long_calls find_calls header_calls fades_calls delay_calls rack_calls \
+    uplink_calls plain_calls limits sha256_vectors sha512_vectors second_test compare_words compare_passes \
+    compare_spreads compare_runs compare_captures compare_headers compare_fades compare_delays compare_racks \
     compare_uplinks) $(COMMAND_TESTS)
 host-test: $(HOST_TESTS)
 	@echo '#include "mahyrei_plain.h"' | $(CXX) -x c++ $(WARNINGS) -Iinclude -fsyntax-only -
@@ -117,7 +148,9 @@ host-test: $(HOST_TESTS)
 	@$(STACK) && ASAN_OPTIONS=detect_leaks=0 $(HOST)/rack_calls
 	@$(STACK) && ASAN_OPTIONS=detect_leaks=0 $(HOST)/uplink_calls
 	@$(STACK) && ASAN_OPTIONS=detect_leaks=0 $(HOST)/plain_calls
+	@$(HOST)/limits
 	@ASAN_OPTIONS=detect_leaks=0 $(HOST)/sha256_vectors
+	@ASAN_OPTIONS=detect_leaks=0 $(HOST)/sha512_vectors
 	@$(STACK) && $(HOST)/second_test --quiet
 	@$(STACK) && SEED=$(SEED) WORDS=$(WORDS) $(HOST)/compare_words
 	@$(STACK) && SEED=$(SEED) PASSES=$(PASSES) $(HOST)/compare_passes
@@ -129,20 +162,29 @@ host-test: $(HOST_TESTS)
 	@$(STACK) && SEED=$(SEED) DELAYS=$(DELAYS) $(HOST)/compare_delays
 	@$(STACK) && SEED=$(SEED) TRACES=$(TRACES) $(HOST)/compare_racks
 	@$(STACK) && SEED=$(SEED) UPLINKS=$(UPLINKS) $(HOST)/compare_uplinks
-	@$(STACK) && tests/command/run $(COMMAND_TESTS)
+	@$(STACK) && COMMAND=$(PROGRAM) RUNSHEET=$(RUNSHEET) tests/command/run -q
+	@$(CRASH_TEST)
 	@$(PYTHON_TEST)
+	@$(LINT)
+	@tests/believed --selftest
 	@$(STACK_TEST)
 	@echo 'tests outside the proofs: passed'
 
-demo: $(PROGRAM) $(HOST)/slots
-	@demo/run $^
+# The proofs first, on all cores and quietly, where make sees that they are to be done.
+PICTURE = target/demo/damage.svg
+demo:
+	@[ '$(LIBS)' != '$(LIBRARY)' ] || $(MAKE) -q target/staticlib/libc_calls.a >/dev/null 2>&1 || \
+	    { demo/prove && touch target/staticlib/libc_calls.a; }
+	@$(MAKE) -s --no-print-directory $(PROGRAM) $(HOST)/slots
+	@mkdir -p $(dir $(PICTURE))
+	@demo/run $(PROGRAM) $(HOST)/slots $(PICTURE)
 
-# README's picture of a damaged capture, which is the demo's.
+# The manual's picture of a damaged capture, which is the demo's.
 .PHONY: picture
 picture: $(PROGRAM) $(HOST)/slots
 	@demo/run $^ docs/capture.svg >/dev/null
 
-bench: $(addprefix $(HOST)/bench_,words passes uplinks runs captures fades delays)
+bench: $(addprefix $(HOST)/bench_,words passes uplinks runs captures fades delays) $(PROGRAM)
 	@$(HOST)/bench_words
 	@echo
 	@$(HOST)/bench_passes
@@ -156,6 +198,13 @@ bench: $(addprefix $(HOST)/bench_,words passes uplinks runs captures fades delay
 	@$(HOST)/bench_fades
 	@echo
 	@$(HOST)/bench_delays
+	@echo
+	@bench/scan $(PROGRAM) $(HOST)
+
+# What may be relied on, as pages made from the sources. No part of the tests: it needs packages.
+.PHONY: book
+book:
+	@docs/book/build target/book
 
 lib: $(LIBS) $(SHARED)
 
@@ -172,13 +221,21 @@ install uninstall: export PYTHONDIR := $(PYTHONDIR)
 install uninstall: export COMPLETIONDIR := $(COMPLETIONDIR)
 BUILT = VERSION='$(VERSION)' ABI='$(ABI)' PROGRAM='$(PROGRAM)' ARCHIVE='$(LIBS)' SHARED='$(SHARED)'
 install: $(LIBS) $(SHARED) $(PROGRAM)
-	@$(BUILT) host/install put
+	@$(BUILT) host/package/install put
 
 uninstall:
-	@$(BUILT) host/install take
+	@$(BUILT) host/package/install take
+
+# Debian's packages, from the proved archive, and a test that installs them into a fresh root.
+DEB = target/deb
+.PHONY: deb deb-test
+deb: target/staticlib/libc_calls.a
+	@host/package/deb $< $(ABI) $(VERSION) $(DEB)
+deb-test: deb $(LIBS) $(SHARED) $(PROGRAM)
+	@tests/packages $(DEB)
 
 clean:
-	rm -rf $(HOST) target/lib
+	rm -rf $(HOST) target/lib target/book target/book-source
 
 # `rt` proves what these stand on, where that is not done yet.
 PROVED := crates.txt $(shell find crates -name '*.rt' -o -name '*.antt')
@@ -194,8 +251,8 @@ target/lib/plain/%.o: plain/%.c $(HEADER)
 	@mkdir -p $(@D)
 	@$(COMPILE) -fPIC -c $< -o $@
 
-# The crate `calls` has every call that C sees. The library is its archive, and the plain C beside it.
-$(LIBRARY): target/staticlib/libcalls.a $(PARTS)
+# The crate `c_calls` has every call that C sees. The library is its archive, and the plain C beside it.
+$(LIBRARY): target/staticlib/libc_calls.a $(PARTS)
 	@mkdir -p $(@D)
 	@cp $< $@
 	@ar rs $@ $(PARTS)
@@ -208,59 +265,68 @@ $(SHARED): $(LIBS) $(HOST)/archives plain/libmahyrei.map
 	@ln -sf $(@F) $(@D)/libmahyrei.so.$(ABI)
 	@ln -sf libmahyrei.so.$(ABI) $(@D)/libmahyrei.so
 
-# Names the archives in use: a program linked with others is linked again.
+# Names the archives in use, and the digest: a program linked with others is linked again.
 LINKED = $(LIBS) $(HOST)/archives
 LINK_RUST = --extern second=$(HOST)/libsecond.rlib $(foreach lib,$(LIBS),-C link-arg=$(lib))
 $(HOST)/archives: FORCE
 	@mkdir -p $(@D)
-	@echo '$(LIBS)' | cmp -s - $@ || echo '$(LIBS)' >$@
+	@echo '$(LIBS) $(SHA256)' | cmp -s - $@ || echo '$(LIBS) $(SHA256)' >$@
 
-# The calls in plain C.
-STANDIN = $(HOST)/standin
-PLAIN_SOURCES = $(addprefix bench/,plain_word.c plain_word.h plain_pass.c plain_pass.h \
-    plain_delay.c plain_delay.h plain_rack.c plain_rack.h plain_uplink.c plain_uplink.h) \
-    tests/c/plain_run.c
-$(STANDIN)/libmahyrei.a: $(PLAIN_SOURCES) $(HEADER) $(PARTS)
+# The reference: all calls in plain C, for the benches, the fuzz target and the stand-in.
+REFERENCE_HEADERS = reference/reference.h reference/parts.h
+REFERENCE = $(addprefix $(HOST)/reference/,word.o pass.o run.o capture.o header.o fades.o delay.o \
+    rack.o uplink.o)
+$(HOST)/reference/%.o: reference/%.c $(REFERENCE_HEADERS) $(HEADER)
 	@mkdir -p $(@D)
-	@$(COMPILE) $(PLAIN) -fPIC -c bench/plain_word.c -o $(STANDIN)/plain_word.o
-	@$(COMPILE) $(PLAIN) -fPIC -Dplain_word_write=word_write -Dplain_word_read=word_read \
-	    -Dplain_bit_spread=bit_spread -c bench/plain_word.c -o $(STANDIN)/word.o
-	@$(COMPILE) $(PLAIN) -fPIC -Dplain_pass_write=pass_write -Dplain_pass_read=pass_read \
-	    -c bench/plain_pass.c -o $(STANDIN)/pass.o
-	@$(COMPILE) $(PLAIN) -fPIC -Dplain_delay_write=delay_write -Dplain_delay_read=delay_read \
-	    -Dplain_delay_step=standin_delay_step -c bench/plain_delay.c -o $(STANDIN)/delay.o
-	@$(COMPILE) $(PLAIN) -fPIC -Dplain_rack_load=rack_load -Dplain_rack_read=rack_read \
-	    -Dplain_rack_drop=rack_drop -Dplain_rack_lend=rack_lend -c bench/plain_rack.c \
-	    -o $(STANDIN)/rack.o
-	@$(COMPILE) $(PLAIN) -fPIC -Dplain_uplink_write=uplink_write -Dplain_uplink_read=uplink_read \
-	    -c bench/plain_uplink.c -o $(STANDIN)/uplink.o
-	@$(COMPILE) $(PLAIN) -fPIC -Ibench -c tests/c/plain_run.c -o $(STANDIN)/run.o
+	@$(COMPILE) $(FAST) -fPIC -c $< -o $@
+
+# An archive of it under the library's names, which standin.c exports.
+$(HOST)/standin/libmahyrei.a: $(HOST)/reference/standin.o $(REFERENCE) $(PARTS)
+	@mkdir -p $(@D)
 	@rm -f $@
-	@ar rcs $@ $(addprefix $(STANDIN)/,plain_word.o word.o pass.o delay.o rack.o uplink.o run.o) \
-	    $(PARTS)
+	@ar rcs $@ $^
 
-HOST_SOURCES = $(wildcard host/*.c)
-HOST_FLAGS = -D_XOPEN_SOURCE=700 -DMAHYREI_VERSION='"$(VERSION)"' -pthread
-$(PROGRAM): $(HOST_SOURCES) $(wildcard host/*.h) $(HEADER) $(LINKED)
-	@$(COMPILE) $(HOST_FLAGS) $(HOST_SOURCES) $(LIBS) $(LDFLAGS) -o $@
+# Digests are nettle's, or where pkg-config finds none, those of plain C; SHA256=nettle and
+# SHA256=plain insist on one of them.
+ifeq ($(origin SHA256),undefined)
+SHA256 := $(if $(shell pkg-config --libs nettle 2>/dev/null),nettle,plain)
+endif
+ifeq ($(SHA256),nettle)
+NO_SOURCES = host/formats/sha256_plain.c host/formats/sha512_plain.c
+NETTLE_FLAGS := -DWITH_NETTLE $(shell pkg-config --cflags nettle)
+NETTLE_LIBS := $(shell pkg-config --libs nettle)
+endif
 
-$(HOST)/mahyrei_sanitized: $(HOST_SOURCES) $(wildcard host/*.h) $(HEADER) $(LINKED)
-	@$(COMPILE) $(SANITIZED) $(HOST_FLAGS) $(HOST_SOURCES) $(LIBS) $(LDFLAGS) -o $@
+HOST_SOURCES = host/main.c $(filter-out $(NO_SOURCES),$(wildcard host/*/*.c))
+HOST_HEADERS = $(wildcard host/*/*.h)
+HOST_LIBS = $(LIBS) $(NETTLE_LIBS)
+HOST_FLAGS = -Ihost $(NETTLE_FLAGS) -D_XOPEN_SOURCE=700 -pthread
+$(PROGRAM): $(HOST_SOURCES) $(HOST_HEADERS) $(HEADER) $(LINKED)
+	@$(COMPILE) $(HOST_FLAGS) $(HOST_SOURCES) $(HOST_LIBS) $(LDFLAGS) -o $@
+
+$(HOST)/mahyrei_sanitized: $(HOST_SOURCES) $(HOST_HEADERS) $(HEADER) $(LINKED)
+	@$(COMPILE) $(SANITIZED) $(HOST_FLAGS) $(HOST_SOURCES) $(HOST_LIBS) $(LDFLAGS) -o $@
 
 # The command with a library whose answers are wrong.
-$(HOST)/mahyrei_lying: tests/c/lying.c $(HOST_SOURCES) $(wildcard host/*.h) $(HEADER) $(LINKED)
-	@$(COMPILE) $(HOST_FLAGS) -Wl,--wrap,run_read $< $(HOST_SOURCES) $(LIBS) $(LDFLAGS) -o $@
+$(HOST)/mahyrei_lying: tests/c/lying.c $(HOST_SOURCES) $(HOST_HEADERS) $(HEADER) $(LINKED)
+	@$(COMPILE) $(HOST_FLAGS) -Wl,--wrap,mahyrei_run_read $< $(HOST_SOURCES) $(HOST_LIBS) $(LDFLAGS) -o $@
 
 $(HOST)/faults.so: tests/c/faults.c
 	@mkdir -p $(@D)
 	@$(COMPILE) -shared -fPIC $< -o $@
 
-$(HOST)/%_calls: tests/c/%_calls.c $(HEADER) $(LINKED)
+$(HOST)/%_calls: tests/c/%_calls.c tests/c/check.h tests/c/runs.h $(HEADER) $(LINKED)
 	@$(COMPILE) $(SANITIZED) $< $(LIBS) -o $@
 
-$(HOST)/sha256_vectors: tests/c/sha256_vectors.c host/sha256.c host/sha256.h
+# What no proof speaks of, computed; with optimization, since it goes through 700 million sums.
+$(HOST)/limits: tests/c/limits.c tests/c/check.h $(HEADER) $(LINKED)
+	@$(COMPILE) $(FAST) $< $(LIBS) -o $@
+
+$(HOST)/sha%_vectors: tests/c/sha%_vectors.c host/formats/sha%.c host/formats/sha%_plain.c \
+    host/formats/sha%.h
 	@mkdir -p $(@D)
-	@$(COMPILE) $(SANITIZED) -Ihost $< host/sha256.c -o $@
+	@$(COMPILE) $(SANITIZED) -Ihost $(NETTLE_FLAGS) -DSHA$*_BY='"$(SHA256)"' $(filter %.c,$^) \
+	    $(NETTLE_LIBS) -o $@
 
 SECOND = $(addprefix tests/second/,lib.rs compare.rs convert.rs delay.rs fades.rs find.rs \
     library.rs pass.rs rack.rs run.rs spread.rs uplink.rs word.rs run_cases.rs \
@@ -280,56 +346,13 @@ $(HOST)/compare_%: tests/second/compare_%.rs $(HOST)/libsecond.rlib $(LINKED)
 
 # The demo's tool stands on the command's parts.
 HOST_PARTS = $(filter-out host/main.c,$(HOST_SOURCES))
-$(HOST)/slots: demo/slots.c $(HOST_PARTS) $(wildcard host/*.h) $(HEADER) $(LINKED)
-	@$(COMPILE) $(HOST_FLAGS) -Ihost $< $(HOST_PARTS) $(LIBS) $(LDFLAGS) -o $@
+$(HOST)/slots: demo/slots.c $(HOST_PARTS) $(HOST_HEADERS) $(HEADER) $(LINKED)
+	@$(COMPILE) $(HOST_FLAGS) $< $(HOST_PARTS) $(HOST_LIBS) $(LDFLAGS) -o $@
 
-$(HOST)/plain_word.o: bench/plain_word.c bench/plain_word.h $(HEADER)
-	@mkdir -p $(@D)
-	@$(COMPILE) $(PLAIN) -c $< -o $@
-
-$(HOST)/plain_pass.o: bench/plain_pass.c bench/plain_pass.h bench/plain_word.h $(HEADER)
-	@mkdir -p $(@D)
-	@$(COMPILE) $(PLAIN) -c $< -o $@
-
-$(HOST)/plain_delay.o: bench/plain_delay.c bench/plain_delay.h $(HEADER)
-	@mkdir -p $(@D)
-	@$(COMPILE) $(PLAIN) -c $< -o $@
-
-$(HOST)/plain_rack.o: bench/plain_rack.c bench/plain_rack.h $(HEADER)
-	@mkdir -p $(@D)
-	@$(COMPILE) $(PLAIN) -c $< -o $@
-
-$(HOST)/plain_uplink.o: bench/plain_uplink.c bench/plain_uplink.h $(HEADER)
-	@mkdir -p $(@D)
-	@$(COMPILE) $(PLAIN) -c $< -o $@
-
-$(addprefix $(HOST)/bench_,words passes uplinks runs delays): bench/timing.h
-
-$(HOST)/bench_words: bench/bench_words.c $(HOST)/plain_word.o bench/plain_word.h $(HEADER) $(LINKED)
-	@$(COMPILE) $< $(HOST)/plain_word.o $(LIBS) -o $@
-
-$(HOST)/bench_passes: bench/bench_passes.c $(HOST)/plain_word.o $(HOST)/plain_pass.o \
-    bench/plain_pass.h $(HEADER) $(LINKED)
-	@$(COMPILE) $< $(HOST)/plain_word.o $(HOST)/plain_pass.o $(LIBS) -o $@
-
-$(HOST)/bench_uplinks: bench/bench_uplinks.c $(HOST)/plain_uplink.o bench/plain_uplink.h \
-    $(HEADER) $(LINKED)
-	@$(COMPILE) $< $(HOST)/plain_uplink.o $(LIBS) -o $@
-
-$(HOST)/bench_runs: bench/bench_runs.c $(HOST)/plain_word.o $(HOST)/plain_run.o bench/plain_run.h \
-    tests/c/runs.h $(HEADER) $(LINKED)
-	@$(COMPILE) -Itests/c $< $(HOST)/plain_word.o $(HOST)/plain_run.o $(LIBS) -o $@
-
-$(HOST)/bench_captures: bench/bench_captures.c tests/c/runs.h $(HEADER) $(LINKED)
-	@$(COMPILE) -Itests/c $< $(LIBS) -o $@
-
-$(HOST)/bench_fades: bench/bench_fades.c $(HOST)/plain_word.o $(HOST)/plain_run.o bench/plain_run.h \
-    bench/timing.h tests/c/runs.h $(HEADER) $(LINKED)
-	@$(COMPILE) -Itests/c $< $(HOST)/plain_word.o $(HOST)/plain_run.o $(LIBS) -o $@
-
-$(HOST)/bench_delays: bench/bench_delays.c $(HOST)/plain_delay.o bench/plain_delay.h $(HEADER) \
-    $(LINKED)
-	@$(COMPILE) $< $(HOST)/plain_delay.o $(LIBS) -o $@
+BENCHES = $(addprefix $(HOST)/bench_,words passes uplinks runs captures fades delays)
+$(BENCHES): $(HOST)/bench_%: bench/bench_%.c bench/timing.h tests/c/runs.h $(REFERENCE) \
+    $(REFERENCE_HEADERS) $(HEADER) $(LINKED)
+	@$(COMPILE) -Itests/c -Ireference $< $(REFERENCE) $(LIBS) -o $@
 
 # Evidence beyond the tests (docs/EVIDENCE.md): for as long as one likes, on all cores.
 SECONDS ?= 60
@@ -341,19 +364,46 @@ soak: $(HOST)/soak
 fuzz: $(HOST)/fuzz_drive
 	@tests/fuzz/run $(SECONDS) $< $(LIBS)
 
+# Against a chain of other people's parts, which are Debian's packages.
+.PHONY: peers
+peers: $(LIBS)
+	@CXX='$(CXX)' tests/peers/run '$(LIBS)' $(if $(SEED),--seed $(SEED))
+
 # The crates of the product that have code.
-CRATES ?= bits answers sizes crc convolution sevens decoder interleaver accumulator randomizer \
-    word pass spread header quantities questions convert parameters plan stream frames pulses \
-    pool channel fades delay slots capture starts search cut run_writer run_reader rack_keeper \
-    ldpc uplink uplink_writer uplink_reader calls sheet runsheet
+CRATES ?= bits answers sizes crc convolution transpose word_columns decoder interleaver \
+    accumulator randomizer word_writer word_reader pass pass_writer pass_reader spread header \
+    header_sizes header_questions header_convert parameters plan stream_writer stream_reader \
+    pulses pool channel fades delay slots_moves slots_lines slots_writer slots_symbols \
+    slots_places slots_reader pattern_search capture_search capture_cut run_writer run_reader \
+    rack_entries rack_asked rack_calls ldpc uplink uplink_writer uplink_reader c_calls sheet \
+    runsheet
 COUNT ?= 60
 .PHONY: mutants
 mutants:
 	@for crate in $(CRATES); do tests/mutate $$crate $(COUNT) $(SEED) || exit; done
 
+CONTROLS ?=
+.PHONY: controls
+controls:
+	@tests/controls $(CONTROLS)
+
 .PHONY: stack
 stack: $(SHARED)
 	@tests/stack $<
+
+# What programs that read sources have to say of ours. A shorter form is part of the tests.
+.PHONY: lint
+lint:
+	@$(LINT)
+
+# The power is cut at every step of every command that writes. A shorter form is part of the tests.
+.PHONY: crash
+crash: $(PROGRAM) $(HOST)/record.so
+	@tests/crash/run $^
+
+$(HOST)/record.so: tests/crash/record.c
+	@mkdir -p $(@D)
+	@$(COMPILE) -shared -fPIC $< -o $@
 
 # A moment of soak and fuzz, within the tests, so that both stay fit to be run.
 host-test: evidence-test
@@ -364,18 +414,7 @@ evidence-test: $(HOST)/soak $(HOST)/fuzz_drive
 $(HOST)/soak: tests/second/soak.rs $(HOST)/libsecond.rlib $(LINKED)
 	@$(RUSTC) $(RUSTFLAGS) $< $(LINK_RUST) -o $@
 
-$(addprefix $(HOST)/,run_calls long_calls find_calls header_calls fades_calls delay_calls \
-    rack_calls pass_calls spread_calls): tests/c/runs.h
-
-# The fuzz target with a driver in place of libFuzzer, beside the run calls in plain C.
-$(HOST)/plain_run.o: tests/c/plain_run.c bench/plain_word.h $(HEADER)
-	@mkdir -p $(@D)
-	@$(COMPILE) $(PLAIN) -Ibench -Drun_write=plain_run_write -Drun_read=plain_run_read \
-	    -Drun_find=plain_run_find -Drun_cut=plain_run_cut -Dheader_widen=plain_header_widen \
-	    -Dheader_narrow=plain_header_narrow -Dfades_count=plain_fades_count -c $< -o $@
-
-FUZZ_TARGET = tests/fuzz/drive.c tests/fuzz/calls.c \
-    $(addprefix $(HOST)/plain_,word.o pass.o run.o delay.o rack.o uplink.o)
-$(HOST)/fuzz_drive: $(FUZZ_TARGET) bench/plain_pass.h bench/plain_run.h bench/plain_delay.h \
-    bench/plain_rack.h bench/plain_uplink.h tests/fuzz/calls.h tests/c/runs.h $(HEADER) $(LINKED)
-	@$(COMPILE) $(SANITIZED) -Ibench $(FUZZ_TARGET) $(LIBS) -o $@
+# The fuzz target with a driver in place of libFuzzer.
+$(HOST)/fuzz_drive: tests/fuzz/drive.c tests/fuzz/calls.c $(REFERENCE) $(REFERENCE_HEADERS) \
+    tests/fuzz/calls.h tests/c/check.h tests/c/runs.h $(HEADER) $(LINKED)
+	@$(COMPILE) $(SANITIZED) -Ireference $(filter %.c %.o,$^) $(LIBS) -o $@

@@ -7,7 +7,7 @@
 #include <string.h>
 
 #include "mahyrei.h"
-#include "plain_delay.h"
+#include "reference.h"
 #include "timing.h"
 
 enum {
@@ -38,13 +38,13 @@ static size_t area_bytes(const struct line *line) {
 }
 
 static void step_library(bool reading, const struct line *line, uint64_t from) {
-    call_type *const call = reading ? delay_read : delay_write;
+    call_type *const call = reading ? mahyrei_delay_read : mahyrei_delay_write;
     unsigned numbers = 0;
     for (size_t i = 0; i < STEPS; i++) {
         const uint64_t answer = call(line->header, sizeof line->header, from + i, symbols[i],
                                      areas[LIBRARY], area_bytes(line));
-        numbers |= answer_number(answer);
-        given[LIBRARY][i] = (uint8_t)delay_symbol(answer);
+        numbers |= mahyrei_answer_number(answer);
+        given[LIBRARY][i] = (uint8_t)mahyrei_delay_symbol(answer);
     }
     require(numbers == MAHYREI_ACCEPTED, "a step was refused");
 }
@@ -52,7 +52,7 @@ static void step_library(bool reading, const struct line *line, uint64_t from) {
 static void step_ring(bool reading, const struct line *line, uint64_t from) {
     for (size_t i = 0; i < STEPS; i++) {
         given[RING][i] =
-            plain_delay_step(reading, line->N, line->B, from + i, symbols[i], areas[RING]);
+            reference_delay_step(reading, line->N, line->B, from + i, symbols[i], areas[RING]);
     }
 }
 
@@ -77,13 +77,14 @@ static void row(bool reading, const struct line *line) {
         require(memcmp(given[LIBRARY], given[RING], STEPS) == 0, "other symbols are given");
     }
     require(memcmp(areas[LIBRARY], areas[RING], ROOM) == 0, "other bytes are kept");
-    printf("%-12s %4zu %4zu %9zu %9.1f %9.1f\n", reading ? "delay_read" : "delay_write", line->N,
-           line->B, area_bytes(line), best[LIBRARY], best[RING]);
+    printf("%-19s %4zu %4zu %9zu %9.1f %9.1f\n",
+           reading ? "mahyrei_delay_read" : "mahyrei_delay_write", line->N, line->B,
+           area_bytes(line), best[LIBRARY], best[RING]);
 }
 
 int main(void) {
     printf("nanoseconds a step, the best turn of each\n");
-    printf("%-12s %4s %4s %9s %9s %9s\n", "call", "N", "B", "bytes", "library", "ring");
+    printf("%-19s %4s %4s %9s %9s %9s\n", "call", "N", "B", "bytes", "library", "ring");
     for (size_t i = 0; i < sizeof LINES / sizeof LINES[0]; i++) {
         row(false, &LINES[i]);
         row(true, &LINES[i]);

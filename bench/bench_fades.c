@@ -1,8 +1,8 @@
 /*
- * fades_count over the run with the most symbols and over the one with the most slots, for lists
- * from no fade to one on every second symbol: microseconds, nanoseconds a symbol, and the time
- * beside that of no fade. The time must not grow with the number of fades, but for the symbols that
- * they cover.
+ * mahyrei_fades_count over the run with the most symbols and over the one with the most slots, for
+ * lists from no fade to one on every second symbol: microseconds, nanoseconds a symbol, and the
+ * time beside that of no fade. The time must not grow with the number of fades, but for the symbols
+ * that they cover.
  *
  * Library and plain C take turns, and the best turn of each counts.
  */
@@ -10,7 +10,7 @@
 #include <string.h>
 
 #include "mahyrei.h"
-#include "plain_run.h"
+#include "reference.h"
 #include "runs.h"
 #include "timing.h"
 
@@ -72,27 +72,27 @@ static double row(const struct run *run, size_t which, uint32_t *fades, double n
     double best[2] = {0};
     pack_header(run, header);
     for (int turn = 0; turn < TURNS; turn++) {
-        const double took[2] = {once(fades_count, header, fades, len, counts, words),
-                                once(plain_fades_count, header, fades, len, plain, words)};
+        const double took[2] = {once(mahyrei_fades_count, header, fades, len, counts, words),
+                                once(reference_fades_count, header, fades, len, plain, words)};
         for (int i = 0; i < 2; i++) {
             best[i] = turn == 0 || took[i] < best[i] ? took[i] : best[i];
         }
     }
     require(memcmp(counts, plain, words * sizeof *counts) == 0, "library and plain C differ");
-    printf("%-20s %9zu %11.0f %9.0f %10.2f %12.2f\n", LISTS[which].name, len / 2, best[0], best[1],
+    printf("%-20s %9zu %19.0f %9.0f %10.2f %12.2f\n", LISTS[which].name, len / 2, best[0], best[1],
            best[0] * 1e3 / (double)symbols, none == 0 ? 1.0 : best[0] / none);
     return best[0];
 }
 
 int main(void) {
-    printf("fades_count, microseconds, the best turn of each\n");
+    printf("mahyrei_fades_count, microseconds, the best turn of each\n");
     for (size_t i = 0; i < sizeof RUNS / sizeof RUNS[0]; i++) {
         const struct run *const run = &RUNS[i].run;
         uint32_t *const fades = malloc(2 * symbol_count(run) * sizeof *fades);
         double none = 0;
         require(fades != NULL && block_count(run) <= COUNTS_MOST, "no memory");
-        printf("%-20s %9s %11s %9s %10s %12s\n", RUNS[i].name, "fades", "fades_count", "plain C",
-               "ns/symbol", "beside none");
+        printf("%-20s %9s %19s %9s %10s %12s\n", RUNS[i].name, "fades", "mahyrei_fades_count",
+               "plain C", "ns/symbol", "beside none");
         for (size_t which = 0; which < sizeof LISTS / sizeof LISTS[0]; which++) {
             const double took = row(run, which, fades, none);
             none = which == 0 ? took : none;

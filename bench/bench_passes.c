@@ -7,7 +7,7 @@
 #include <string.h>
 
 #include "mahyrei.h"
-#include "plain_pass.h"
+#include "reference.h"
 #include "timing.h"
 
 enum { WAYS = 3, RATES = 3, MOST = MAHYREI_PASS_MAX, WORD = MAHYREI_WORD_BYTES, WARM_UP = 3 };
@@ -20,43 +20,44 @@ static uint8_t words[MOST * WORD], written[MOST * WORD];
 typedef uint64_t timed(uint64_t rate, size_t n);
 
 static uint64_t write_pass(uint64_t rate, size_t n) {
-    return pass_write(rate, blocks, n * word_block_bytes(rate), written, n * WORD);
+    return mahyrei_pass_write(rate, blocks, n * mahyrei_word_block_bytes(rate), written, n * WORD);
 }
 
 static uint64_t write_singly(uint64_t rate, size_t n) {
-    const size_t len = word_block_bytes(rate);
+    const size_t len = mahyrei_word_block_bytes(rate);
     uint64_t answers = 0;
     for (size_t i = 0; i < n; i++) {
-        answers |= word_write(rate, blocks + i * len, len, written + i * WORD, WORD);
+        answers |= mahyrei_word_write(rate, blocks + i * len, len, written + i * WORD, WORD);
     }
     return answers;
 }
 
 static uint64_t write_plainly(uint64_t rate, size_t n) {
-    return plain_pass_write(rate, blocks, n * word_block_bytes(rate), written, n * WORD);
+    return reference_pass_write(rate, blocks, n * mahyrei_word_block_bytes(rate), written,
+                                n * WORD);
 }
 
 static uint64_t read_pass(uint64_t rate, size_t n) {
-    return pass_read(rate, words, n * WORD, back, n * word_block_bytes(rate));
+    return mahyrei_pass_read(rate, words, n * WORD, back, n * mahyrei_word_block_bytes(rate));
 }
 
 static uint64_t read_singly(uint64_t rate, size_t n) {
-    const size_t len = word_block_bytes(rate);
+    const size_t len = mahyrei_word_block_bytes(rate);
     uint64_t answers = 0;
     for (size_t i = 0; i < n; i++) {
-        answers |= word_read(rate, words + i * WORD, WORD, back + i * len, len);
+        answers |= mahyrei_word_read(rate, words + i * WORD, WORD, back + i * len, len);
     }
     return answers;
 }
 
 static uint64_t read_plainly(uint64_t rate, size_t n) {
-    return plain_pass_read(rate, words, n * WORD, back, n * word_block_bytes(rate));
+    return reference_pass_read(rate, words, n * WORD, back, n * mahyrei_word_block_bytes(rate));
 }
 
 /* Nothing is timed that is not right: all write the same words and read the same blocks. */
 static void compare(uint64_t rate, size_t n) {
     static uint8_t singly[sizeof back];
-    const size_t len = word_block_bytes(rate);
+    const size_t len = mahyrei_word_block_bytes(rate);
     require(write_singly(rate, n) == 0, "a block is refused");
     memcpy(words, written, n * WORD);
     memset(written, 0, sizeof written);
@@ -94,23 +95,23 @@ static void row(const char *name, timed *const ways[WAYS], uint64_t rate, size_t
             best[i] = turn >= 0 && took < best[i] ? took : best[i];
         }
     }
-    printf("%-5s %-11s %6zu %10.1f %10.1f %15.3f %9.1f %10.1f\n", RATE_NAMES[rate], name, n, best[0],
-           best[1], best[0] / best[1], best[2], best[2] / best[0]);
+    printf("%-5s %-18s %6zu %10.1f %10.1f %15.3f %9.1f %10.1f\n", RATE_NAMES[rate], name, n,
+           best[0], best[1], best[0] / best[1], best[2], best[2] / best[0]);
 }
 
 int main(void) {
     static timed *const WRITE[WAYS] = {write_pass, write_singly, write_plainly};
     static timed *const READ[WAYS] = {read_pass, read_singly, read_plainly};
     printf("microseconds a pass, and the same words by the word calls, the best turn of each\n");
-    printf("%-5s %-11s %6s %10s %10s %15s %9s %10s\n", "rate", "call", "blocks", "pass",
+    printf("%-5s %-18s %6s %10s %10s %15s %9s %10s\n", "rate", "call", "blocks", "pass",
            "one by one", "pass/one by one", "plain C", "plain/pass");
     fill(blocks, sizeof blocks);
     for (uint64_t rate = 0; rate < RATES; rate++) {
         compare(rate, MOST);
-        row("pass_write", WRITE, rate, MOST);
-        row("pass_read", READ, rate, MOST);
-        row("pass_write", WRITE, rate, 1);
-        row("pass_read", READ, rate, 1);
+        row("mahyrei_pass_write", WRITE, rate, MOST);
+        row("mahyrei_pass_read", READ, rate, MOST);
+        row("mahyrei_pass_write", WRITE, rate, 1);
+        row("mahyrei_pass_read", READ, rate, 1);
     }
     return 0;
 }

@@ -9,7 +9,7 @@
 #include <string.h>
 
 #include "mahyrei.h"
-#include "plain_run.h"
+#include "reference.h"
 #include "runs.h"
 #include "timing.h"
 
@@ -22,7 +22,7 @@ struct named_run {
     struct run run;
 };
 
-/* Runs of several copies come right behind the same run of one. */
+/* Runs of several copies come right after the same run of one. */
 static const struct named_run RUNS[] = {
     {"m 4, C 3", {1, 4, 1, 1, 900, 16, 3, 1}},
     {"the example", {1, 6, 84, 120, 223, 16, 2, 1}},
@@ -60,23 +60,23 @@ static void make(const struct run *run, struct slices *s) {
 /* ---- what is timed */
 
 static uint64_t write_library(struct slices *s) {
-    return run_write(s->header, sizeof s->header, s->marker, s->marker_len, s->frames,
-                     s->frames_len, s->slots, s->slots_len);
+    return mahyrei_run_write(s->header, sizeof s->header, s->marker, s->marker_len, s->frames,
+                             s->frames_len, s->slots, s->slots_len);
 }
 
 static uint64_t write_plain(struct slices *s) {
-    return plain_run_write(s->header, sizeof s->header, s->marker, s->marker_len, s->frames,
-                           s->frames_len, s->slots, s->slots_len);
+    return reference_run_write(s->header, sizeof s->header, s->marker, s->marker_len, s->frames,
+                               s->frames_len, s->slots, s->slots_len);
 }
 
 static uint64_t read_library(struct slices *s) {
-    return run_read(s->header, sizeof s->header, s->marker, s->marker_len, s->slots, s->slots_len,
-                    s->frames, s->frames_len);
+    return mahyrei_run_read(s->header, sizeof s->header, s->marker, s->marker_len, s->slots,
+                            s->slots_len, s->frames, s->frames_len);
 }
 
 static uint64_t read_plain(struct slices *s) {
-    return plain_run_read(s->header, sizeof s->header, s->marker, s->marker_len, s->slots,
-                          s->slots_len, s->frames, s->frames_len);
+    return reference_run_read(s->header, sizeof s->header, s->marker, s->marker_len, s->slots,
+                              s->slots_len, s->frames, s->frames_len);
 }
 
 static uint64_t clear(struct slices *s) {
@@ -117,7 +117,7 @@ static void row(const struct named_run *run, const char *call, timed *const call
     double best[3];
     take_turns(calls, s, best);
     *once = run->run.copies == 1 ? best[0] : *once;
-    printf("%-12s %10zu  %-9s %9.0f %9.0f %9.0f %12.2f %14.2f", run->name, s->slots_len, call,
+    printf("%-12s %10zu  %-17s %9.0f %9.0f %9.0f %12.2f %14.2f", run->name, s->slots_len, call,
            best[0], best[1], best[2], best[1] / best[0], best[0] / best[2]);
     if (run->run.copies > 1) {
         printf(" %11.2f", best[0] / (double)run->run.copies / *once);
@@ -138,15 +138,15 @@ int main(void) {
     static timed *const READ[3] = {read_library, read_plain, copy};
     printf("microseconds a run, the best turn of each; memory is memset for writing, memcpy for "
            "reading\n");
-    printf("%-12s %10s  %-9s %9s %9s %9s %12s %14s %11s\n", "run", "bytes", "call", "library",
+    printf("%-12s %10s  %-17s %9s %9s %9s %12s %14s %11s\n", "run", "bytes", "call", "library",
            "plain C", "memory", "plain/library", "library/memory", "copy/single");
-    double once[2] = {0};
+    double single[2] = {0};
     for (size_t i = 0; i < RUN_COUNT; i++) {
         struct slices s = {0};
         make(&RUNS[i].run, &s);
         compare(&s);
-        row(&RUNS[i], "run_write", WRITE, &s, &once[0]);
-        row(&RUNS[i], "run_read", READ, &s, &once[1]);
+        row(&RUNS[i], "mahyrei_run_write", WRITE, &s, &single[0]);
+        row(&RUNS[i], "mahyrei_run_read", READ, &s, &single[1]);
         free(s.frames);
         free(s.slots);
         free(s.other);

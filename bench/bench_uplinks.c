@@ -7,7 +7,7 @@
 #include <string.h>
 
 #include "mahyrei.h"
-#include "plain_uplink.h"
+#include "reference.h"
 #include "timing.h"
 
 enum {
@@ -26,20 +26,20 @@ static uint8_t slots[MOST * CODEBLOCK], written[MOST * CODEBLOCK];
 
 /* Both write the same slots, read the same frames and refuse in the same way. */
 static void compare(void) {
-    require(uplink_write(frames, sizeof frames, slots, sizeof slots) == 0 &&
-                plain_uplink_write(frames, sizeof frames, written, sizeof written) == 0 &&
+    require(mahyrei_uplink_write(frames, sizeof frames, slots, sizeof slots) == 0 &&
+                reference_uplink_write(frames, sizeof frames, written, sizeof written) == 0 &&
                 memcmp(slots, written, sizeof slots) == 0,
             "library and plain C write other slots");
-    require(uplink_read(slots, sizeof slots, back, sizeof back) == 0 &&
+    require(mahyrei_uplink_read(slots, sizeof slots, back, sizeof back) == 0 &&
                 memcmp(frames, back, sizeof frames) == 0,
             "the library reads other frames");
     memset(back, 0, sizeof back);
-    require(plain_uplink_read(slots, sizeof slots, back, sizeof back) == 0 &&
+    require(reference_uplink_read(slots, sizeof slots, back, sizeof back) == 0 &&
                 memcmp(frames, back, sizeof frames) == 0,
             "plain C reads other frames");
     written[sizeof written - 1] ^= 0x0C;
-    require(uplink_read(written, sizeof written, back, sizeof back) ==
-                plain_uplink_read(written, sizeof written, back, sizeof back),
+    require(mahyrei_uplink_read(written, sizeof written, back, sizeof back) ==
+                reference_uplink_read(written, sizeof written, back, sizeof back),
             "library and plain C refuse in other ways");
 }
 
@@ -64,18 +64,18 @@ static void row(const char *name, call_type *library, call_type *plain, int writ
             best[i] = took[i] < best[i] ? took[i] : best[i];
         }
     }
-    printf("%-12s %10zu %9.3f %9.3f %15.3f\n", name, n, best[0], best[1], best[0] / best[1]);
+    printf("%-20s %10zu %9.3f %9.3f %15.3f\n", name, n, best[0], best[1], best[0] / best[1]);
 }
 
 int main(void) {
     printf("microseconds a codeblock, the best turn of each\n");
-    printf("%-12s %10s %9s %9s %15s\n", "call", "codeblocks", "library", "plain C",
+    printf("%-20s %10s %9s %9s %15s\n", "call", "codeblocks", "library", "plain C",
            "library/plain");
     fill(frames, sizeof frames);
     compare();
     for (size_t n = 1; n <= MOST; n *= MOST) {
-        row("uplink_write", uplink_write, plain_uplink_write, 1, n);
-        row("uplink_read", uplink_read, plain_uplink_read, 0, n);
+        row("mahyrei_uplink_write", mahyrei_uplink_write, reference_uplink_write, 1, n);
+        row("mahyrei_uplink_read", mahyrei_uplink_read, reference_uplink_read, 0, n);
     }
     return 0;
 }

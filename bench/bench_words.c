@@ -8,7 +8,7 @@
 #include <string.h>
 
 #include "mahyrei.h"
-#include "plain_word.h"
+#include "reference.h"
 #include "timing.h"
 
 enum { RATES = 3, WORDS = 64, BATCHES = 60, WARM_UP = 5 };
@@ -22,7 +22,7 @@ static uint8_t written[MAHYREI_WORD_BYTES], read_back[MAHYREI_BLOCK_BYTES_MAX];
 
 static void fill_blocks(uint64_t rate) {
     for (size_t i = 0; i < WORDS; i++) {
-        fill(blocks[i], word_block_bytes(rate));
+        fill(blocks[i], mahyrei_word_block_bytes(rate));
     }
 }
 
@@ -33,29 +33,29 @@ static int is_read_back(const uint8_t *block, size_t len) {
 
 /* Nothing is timed that is not right: both write and read each block alike, and refuse alike. */
 static void compare(uint64_t rate) {
-    const size_t len = word_block_bytes(rate);
+    const size_t len = mahyrei_word_block_bytes(rate);
     for (size_t i = 0; i < WORDS; i++) {
-        require(word_write(rate, blocks[i], len, words[i], MAHYREI_WORD_BYTES) == 0 &&
-                    plain_word_write(rate, blocks[i], len, written, MAHYREI_WORD_BYTES) == 0 &&
+        require(mahyrei_word_write(rate, blocks[i], len, words[i], MAHYREI_WORD_BYTES) == 0 &&
+                    reference_word_write(rate, blocks[i], len, written, MAHYREI_WORD_BYTES) == 0 &&
                     memcmp(words[i], written, MAHYREI_WORD_BYTES) == 0,
                 "library and plain C write other words");
-        require(word_read(rate, words[i], MAHYREI_WORD_BYTES, read_back, len) == 0 &&
+        require(mahyrei_word_read(rate, words[i], MAHYREI_WORD_BYTES, read_back, len) == 0 &&
                     is_read_back(blocks[i], len),
                 "the library reads another block");
         memset(read_back, 0, len);
-        require(plain_word_read(rate, words[i], MAHYREI_WORD_BYTES, read_back, len) == 0 &&
+        require(reference_word_read(rate, words[i], MAHYREI_WORD_BYTES, read_back, len) == 0 &&
                     is_read_back(blocks[i], len),
                 "plain C reads another block");
         written[i] ^= 1;
-        require(word_read(rate, written, MAHYREI_WORD_BYTES, read_back, len) ==
-                    plain_word_read(rate, written, MAHYREI_WORD_BYTES, read_back, len),
+        require(mahyrei_word_read(rate, written, MAHYREI_WORD_BYTES, read_back, len) ==
+                    reference_word_read(rate, written, MAHYREI_WORD_BYTES, read_back, len),
                 "library and plain C refuse in other ways");
     }
 }
 
 /* Microseconds a word over one batch. */
 static double batch(call_type *call, int write, uint64_t rate) {
-    const size_t len = word_block_bytes(rate);
+    const size_t len = mahyrei_word_block_bytes(rate);
     uint64_t answers = 0;
     const double start = now();
     for (size_t i = 0; i < WORDS; i++) {
@@ -78,18 +78,18 @@ static void row(const char *name, call_type *library, call_type *plain, int writ
             best_plain = took_plain < best_plain ? took_plain : best_plain;
         }
     }
-    printf("%-5s %-11s %9.2f %9.2f %15.1f\n", RATE_NAMES[rate], name, best_library, best_plain,
+    printf("%-5s %-18s %9.2f %9.2f %15.1f\n", RATE_NAMES[rate], name, best_library, best_plain,
            best_plain / best_library);
 }
 
 int main(void) {
     printf("microseconds a word, best of %d batches of %d words\n", BATCHES, WORDS);
-    printf("%-5s %-11s %9s %9s %15s\n", "rate", "call", "library", "plain C", "plain/library");
+    printf("%-5s %-18s %9s %9s %15s\n", "rate", "call", "library", "plain C", "plain/library");
     for (uint64_t rate = 0; rate < RATES; rate++) {
         fill_blocks(rate);
         compare(rate);
-        row("word_write", word_write, plain_word_write, 1, rate);
-        row("word_read", word_read, plain_word_read, 0, rate);
+        row("mahyrei_word_write", mahyrei_word_write, reference_word_write, 1, rate);
+        row("mahyrei_word_read", mahyrei_word_read, reference_word_read, 0, rate);
     }
     return 0;
 }

@@ -9,7 +9,7 @@
  *   slots HEADER code WORD BIT...    coded bits turned over: the word that they would have made
  *   slots HEADER capture SLOT BYTE AROUND
  *                                    the run from this slot on of a capture, and so many bytes of
- *                                    the capture behind it; around the run there are pulses alone
+ *                                    the capture after it; around the run there are pulses alone
  *                                    if AROUND is 1, and none if it is 0
  *
  * Symbols count markers, and all copies of one are damaged alike. The terms and letters are those
@@ -19,7 +19,10 @@
 #include <stdlib.h>
 #include <string.h>
 
-#include "capture.h"
+#include "files/inputs.h"
+#include "files/outputs.h"
+#include "runs/capture.h"
+#include "runs/layout.h"
 
 static struct capture capture;
 
@@ -147,5 +150,6 @@ int main(int argc, char *argv[]) {
         give_up("no such header, or slots of another length");
     }
     damage(argv[2], argv + 3, argc - 3);
-    return put_out("-", capture.slots.at, capture.slots.len) ? 0 : 2;
+    const struct output output = {.name = "-"};
+    return output_put(&output, capture.slots.at, capture.slots.len) ? 0 : 2;
 }

@@ -4,8 +4,9 @@
  */
 #include <fcntl.h>
 
-#include "commands.h"
-#include "temporary.h"
+#include "commands/command_line.h"
+#include "report/progress.h"
+#include "system/temporary.h"
 
 /* A standard file that was handed over closed is opened, input and output so that they fail,
  * messages so that they go nowhere. Else an output could take its number, and get the messages. */
@@ -20,8 +21,8 @@ static bool hold_standard_files(void) {
 }
 
 int main(int argc, char *argv[]) {
-    if (argc < 1 || !hold_standard_files() || !watch_signals()) {
+    if (argc < 1 || !hold_standard_files() || !watch_signals(progress_wipe)) {
         return FAILED;
     }
-    return (int)obey(argv);
+    return (int)obey(argc, argv);
 }

@@ -1,11 +1,12 @@
 /*
- * Beside mahyrei.h: what follows from a header, a header from its fields, and the sentence of a
- * number.
+ * Beside mahyrei.h: what follows from a header, a header from its fields, many steps of a delay
+ * line in one call, and the sentence of a number.
  *
  * These functions are plain C. They are tested, against the proved calls and the proved runsheet,
- * and they are not proved. Nothing rests on them: run_write and run_read put every question to the
- * header themselves, so a size that came out wrong here would be refused there, with 8. They are
- * for headers of ten bytes; header_widen makes one of eight.
+ * and they are not proved. Nothing rests on them: mahyrei_run_write and mahyrei_run_read put every
+ * question to the header themselves, so a size that came out wrong here would be refused there,
+ * with 8. The two that take many steps of a delay line are a loop around the proved calls. All are
+ * for headers of ten bytes; mahyrei_header_widen makes one of eight.
  *
  * They keep no state, allocate nothing, and need memset, strcmp and a few hundred bytes of stack.
  * They are in libmahyrei with the calls.
@@ -22,7 +23,7 @@
 extern "C" {
 #endif
 
-/* What stands before each frame of a run, highest bit first. */
+/* What comes before each frame of a run, highest bit first. */
 #define MAHYREI_FRAME_MARKER UINT32_C(0x1ACFFC1D)
 #define MAHYREI_FRAME_MARKER_BITS 32
 
@@ -46,7 +47,7 @@ struct mahyrei_sizes {
     size_t delay_bytes;                           /* of the area that the delay calls are lent */
 };
 
-/* The names of the fields, in the order of the header, counted from 0; NULL behind the last. */
+/* The names of the fields, in the order of the header, counted from 0; NULL after the last. */
 const char *mahyrei_field_name(size_t which);
 
 /* A field by its name; NULL where there is none of that name. */
@@ -82,6 +83,33 @@ unsigned mahyrei_header_make(const struct mahyrei_fields *fields,
  * all sizes are 0.
  */
 unsigned mahyrei_sizes(const uint8_t *header, size_t header_len, struct mahyrei_sizes *sizes);
+
+/*
+ * Many steps of a delay line in one call: mahyrei_delay_write is put to one symbol after another,
+ * in steps step, step + 1 and so on, and the first refusal ends it. A step costs what it costs
+ * alone; what is saved is the way into the library, which from another language is the longer one.
+ *
+ * Reads   header and step as mahyrei_delay_write does; symbols, symbols_len of them, a byte each.
+ * Writes  area as mahyrei_delay_write does; given, given_len symbols, which is symbols_len. given
+ *         may be symbols itself, and otherwise overlaps nothing. The area overlaps neither.
+ * Returns 0 when every symbol was taken. Otherwise place * 256 + number, with a number from 1 to 8,
+ *         or 20 or 26; the place is the symbol that was refused, counted from 0. Those before it
+ *         were taken, and given holds what they gave; nothing behind them has been changed. Only 26
+ *         can come after the first symbol. 8 stands too for given_len that is not symbols_len, and
+ *         for step numbers that would pass 2^64 - 1; nothing was taken then. No symbols are
+ *         accepted, and no question is asked.
+ */
+uint64_t mahyrei_delay_write_many(const uint8_t *header, size_t header_len, uint64_t step,
+                                  const uint8_t *symbols, size_t symbols_len, uint8_t *area,
+                                  size_t area_len, uint8_t *given, size_t given_len);
+
+/* The same for the way back, by mahyrei_delay_read. */
+uint64_t mahyrei_delay_read_many(const uint8_t *header, size_t header_len, uint64_t step,
+                                 const uint8_t *symbols, size_t symbols_len, uint8_t *area,
+                                 size_t area_len, uint8_t *given, size_t given_len);
+
+/* The version of the library, such as "0.5.0": MAHYREI_VERSION of the headers it was built with. */
+const char *mahyrei_version(void);
 
 /* One sentence on what a number of an answer tells the operator; NULL where no call gives it. */
 const char *mahyrei_sentence(unsigned number);

@@ -162,7 +162,7 @@ unsigned mahyrei_sizes(const uint8_t *header, size_t header_len, struct mahyrei_
     if (number != MAHYREI_ACCEPTED) {
         return number;
     }
-    sizes->k = word_block_bytes(fields.rate) * 8 - 2;
+    sizes->k = mahyrei_word_block_bytes(fields.rate) * 8 - 2;
     sizes->M = UINT64_C(1) << fields.m;
     sizes->group = sizes->M + sizes->M / 4;
     sizes->S = MAHYREI_WORD_BITS / fields.m;

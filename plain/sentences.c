@@ -1,13 +1,12 @@
 #include "mahyrei_plain.h"
 
-/* One line a number: the same as in README's table but without its marks, and as in the man page.
- * A number that no call gives has none. */
+/* One sentence a number. The crew sheet (docs/manual/numbers.md) and the man page are made from
+ * these by tests/numbers. A number that no call gives has none. */
 static const char *const SENTENCES[] = {
-    [MAHYREI_ACCEPTED] = "All is well: the result has been written, every byte of it; in run_find "
+    [MAHYREI_ACCEPTED] = "All is well: the result has been written, every byte of it; in a search "
                          "the place is the slot, in a delay line it is the symbol given.",
-    [MAHYREI_BAD_HEADER] =
-        "The header is not ten bytes long, or one of its last 26 bits is set; for header_widen it "
-        "is eight bytes and 16 bits.",
+    [MAHYREI_BAD_HEADER] = "The header is not ten bytes long, or one of its last 26 bits is set; "
+                           "for an old header, to be widened, it is eight bytes and 16 bits.",
     [MAHYREI_BAD_RATE] = "There is no such code rate; it is 0, 1 or 2.",
     [MAHYREI_BAD_ORDER] = "There is no such pulse order; m is 2 to 8.",
     [MAHYREI_BAD_ROWS] = "The channel interleaver is out of range; N is 1 to 128 and B is 1 to "
@@ -18,13 +17,13 @@ static const char *const SENTENCES[] = {
                            "frames.",
     [MAHYREI_BAD_MARKER] = "The marker is out of range: W is not 1 to 32, or a lent marker symbol "
                            "is not below the pulse order.",
-    [MAHYREI_BAD_LENGTH] = "A lent slice is longer or shorter than the rate or the header says; a "
-                           "pass has 1 to 211 blocks, whole, and as many words; a capture has at "
-                           "most 2^53 bytes, and run_cut needs the whole run in it; an uplink has "
-                           "1 to 64 frames, whole, and as many codeblocks; header_widen writes ten "
-                           "bytes, header_narrow eight, fades_count a number for each word; a rack "
-                           "has 176 bytes.",
-    [MAHYREI_BAD_SPARE] = "A spare bit behind the last slot is set.",
+    [MAHYREI_BAD_LENGTH] =
+        "A lent slice is longer or shorter than the rate or the header says; a pass has 1 to 211 "
+        "blocks, whole, and as many words; a capture has at most 2^53 bytes, and a cut needs the "
+        "whole run in it; an uplink has 1 to 64 frames, whole, and as many codeblocks; widening "
+        "writes ten bytes, narrowing eight, a count of fades a number for each word; a rack has "
+        "176 bytes.",
+    [MAHYREI_BAD_SPARE] = "A spare bit after the last slot is set.",
     [MAHYREI_BAD_PULSE] =
         "A symbol cannot be told: over all its copies, no data slot has more "
         "pulses than every other slot (sent once: exactly one pulse, in a data "
@@ -33,16 +32,17 @@ static const char *const SENTENCES[] = {
                              "symbol, markers counted.",
     [MAHYREI_BAD_IDLE] = "A symbol that must be 0, since the channel interleaver puts nothing "
                          "there, is not; the place is that symbol, markers counted.",
-    [MAHYREI_BAD_CODE] = "A word was damaged, or written by version 0.1: no input of the code "
-                         "makes it; the place is the word, or in word_read the first wrong coded "
-                         "bit.",
+    [MAHYREI_BAD_CODE] =
+        "A word was damaged, or written by version 0.1: no input of the code makes it; the place "
+        "is the word, or of a word read alone the first wrong coded bit.",
     [MAHYREI_BAD_TERMINATION] = "The two bits that end a word's input are not zero; the place is "
-                                "the word, or 0 in word_read.",
-    [MAHYREI_BAD_CHECK] = "A word's check is not that of its block; the place is the word, or 0 in "
-                          "word_read.",
-    [MAHYREI_BAD_FRAME_MARKER] = "The frame marker does not stand where a frame should begin; the "
-                                 "place is that frame.",
-    [MAHYREI_BAD_FILL] = "A fill bit behind the last frame is set; the run may hold more than the "
+                                "the word, or 0 of a word read alone.",
+    [MAHYREI_BAD_CHECK] = "A word's check is not that of its block; the place is the word, or 0 of "
+                          "a word read alone.",
+    [MAHYREI_BAD_FRAME_MARKER] =
+        "The frame marker is missing where a frame should begin; the place "
+        "is that frame.",
+    [MAHYREI_BAD_FILL] = "A fill bit after the last frame is set; the run may hold more than the "
                          "header says.",
     [MAHYREI_NO_MARKER] = "No slot of the capture begins a whole marker.",
     [MAHYREI_BAD_COPIES] = "There is no such factor; each symbol is sent 1, 2, 3, 4, 8, 16 or 32 "
@@ -57,8 +57,8 @@ static const char *const SENTENCES[] = {
                              "not lent to it for reading.",
     [MAHYREI_BAD_SYMBOL] = "The symbol is not below the pulse order; nothing was taken.",
     [MAHYREI_BAD_BIT] = "There is no such block bit; a block has 5006, 7526 or 10046.",
-    [MAHYREI_BAD_GROUP] = "Four slots are no bit: they do not hold exactly one pulse, or it stands "
-                          "in a guard slot; the place is the group.",
+    [MAHYREI_BAD_GROUP] = "Four slots are no bit: they do not hold exactly one pulse, or it is in "
+                          "a guard slot; the place is the group.",
     [MAHYREI_BAD_PARITY] = "A codeblock fails the parity check; the place is the codeblock.",
 };
 

@@ -1,7 +1,7 @@
 /*
  * Test of the two delay calls from C: known symbols, the bytes that a step changes, whole runs
- * through both sides beside the slots that run_write makes, and refusals of every number with the
- * area unchanged.
+ * through both sides beside the slots that mahyrei_run_write makes, and refusals of every number
+ * with the area unchanged.
  *
  * The sanitizers watch this program but not the library, which is not built with them. So the area
  * is lent from pages of its own: it ends where a page begins that may not be touched, and the bytes
@@ -15,38 +15,13 @@
 #include <string.h>
 #include <sys/mman.h>
 
+#include "check.h"
 #include "mahyrei.h"
 #include "runs.h"
 
 enum { PAGE = 4096, MARGIN = 64, AREA_MAX = 2040255, ROOM = 499 * PAGE };
 
-/* ---- checks, each of them counted */
-
-static unsigned long checks, failures;
 static unsigned long met[2][256]; /* answers by call and number */
-
-static void check(bool ok, int line, uint64_t step, const char *what) {
-    checks++;
-    if (!ok && ++failures <= 20) { /* the first say enough */
-        fprintf(stderr, "delay_calls.c:%d: step %" PRIu64 ": %s\n", line, step, what);
-    }
-}
-
-#define CHECK(step, condition) check((condition), __LINE__, (step), #condition)
-
-static uint64_t random_number(void) { /* xorshift64* */
-    static uint64_t state = UINT64_C(0x9E3779B97F4A7C15);
-    state ^= state >> 12;
-    state ^= state << 25;
-    state ^= state >> 27;
-    return state * UINT64_C(0x2545F4914F6CDD1D);
-}
-
-static void fill_random(uint8_t *bytes, size_t len) {
-    for (size_t i = 0; i < len; i++) {
-        bytes[i] = (uint8_t)(random_number() >> 56);
-    }
-}
 
 /* ---- what is lent: the area and the header, each at the end of its pages */
 
@@ -83,9 +58,10 @@ static const uint8_t *lend_header(const uint8_t *header, size_t len) {
 
 static uint64_t put(bool reading, const uint8_t *header, size_t header_len, uint64_t step,
                     uint64_t symbol, uint8_t *area, size_t len) {
-    const uint64_t answer = reading ? delay_read(header, header_len, step, symbol, area, len)
-                                    : delay_write(header, header_len, step, symbol, area, len);
-    met[reading][answer_number(answer)]++;
+    const uint64_t answer = reading
+                                ? mahyrei_delay_read(header, header_len, step, symbol, area, len)
+                                : mahyrei_delay_write(header, header_len, step, symbol, area, len);
+    met[reading][mahyrei_answer_number(answer)]++;
     return answer;
 }
 
@@ -96,10 +72,10 @@ static void refuse(unsigned number, bool reading, const uint8_t *header, size_t 
     uint8_t *const area = area_of(len);
     fill_random(area - MARGIN, len + MARGIN);
     memcpy(before, area - MARGIN, len + MARGIN);
-    CHECK(step, put(reading, lend_header(header, header_len), header_len, step, symbol, area,
-                    len) == number);
-    CHECK(step, memcmp(area - MARGIN, before, len + MARGIN) == 0);
-    CHECK(step, delay_symbol(number) == 0);
+    CHECK_FOR(step, put(reading, lend_header(header, header_len), header_len, step, symbol, area,
+                        len) == number);
+    CHECK_FOR(step, memcmp(area - MARGIN, before, len + MARGIN) == 0);
+    CHECK_FOR(step, mahyrei_delay_symbol(number) == 0);
 }
 
 /* ---- the rule, by adding up */
@@ -142,9 +118,10 @@ static void step_alone(const struct run *run, bool reading, uint64_t step, uint6
     }
     const uint64_t answer =
         put(reading, lend_header(header, sizeof header), sizeof header, step, symbol, area, len);
-    CHECK(step, answer == given << 8);
-    CHECK(step, answer_number(answer) == MAHYREI_ACCEPTED && delay_symbol(answer) == given);
-    CHECK(step, memcmp(area - MARGIN, expected, len + MARGIN) == 0);
+    CHECK_FOR(step, answer == given << 8);
+    CHECK_FOR(step, mahyrei_answer_number(answer) == MAHYREI_ACCEPTED &&
+                        mahyrei_delay_symbol(answer) == given);
+    CHECK_FOR(step, memcmp(area - MARGIN, expected, len + MARGIN) == 0);
 }
 
 /* ---- lines */
@@ -166,19 +143,19 @@ static void test_known(void) {
     const struct run run = {1, 8, 6, 63, 900, 2, 3, 1};
     pack_header(&run, header);
     static const uint8_t KNOWN_HEADER[] = {0x60, 0x18, 0x7E, 0x70, 0x81, 0x03, 0x04, 0, 0, 0};
-    CHECK(0, sizeof header == 10 && memcmp(header, KNOWN_HEADER, sizeof header) == 0);
+    CHECK_FOR(0, sizeof header == 10 && memcmp(header, KNOWN_HEADER, sizeof header) == 0);
     memset(written, 0, sizeof written);
     memset(read, 0, sizeof read);
     for (uint64_t n = 0; n < 4000; n++) {
         const uint64_t taken = (n + 1) % 256;
-        const uint64_t given =
-            delay_symbol(delay_write(header, sizeof header, n, taken, written, sizeof written));
-        CHECK(n, n % 6 == 0 ? given == taken : n >= 8 || given == 0);
-        CHECK(n, n != 378 || given == 123);
-        CHECK(n, n != 379 || given == 2);
-        const uint64_t back =
-            delay_symbol(delay_read(header, sizeof header, n, given, read, sizeof read));
-        CHECK(n, back == (n < 1890 ? 0 : (n - 1890 + 1) % 256));
+        const uint64_t given = mahyrei_delay_symbol(
+            mahyrei_delay_write(header, sizeof header, n, taken, written, sizeof written));
+        CHECK_FOR(n, n % 6 == 0 ? given == taken : n >= 8 || given == 0);
+        CHECK_FOR(n, n != 378 || given == 123);
+        CHECK_FOR(n, n != 379 || given == 2);
+        const uint64_t back = mahyrei_delay_symbol(
+            mahyrei_delay_read(header, sizeof header, n, given, read, sizeof read));
+        CHECK_FOR(n, back == (n < 1890 ? 0 : (n - 1890 + 1) % 256));
     }
 }
 
@@ -187,15 +164,15 @@ static void test_begins(void) {
     static const size_t WRITING[] = {0, 0, 63, 189, 378, 630}, READING[] = {0, 315, 567, 756, 882};
     const struct run *const run = &RUNS[KNOWN];
     for (size_t row = 0; row < 6; row++) {
-        CHECK(row, row == 0 || byte_of(run, false, row) == WRITING[row]);
-        CHECK(row, row == 5 || byte_of(run, true, row) == READING[row]);
+        CHECK_FOR(row, row == 0 || byte_of(run, false, row) == WRITING[row]);
+        CHECK_FOR(row, row == 5 || byte_of(run, true, row) == READING[row]);
     }
-    CHECK(0, byte_of(run, false, 0) == NO_BYTE && byte_of(run, true, 5) == NO_BYTE);
-    CHECK(UINT64_MAX, byte_of(run, false, UINT64_MAX) == 359);
-    CHECK(UINT64_MAX, byte_of(run, true, UINT64_MAX) == 800);
-    CHECK(UINT64_MAX, byte_of(&RUNS[LONGEST], false, UINT64_MAX) == 2);
-    CHECK(UINT64_MAX, byte_of(&RUNS[LONGEST], true, UINT64_MAX) == 54062);
-    CHECK(0, area_bytes(&RUNS[LONGEST]) == AREA_MAX);
+    CHECK_FOR(0, byte_of(run, false, 0) == NO_BYTE && byte_of(run, true, 5) == NO_BYTE);
+    CHECK_FOR(UINT64_MAX, byte_of(run, false, UINT64_MAX) == 359);
+    CHECK_FOR(UINT64_MAX, byte_of(run, true, UINT64_MAX) == 800);
+    CHECK_FOR(UINT64_MAX, byte_of(&RUNS[LONGEST], false, UINT64_MAX) == 2);
+    CHECK_FOR(UINT64_MAX, byte_of(&RUNS[LONGEST], true, UINT64_MAX) == 54062);
+    CHECK_FOR(0, area_bytes(&RUNS[LONGEST]) == AREA_MAX);
 }
 
 /* Steps of any number, on foreign bytes, which are given back as they are. */
@@ -219,10 +196,10 @@ static void test_alone(const struct run *run) {
     for (int reading = 0; reading < 2; reading++) {
         fill_random(area_of(len) - MARGIN, len + MARGIN);
         for (size_t i = 0; i < sizeof steps / sizeof steps[0]; i++) {
-            step_alone(run, reading, steps[i], random_number() % M);
+            step_alone(run, reading, steps[i], random_below(M));
         }
         for (uint64_t i = 0; i < more; i++) {
-            step_alone(run, reading, i % 2 == 0 ? random_number() : i, random_number() % M);
+            step_alone(run, reading, i % 2 == 0 ? random_number() : i, random_below(M));
         }
         step_alone(run, reading, random_number(), M - 1);
         step_alone(run, reading, random_number(), 0);
@@ -244,8 +221,8 @@ static uint8_t get_symbol(const struct run *run, const uint8_t *slots, size_t sy
     return (uint8_t)q;
 }
 
-/* The symbols of the words that stand in the slots of run_write, through the writer, zeros behind
- * them: its places come out. And through the reader: the symbols. */
+/* The symbols of the words that stand in the slots of mahyrei_run_write, through the writer, zeros
+ * after them: its places come out. And through the reader: the symbols. */
 static void test_run(const struct run *given) {
     struct run run = *given;
     run.copies = 1; /* the lines take no account of it, and the slots are fewer */
@@ -261,8 +238,8 @@ static void test_run(const struct run *given) {
     }
     fill_random(frames, frame_bytes(&run));
     memset(marker, 1, sizeof marker);
-    CHECK(0, run_write(header, sizeof header, marker, run.W, frames, frame_bytes(&run), slots,
-                       slot_bytes(&run)) == MAHYREI_ACCEPTED);
+    CHECK_FOR(0, mahyrei_run_write(header, sizeof header, marker, run.W, frames, frame_bytes(&run),
+                                   slots, slot_bytes(&run)) == MAHYREI_ACCEPTED);
     pack_header(given, header);
     uint8_t *const area = area_of(len);
     const uint8_t *const lent = lend_header(header, sizeof header);
@@ -271,10 +248,10 @@ static void test_run(const struct run *given) {
         const uint8_t taken = n < symbols ? get_symbol(&run, slots, stand(&run, n)) : 0;
         const uint64_t answer = put(false, lent, sizeof header, n, taken, area, len);
         const uint8_t place = get_symbol(&run, slots, symbol_of_place(&run, n));
-        CHECK(n, answer == (uint64_t)place << 8);
+        CHECK_FOR(n, answer == (uint64_t)place << 8);
         const uint64_t back = put(true, lent, sizeof header, n, place, read_area, len);
         const uint8_t was = n < late ? 0 : get_symbol(&run, slots, stand(&run, n - late));
-        CHECK(n, back == (uint64_t)was << 8);
+        CHECK_FOR(n, back == (uint64_t)was << 8);
     }
     free(frames);
     free(slots);
@@ -292,11 +269,11 @@ static void test_one_row(void) {
             pack_header(&run, header);
             for (int reading = 0; reading < 2; reading++) {
                 const uint64_t symbol = random_number() >> (64 - m), step = random_number();
-                CHECK(step,
-                      put(reading, header, sizeof header, step, symbol, NULL, 0) == symbol << 8);
+                CHECK_FOR(step, put(reading, header, sizeof header, step, symbol, NULL, 0) ==
+                                    symbol << 8);
                 refuse(MAHYREI_BAD_LENGTH, reading, header, sizeof header, step, symbol, 1);
-                CHECK(step, put(reading, header, sizeof header, step, UINT64_C(1) << m, NULL, 0) ==
-                                MAHYREI_BAD_SYMBOL);
+                CHECK_FOR(step, put(reading, header, sizeof header, step, UINT64_C(1) << m, NULL,
+                                    0) == MAHYREI_BAD_SYMBOL);
             }
         }
     }
@@ -336,8 +313,8 @@ static void test_headers(void) {
             refuse(MAHYREI_BAD_HEADER, len % 2 == 1, header, len, 0, 256, 0);
         }
     }
-    CHECK(0, put(false, NULL, 0, 0, 0, NULL, 0) == MAHYREI_BAD_HEADER);
-    CHECK(0, put(true, NULL, 0, 0, 0, NULL, 0) == MAHYREI_BAD_HEADER);
+    CHECK_FOR(0, put(false, NULL, 0, 0, 0, NULL, 0) == MAHYREI_BAD_HEADER);
+    CHECK_FOR(0, put(true, NULL, 0, 0, 0, NULL, 0) == MAHYREI_BAD_HEADER);
     for (size_t bit = 54; bit < 80; bit++) {
         flip(header, bit);
         refuse(MAHYREI_BAD_HEADER, bit % 2 == 0, header, MAHYREI_HEADER_BYTES, 0, 0, 945);
@@ -361,7 +338,7 @@ static void test_lengths_and_symbols(const struct run *run) {
                 refuse(MAHYREI_BAD_LENGTH, reading, header, sizeof header, i, M, lengths[i]);
             }
         }
-        CHECK(0, put(reading, header, sizeof header, 0, 0, NULL, 0) == MAHYREI_BAD_LENGTH);
+        CHECK_FOR(0, put(reading, header, sizeof header, 0, 0, NULL, 0) == MAHYREI_BAD_LENGTH);
         for (size_t i = 0; i < sizeof symbols / sizeof symbols[0]; i++) {
             for (uint64_t step = 0; step < 2; step++) { /* with a row of no bytes, and with one */
                 refuse(MAHYREI_BAD_SYMBOL, reading, header, sizeof header, run->N - step,
@@ -379,11 +356,11 @@ static void test_every_number_met(void) {
             total += met[call][i];
         }
         for (size_t i = 0; i < sizeof NUMBERS / sizeof NUMBERS[0]; i++) {
-            CHECK(NUMBERS[i], met[call][NUMBERS[i]] > 0);
+            CHECK_FOR(NUMBERS[i], met[call][NUMBERS[i]] > 0);
             expected += met[call][NUMBERS[i]];
         }
     }
-    CHECK(0, total == expected);
+    CHECK_FOR(0, total == expected);
     printf("delay_calls: %lu calls, %lu checks, %lu failed\n", total, checks, failures);
 }
 

@@ -1,6 +1,6 @@
 /*
- * Test of fades_count from C: known counts, lists on runs of every kind beside a count of its own,
- * and refusals of every number with the lent numbers unchanged.
+ * Test of mahyrei_fades_count from C: known counts, lists on runs of every kind beside a count of
+ * its own, and refusals of every number with the lent numbers unchanged.
  *
  * The library is not built with sanitizers. So each slice is lent from pages of its own: it ends
  * where a page begins that may not be touched, the bytes before it are compared after the call, and
@@ -14,30 +14,11 @@
 #include <string.h>
 #include <sys/mman.h>
 
+#include "check.h"
 #include "mahyrei.h"
 #include "runs.h"
 
-/* ---- checks, each of them counted */
-
-static unsigned long checks, failures;
 static unsigned long met[256]; /* answers by number */
-
-static void check(bool ok, int line, const char *what) {
-    checks++;
-    if (!ok && ++failures <= 20) { /* the first say enough */
-        fprintf(stderr, "fades_calls.c:%d: %s\n", line, what);
-    }
-}
-
-#define CHECK(condition) check((condition), __LINE__, #condition)
-
-static uint64_t random_below(uint64_t limit) { /* xorshift64* */
-    static uint64_t state = UINT64_C(0x9E3779B97F4A7C15);
-    state ^= state >> 12;
-    state ^= state << 25;
-    state ^= state >> 27;
-    return (state * UINT64_C(0x2545F4914F6CDD1D) >> 16) % limit;
-}
 
 /* ---- lent slices */
 
@@ -67,7 +48,7 @@ static void protect(const struct lent *lent, int protection) {
     }
 }
 
-/* These bytes, or where there are none random ones, behind random bytes. */
+/* These bytes, or where there are none random ones, after random bytes. */
 static void lend(struct lent *lent, const void *bytes, size_t len) {
     if (len + MARGIN > AREA) {
         fprintf(stderr, "fades_calls.c: %zu bytes are too many to lend\n", len);
@@ -96,12 +77,12 @@ static uint64_t call(const uint8_t *header, size_t header_len, const uint32_t *f
     lend(&lent_counts, NULL, 4 * counts_len);
     protect(&lent_header, PROT_READ);
     protect(&lent_fades, PROT_READ);
-    const uint64_t answer =
-        fades_count(lent_header.slice, header_len, (const uint32_t *)(void *)lent_fades.slice,
-                    fades_len, (uint32_t *)(void *)lent_counts.slice, counts_len);
+    const uint64_t answer = mahyrei_fades_count(
+        lent_header.slice, header_len, (const uint32_t *)(void *)lent_fades.slice, fades_len,
+        (uint32_t *)(void *)lent_counts.slice, counts_len);
     protect(&lent_header, PROT_READ | PROT_WRITE);
     protect(&lent_fades, PROT_READ | PROT_WRITE);
-    met[answer_number(answer)]++;
+    met[mahyrei_answer_number(answer)]++;
     CHECK(unchanged(&lent_header, MARGIN + header_len));
     CHECK(unchanged(&lent_fades, MARGIN + 4 * fades_len));
     CHECK(unchanged(&lent_counts, MARGIN + (answer == MAHYREI_ACCEPTED ? 0 : 4 * counts_len)));
@@ -116,7 +97,7 @@ static uint32_t count_of(size_t word) {
 
 /* ---- known counts */
 
-/* Three words of 1,890 symbols in four lines behind two marker symbols: 7,568 symbols. */
+/* Three words of 1,890 symbols in four lines after two marker symbols: 7,568 symbols. */
 static const struct run THREE = {1, 8, 6, 63, 900, 2, 3, 1};
 
 static const struct {
@@ -157,7 +138,7 @@ static void test_known(void) {
     CHECK(call(EXAMPLE, sizeof EXAMPLE, more, 2, 1) == MAHYREI_BAD_FADES);
     pack_header(&THREE, header);
     uint32_t counts[3] = {7, 7, 7};
-    CHECK(fades_count(header, sizeof header, NULL, 0, counts, 3) == MAHYREI_ACCEPTED);
+    CHECK(mahyrei_fades_count(header, sizeof header, NULL, 0, counts, 3) == MAHYREI_ACCEPTED);
     CHECK(counts[0] == 0 && counts[1] == 0 && counts[2] == 0);
 }
 
@@ -230,7 +211,7 @@ static void test_lists(const struct run *run) {
         }
         CHECK(right);
         CHECK(sum == covered_in_words(run));
-        /* one symbol more, behind the run or in the next fade; half a pair; counts of another word
+        /* one symbol more, after the run or in the next fade; half a pair; counts of another word
          */
         list[len] = (uint32_t)symbols;
         list[len + 1] = 1;
@@ -296,7 +277,8 @@ static void test_refused_headers(void) {
         pack_header(&WRONG[i].run, header);
         CHECK(call(header, MAHYREI_HEADER_BYTES, NULL, 0, 210) == WRONG[i].number);
         CHECK(call(header, MAHYREI_HEADER_BYTES, half, 1, 0) == WRONG[i].number);
-        CHECK(fades_count(header, MAHYREI_HEADER_BYTES, NULL, 0, NULL, 0) == WRONG[i].number);
+        CHECK(mahyrei_fades_count(header, MAHYREI_HEADER_BYTES, NULL, 0, NULL, 0) ==
+              WRONG[i].number);
     }
     pack_header(&THREE, header);
     for (size_t len = 0; len <= sizeof header; len++) {
@@ -308,9 +290,10 @@ static void test_refused_headers(void) {
         flip(header, bit);
         CHECK(call(header, MAHYREI_HEADER_BYTES, half, 1, 3) == MAHYREI_BAD_HEADER);
     }
-    CHECK(fades_count(NULL, 0, NULL, 0, NULL, 0) == MAHYREI_BAD_HEADER);
+    CHECK(mahyrei_fades_count(NULL, 0, NULL, 0, NULL, 0) == MAHYREI_BAD_HEADER);
     pack_header(&THREE, header);
-    CHECK(fades_count(header, MAHYREI_HEADER_BYTES, NULL, 0, NULL, 0) == MAHYREI_BAD_LENGTH);
+    CHECK(mahyrei_fades_count(header, MAHYREI_HEADER_BYTES, NULL, 0, NULL, 0) ==
+          MAHYREI_BAD_LENGTH);
 }
 
 static void test_every_number_met(void) {

@@ -7,13 +7,21 @@
  *   FAULT=nonblocking         the standard files do not block
  *   FAULT=memory              the machine has four pages of memory
  *
- * NAME is read, write, fsync, fchmod, close, rename, link, flock or thread (pthread_create).
+ * NAME is read, write, fsync, fchmod, close (of a file that is written), rename (of any kind),
+ * noreplace (renameat2), link, flock, setlk (of fcntl) or thread (pthread_create).
+ *
+ *   GARBLE=COUNT              the COUNT-th read that gives bytes has a wrong bit
+ *   NOLOCK=1                  flock says yes and locks nothing
+ *   SWAP=NAME:FROM:TO         at the first call of open (for writing alone), create (by open),
+ *                             folder (opening one), flock, fsync or rename, FROM is renamed to TO:
+ *                             somebody else is at work in the folder
  */
 #define _GNU_SOURCE /* syscall, RTLD_NEXT */
 #include <dlfcn.h>
 #include <errno.h>
 #include <fcntl.h>
 #include <pthread.h>
+#include <stdarg.h>
 #include <stdbool.h>
 #include <stdio.h>
 #include <stdlib.h>
@@ -23,18 +31,24 @@
 #include <sys/types.h>
 #include <unistd.h>
 
-static int left = -1;
+static long left = -1;
 
+/* Reads NAME:COUNT:ERROR where it has this name. */
 static bool fails(const char *name) {
     const char *const fault = getenv("FAULT");
-    char wanted[16];
-    int count, error;
-    if (fault == NULL || sscanf(fault, "%15[a-z]:%d:%d", wanted, &count, &error) != 3 ||
-        strcmp(wanted, name) != 0) {
+    const size_t len = strlen(name);
+    if (fault == NULL || strncmp(fault, name, len) != 0 || fault[len] != ':') {
         return false;
     }
+    char *end;
+    const long count = strtol(fault + len + 1, &end, 10);
+    const long error = *end == ':' ? strtol(end + 1, &end, 10) : 0;
+    if (*end != '\0' || count < 1 || error < 1) {
+        fprintf(stderr, "FAULT is NAME:COUNT:ERROR, not %s\n", fault);
+        abort();
+    }
     left = left < 0 ? count : left;
-    errno = error;
+    errno = (int)error;
     return left > 0 && --left == 0;
 }
 
@@ -64,8 +78,35 @@ static bool moves(size_t *count) {
     return true;
 }
 
+/* Once, at the moment that is asked for. */
+static void swap(const char *moment) {
+    const char *const names = getenv("SWAP");
+    char wanted[16], from[256], to[256];
+    static bool done;
+    if (!done && names != NULL && sscanf(names, "%15[a-z]:%255[^:]:%255s", wanted, from, to) == 3 &&
+        strcmp(wanted, moment) == 0) {
+        done = true;
+        syscall(SYS_rename, from, to);
+    }
+}
+
+/* GARBLE=COUNT: whether this read, of those that give bytes, is the COUNT-th. */
+static bool garbles(void) {
+    static long reads;
+    const char *const count = getenv("GARBLE");
+    return count != NULL && ++reads == strtol(count, NULL, 10);
+}
+
 ssize_t read(int file, void *to, size_t count) {
-    return fails("read") || !moves(&count) ? -1 : syscall(SYS_read, file, to, count);
+    if (fails("read") || !moves(&count)) {
+        return -1;
+    }
+    const ssize_t got = syscall(SYS_read, file, to, count);
+    if (got > 0 && garbles()) {
+        unsigned char *const first = to;
+        *first ^= 1;
+    }
+    return got;
 }
 
 ssize_t write(int file, const void *from, size_t count) {
@@ -76,28 +117,73 @@ int fsync(int file) {
     while (is("hold") && access("hold", F_OK) == 0) {
         usleep(5000);
     }
+    swap("fsync");
     return fails("fsync") ? -1 : (int)syscall(SYS_fsync, file);
+}
+
+/* Opening for writing alone, where nothing is made, or a folder. */
+int open(const char *name, int how, ...) {
+    va_list rest;
+    va_start(rest, how);
+    const mode_t mode = (how & O_CREAT) != 0 ? va_arg(rest, mode_t) : 0;
+    va_end(rest);
+    if ((how & (O_ACCMODE | O_CREAT)) == O_WRONLY) {
+        swap("open");
+    }
+    if ((how & O_CREAT) != 0) {
+        swap("create");
+    }
+    if ((how & O_DIRECTORY) != 0) {
+        swap("folder");
+    }
+    return (int)syscall(SYS_openat, AT_FDCWD, name, how, mode);
 }
 
 int fchmod(int file, mode_t mode) {
     return fails("fchmod") ? -1 : (int)syscall(SYS_fchmod, file, mode);
 }
 
+static bool is_written(int file) {
+    struct stat status;
+    return fstat(file, &status) == 0 && S_ISREG(status.st_mode) &&
+           (fcntl(file, F_GETFL) & O_ACCMODE) != O_RDONLY;
+}
+
 int close(int file) {
+    const bool written = is_written(file);
     const int closed = (int)syscall(SYS_close, file);
-    return fails("close") ? -1 : closed;
+    return written && fails("close") ? -1 : closed;
 }
 
-int rename(const char *from, const char *to) {
-    return fails("rename") ? -1 : (int)syscall(SYS_rename, from, to);
+int renameat(int from_folder, const char *from, int to_folder, const char *to) {
+    swap("rename");
+    return fails("rename") ? -1 : (int)syscall(SYS_renameat2, from_folder, from, to_folder, to, 0);
 }
 
-int link(const char *from, const char *to) {
-    return fails("link") ? -1 : (int)syscall(SYS_link, from, to);
+int renameat2(int from_folder, const char *from, int to_folder, const char *to, unsigned flags) {
+    swap("rename");
+    return fails("rename") || fails("noreplace")
+               ? -1
+               : (int)syscall(SYS_renameat2, from_folder, from, to_folder, to, flags);
+}
+
+int linkat(int from_folder, const char *from, int to_folder, const char *to, int flags) {
+    return fails("link") ? -1 : (int)syscall(SYS_linkat, from_folder, from, to_folder, to, flags);
 }
 
 int flock(int file, int operation) {
-    return fails("flock") ? -1 : (int)syscall(SYS_flock, file, operation);
+    const bool locked = getenv("NOLOCK") != NULL || !fails("flock");
+    swap("flock");
+    return !locked ? -1 : getenv("NOLOCK") != NULL ? 0 : (int)syscall(SYS_flock, file, operation);
+}
+
+int fcntl(int file, int command, ...) {
+    va_list rest;
+    va_start(rest, command);
+    void *const argument = va_arg(rest, void *);
+    va_end(rest);
+    return command == F_SETLK && fails("setlk") ? -1
+                                                : (int)syscall(SYS_fcntl, file, command, argument);
 }
 
 typedef long ask_system(int);

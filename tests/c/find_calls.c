@@ -1,6 +1,7 @@
 /*
- * Test of run_find and run_cut from C: known captures, runs at any slot of a capture, and refusals
- * of every number with the lent bytes unchanged.
+ * Test of mahyrei_run_find, mahyrei_run_find_from and mahyrei_run_cut from C: known captures, runs
+ * at any slot of a capture, and refusals of every number with the lent bytes unchanged. Each search
+ * of a whole capture is put as one from slot 0 too, and then from other slots.
  *
  * The library is not built with sanitizers. So each slice is lent from pages of its own: it ends
  * where a page begins that may not be touched, the bytes before it are compared after the call, and
@@ -14,36 +15,13 @@
 #include <string.h>
 #include <sys/mman.h>
 
+#include "check.h"
 #include "mahyrei.h"
 #include "runs.h"
 
-/* ---- checks, each of them counted */
+enum call { FIND, FIND_FROM, CUT, CALLS };
 
-static unsigned long checks, failures;
-static unsigned long met[2][256]; /* answers by call and number */
-
-static void check(bool ok, int line, const char *what) {
-    checks++;
-    if (!ok && ++failures <= 20) { /* the first say enough */
-        fprintf(stderr, "find_calls.c:%d: %s\n", line, what);
-    }
-}
-
-#define CHECK(condition) check((condition), __LINE__, #condition)
-
-static uint64_t random_number(void) { /* xorshift64* */
-    static uint64_t state = UINT64_C(0x9E3779B97F4A7C15);
-    state ^= state >> 12;
-    state ^= state << 25;
-    state ^= state >> 27;
-    return state * UINT64_C(0x2545F4914F6CDD1D) >> 16;
-}
-
-static void fill_random(uint8_t *bytes, size_t len) {
-    for (size_t i = 0; i < len; i++) {
-        bytes[i] = (uint8_t)(random_number() >> 8);
-    }
-}
+static unsigned long met[CALLS][256]; /* answers by call and number */
 
 /* ---- lent slices */
 
@@ -100,6 +78,42 @@ static bool unchanged(const struct lent *lent, size_t count) {
     return memcmp(margin_of(lent), lent->before, count) == 0;
 }
 
+static uint64_t slot_bits(size_t bytes) {
+    return 8 * (uint64_t)bytes;
+}
+
+/* A search from any slot, of slices that are lent and protected. */
+static uint64_t from_slot(uint64_t from) {
+    const uint64_t answer =
+        mahyrei_run_find_from(lent_header.slice, lent_header.len, lent_marker.slice,
+                              lent_marker.len, lent_capture.slice, lent_capture.len, from);
+    met[FIND_FROM][mahyrei_answer_number(answer)]++;
+    return answer;
+}
+
+/* A search from slot 0 says the same as one of the whole capture, and so does one from any slot up
+ * to the one found. One from the next slot finds a later one or none, and one from beyond the
+ * capture none. A call that is refused for another reason is refused from any slot. */
+static void check_from(uint64_t answer) {
+    const uint64_t end = slot_bits(lent_capture.len), found = mahyrei_answer_place(answer);
+    const uint64_t beyond[] = {end, end + 1 + random_below(1000), UINT64_C(1) << 61,
+                               UINT64_MAX - random_below(2000), UINT64_MAX};
+    CHECK(from_slot(0) == answer);
+    for (size_t i = 0; i < sizeof beyond / sizeof beyond[0]; i++) {
+        CHECK(from_slot(beyond[i]) ==
+              (mahyrei_answer_number(answer) == 0 ? MAHYREI_NO_MARKER : answer));
+    }
+    if (mahyrei_answer_number(answer) != 0) {
+        CHECK(from_slot(random_below(end + 1)) == answer);
+        return;
+    }
+    CHECK(from_slot(found) == answer);
+    CHECK(from_slot(random_below(found + 1)) == answer);
+    const uint64_t next = from_slot(found + 1);
+    CHECK(next == MAHYREI_NO_MARKER ||
+          (mahyrei_answer_number(next) == 0 && mahyrei_answer_place(next) > found));
+}
+
 static uint64_t find(const uint8_t *header, size_t header_len, const uint8_t *marker,
                      size_t marker_len, const uint8_t *capture, size_t capture_len) {
     struct lent *const all[] = {&lent_header, &lent_marker, &lent_capture};
@@ -110,9 +124,10 @@ static uint64_t find(const uint8_t *header, size_t header_len, const uint8_t *ma
         remember(all[i]);
         protect(all[i], PROT_READ);
     }
-    const uint64_t answer = run_find(lent_header.slice, header_len, lent_marker.slice, marker_len,
-                                     lent_capture.slice, capture_len);
-    met[0][answer_number(answer)]++;
+    const uint64_t answer = mahyrei_run_find(lent_header.slice, header_len, lent_marker.slice,
+                                             marker_len, lent_capture.slice, capture_len);
+    met[FIND][mahyrei_answer_number(answer)]++;
+    check_from(answer);
     for (size_t i = 0; i < 3; i++) {
         CHECK(unchanged(all[i], MARGIN + all[i]->len));
         protect(all[i], PROT_READ | PROT_WRITE);
@@ -131,9 +146,9 @@ static uint64_t cut(const uint8_t *header, size_t header_len, const uint8_t *cap
     remember(&lent_slots);
     protect(&lent_header, PROT_READ);
     protect(&lent_capture, PROT_READ);
-    const uint64_t answer = run_cut(lent_header.slice, header_len, lent_capture.slice, capture_len,
-                                    slot, lent_slots.slice, slots_len);
-    met[1][answer_number(answer)]++;
+    const uint64_t answer = mahyrei_run_cut(lent_header.slice, header_len, lent_capture.slice,
+                                            capture_len, slot, lent_slots.slice, slots_len);
+    met[CUT][mahyrei_answer_number(answer)]++;
     CHECK(unchanged(&lent_header, MARGIN + header_len));
     CHECK(unchanged(&lent_capture, MARGIN + capture_len));
     CHECK(unchanged(&lent_slots, answer == MAHYREI_ACCEPTED ? MARGIN : MARGIN + slots_len));
@@ -186,6 +201,18 @@ static void test_short(void) {
     }
 }
 
+/* The same from a slot on. */
+static uint64_t search_from(const struct run *run, const uint8_t *marker, const uint8_t *capture,
+                            size_t capture_len, uint64_t from) {
+    const uint64_t answer = search(run, marker, capture, capture_len);
+    CHECK(mahyrei_answer_number(answer) == 0 || answer == MAHYREI_NO_MARKER);
+    protect(&lent_capture, PROT_READ);
+    const uint64_t later = from_slot(from);
+    protect(&lent_capture, PROT_READ | PROT_WRITE);
+    CHECK(mahyrei_answer_number(later) != 0 || mahyrei_answer_place(later) >= from);
+    return later;
+}
+
 static uint8_t capture[AREA], slots[AREA];
 
 static void set_slots(size_t from, size_t count, bool pulse) {
@@ -215,17 +242,22 @@ static void test_markers(const struct run *run, const uint8_t *marker, size_t at
         CHECK(search(run, marker, capture, len) == at_slot(at));
         CHECK(search(run, marker, capture, len + 100) == at_slot(at));
         CHECK(search(run, marker, capture, (at + taken - 1) / 8) == MAHYREI_NO_MARKER);
-        const size_t turned = at + (size_t)random_number() % taken;
+        const size_t turned = at + random_below(taken);
         const bool was = get_bit(capture, turned) != 0;
         flip(capture, turned);
         const uint64_t answer = search(run, marker, capture, len);
         /* a pulse more may be the first of another marker, and so may a pulse before the one lost
          */
-        CHECK(answer == MAHYREI_NO_MARKER || ((!was || around != 0) && answer_number(answer) == 0));
+        CHECK(answer == MAHYREI_NO_MARKER ||
+              ((!was || around != 0) && mahyrei_answer_number(answer) == 0));
         CHECK(answer != at_slot(at));
         flip(capture, turned);
         put_marker(run, marker, at + taken + 3); /* the first of two */
         CHECK(search(run, marker, capture, len + taken / 8 + 2) == at_slot(at));
+        const size_t both = len + taken / 8 + 2;
+        CHECK(search_from(run, marker, capture, both, at + taken) == at_slot(at + taken + 3));
+        CHECK(search_from(run, marker, capture, both, at + taken + 3) == at_slot(at + taken + 3));
+        CHECK(search_from(run, marker, capture, both, at + taken + 4) == MAHYREI_NO_MARKER);
     }
 }
 
@@ -235,12 +267,10 @@ static void test_all_orders(void) {
     for (uint64_t m = 2; m <= 8; m++) {
         for (size_t i = 0; i < sizeof LENGTHS / sizeof LENGTHS[0]; i++) {
             const struct run run = {1, m, 1, 1, 100, LENGTHS[i], 1, 1};
-            for (size_t at = 0; at < 20; at += 1 + (size_t)random_number() % 3) {
+            for (size_t at = 0; at < 20; at += 1 + random_below(3)) {
                 for (size_t s = 0; s < run.W; s++) {
                     const size_t M = pulse_order(&run);
-                    marker[s] = (uint8_t)(at % 3 == 0   ? 0
-                                          : at % 3 == 1 ? M - 1
-                                                        : (size_t)random_number() % M);
+                    marker[s] = (uint8_t)(at % 3 == 0 ? 0 : at % 3 == 1 ? M - 1 : random_below(M));
                 }
                 test_markers(&run, marker, at);
             }
@@ -262,6 +292,32 @@ static void test_whole_capture(void) {
     CHECK(search(&run, marker, capture, 0) == MAHYREI_NO_MARKER);
     flip(capture, 8 * 1280 - 1); /* the last guard slot of all */
     CHECK(search(&run, marker, capture, 1280) == MAHYREI_NO_MARKER);
+}
+
+/* Markers at known slots, some over the slots of others: from each slot the next of them is found,
+ * and after the last none, in captures that end anywhere. */
+static void test_from(void) {
+    static const size_t AT[] = {0, 5, 13, 14 + 5, 64, 71, 1000, 1007, 4000, 8187};
+    enum { MARKERS = sizeof AT / sizeof AT[0], LEN = 1024 };
+    const struct run run = {0, 2, 1, 1, 40, 1, 1, 1};
+    const uint8_t marker[] = {3}; /* 00010 */
+    uint8_t header[MAHYREI_HEADER_BYTES];
+    pack_header(&run, header);
+    memset(capture, 0, sizeof capture);
+    for (size_t i = 0; i < MARKERS; i++) {
+        put_marker(&run, marker, AT[i]);
+    }
+    for (size_t len = LEN; len > 0; len -= len > 20 && len < LEN - 5 ? 1 + random_below(20) : 1) {
+        size_t next = MARKERS;
+        for (uint64_t from = slot_bits(len); from-- > 0;) {
+            while (next > 0 && AT[next - 1] >= from) {
+                next--;
+            }
+            const bool there = next < MARKERS && AT[next] + 5 <= slot_bits(len);
+            CHECK(mahyrei_run_find_from(header, sizeof header, marker, 1, capture, len, from) ==
+                  (there ? at_slot(AT[next]) : MAHYREI_NO_MARKER));
+        }
+    }
 }
 
 /* Many that look like the marker for long: symbols 0 again and again, and at last a 1. */
@@ -297,14 +353,18 @@ static void test_far(void) {
     pack_header(&run, header);
     flip(far, slot);
     flip(far, slot + 5 + 3);
-    CHECK(run_find(header, sizeof header, marker, 2, far, LEN) == at_slot(slot));
+    CHECK(mahyrei_run_find(header, sizeof header, marker, 2, far, LEN) == at_slot(slot));
+    for (uint64_t from = slot - 2; from <= slot + 2; from++) {
+        CHECK(mahyrei_run_find_from(header, sizeof header, marker, 2, far, LEN, from) ==
+              (from <= slot ? at_slot(slot) : MAHYREI_NO_MARKER));
+    }
     const size_t bytes = slot_bytes(&run);
     lend(&lent_slots, NULL, bytes);
     const uint64_t last = 8 * (uint64_t)LEN - slot_count(&run);
-    CHECK(run_cut(header, sizeof header, far, LEN, last, lent_slots.slice, bytes) == 0);
+    CHECK(mahyrei_run_cut(header, sizeof header, far, LEN, last, lent_slots.slice, bytes) == 0);
     CHECK(get_bit(lent_slots.slice, slot - last) == 1 &&
           get_bit(lent_slots.slice, slot + 8 - last) == 1);
-    CHECK(run_cut(header, sizeof header, far, LEN, last + 1, lent_slots.slice, bytes) == 8);
+    CHECK(mahyrei_run_cut(header, sizeof header, far, LEN, last + 1, lent_slots.slice, bytes) == 8);
     munmap(far, LEN);
 }
 
@@ -326,8 +386,8 @@ static void write_run(const struct run *run, const uint8_t *marker) {
     uint8_t header[MAHYREI_HEADER_BYTES];
     pack_header(run, header);
     fill_random(frames, frame_bytes(run));
-    CHECK(run_write(header, sizeof header, marker, run->W, frames, frame_bytes(run), slots,
-                    slot_bytes(run)) == MAHYREI_ACCEPTED);
+    CHECK(mahyrei_run_write(header, sizeof header, marker, run->W, frames, frame_bytes(run), slots,
+                            slot_bytes(run)) == MAHYREI_ACCEPTED);
 }
 
 /* What is around the run: pulses, nothing, anything. */
@@ -358,12 +418,12 @@ static void test_run_at(const struct run *run, const uint8_t *marker, size_t at,
     surround(around);
     put_run(run, at);
     const uint64_t answer = search(run, marker, capture, len);
-    CHECK(answer_number(answer) == 0 && answer_place(answer) <= at);
+    CHECK(mahyrei_answer_number(answer) == 0 && mahyrei_answer_place(answer) <= at);
     CHECK(around == ANYTHING || answer == at_slot(at));
     CHECK(cut(header, sizeof header, capture, len, at, bytes) == MAHYREI_ACCEPTED);
     CHECK(memcmp(lent_slots.slice, slots, bytes) == 0);
-    CHECK(run_read(header, sizeof header, marker, run->W, lent_slots.slice, bytes, back,
-                   frame_bytes(run)) == MAHYREI_ACCEPTED);
+    CHECK(mahyrei_run_read(header, sizeof header, marker, run->W, lent_slots.slice, bytes, back,
+                           frame_bytes(run)) == MAHYREI_ACCEPTED);
     CHECK(memcmp(back, frames, frame_bytes(run)) == 0);
     /* the capture ends where the run does, or earlier */
     const size_t whole = (at + count + 7) / 8, short_by_few = (at + count - 1) / 8;
@@ -381,7 +441,7 @@ static void test_runs(void) {
     uint8_t marker[MAHYREI_MARKER_MAX];
     for (size_t i = 0; i < sizeof RUNS / sizeof RUNS[0]; i++) {
         for (size_t s = 0; s < RUNS[i].W; s++) {
-            marker[s] = (uint8_t)((size_t)random_number() % pulse_order(&RUNS[i]));
+            marker[s] = (uint8_t)random_below(pulse_order(&RUNS[i]));
         }
         write_run(&RUNS[i], marker);
         for (size_t j = 0; j < sizeof SLOTS / sizeof SLOTS[0]; j++) {
@@ -400,6 +460,7 @@ static void test_decoy(void) {
     put_run(&ONE_WORD, 100);
     put_marker(&ONE_WORD, marker, 41);
     CHECK(search(&ONE_WORD, marker, capture, 10000) == at_slot(41));
+    CHECK(search_from(&ONE_WORD, marker, capture, 10000, 42) == at_slot(100));
     set_slots(41, 20, false);
     CHECK(search(&ONE_WORD, marker, capture, 10000) == at_slot(100));
 }
@@ -416,7 +477,7 @@ static void test_cut_slots(void) {
                               UINT64_C(1) << 63};
     pack_header(&ONE_WORD, header);
     surround(ANYTHING);
-    for (uint64_t slot = 0; slot <= last; slot += 1 + random_number() % 100) {
+    for (uint64_t slot = 0; slot <= last; slot += 1 + random_below(100)) {
         CHECK(cut(header, sizeof header, capture, 10000, slot, bytes) == MAHYREI_ACCEPTED);
         bool right = (lent_slots.slice[bytes - 1] & 15) == 0; /* spare bits */
         for (size_t x = 0; x < count; x++) {
@@ -436,7 +497,7 @@ static void test_cut_slots(void) {
 /* ---- refusals */
 
 /* A capture of 2 to the power 53 bytes is searched, a longer one gets 8. There is no such capture:
- * these calls have no reason to look behind the marker or the run, which stand at its front. */
+ * these calls have no reason to look beyond the marker or the run, which are at its front. */
 static void test_longest(void) {
     static const uint64_t MOST = UINT64_C(1) << 53;
     uint8_t header[MAHYREI_HEADER_BYTES];
@@ -447,17 +508,28 @@ static void test_longest(void) {
     put_run(&ONE_WORD, 13);
     pack_header(&ONE_WORD, header);
     CHECK(MAHYREI_CAPTURE_BYTES_MAX == MOST);
-    CHECK(run_find(header, sizeof header, marker, 1, capture, MOST) == at_slot(13));
-    CHECK(run_find(header, sizeof header, marker, 1, capture, MOST + 1) == 8);
-    CHECK(run_find(header, sizeof header, marker, 1, capture, SIZE_MAX) == 8);
-    CHECK(run_find(header, sizeof header, marker, 1, capture, SIZE_MAX / 8 + 10000) == 8);
-    lend(&lent_slots, NULL, bytes);
-    CHECK(run_cut(header, sizeof header, capture, MOST, 13, lent_slots.slice, bytes) == 0);
-    CHECK(memcmp(lent_slots.slice, slots, bytes) == 0);
-    CHECK(run_cut(header, sizeof header, capture, MOST + 1, 13, lent_slots.slice, bytes) == 8);
-    CHECK(run_cut(header, sizeof header, capture, SIZE_MAX, 13, lent_slots.slice, bytes) == 8);
-    CHECK(run_cut(header, sizeof header, capture, MOST, (MOST << 3) - 1, lent_slots.slice, bytes) ==
+    CHECK(mahyrei_run_find(header, sizeof header, marker, 1, capture, MOST) == at_slot(13));
+    CHECK(mahyrei_run_find_from(header, sizeof header, marker, 1, capture, MOST, 13) ==
+          at_slot(13));
+    CHECK(mahyrei_run_find_from(header, sizeof header, marker, 1, capture, MOST, MOST << 3) == 19);
+    CHECK(mahyrei_run_find_from(header, sizeof header, marker, 1, capture, MOST, UINT64_MAX) == 19);
+    CHECK(mahyrei_run_find_from(header, sizeof header, marker, 1, capture, MOST,
+                                (MOST << 3) - 19) == 19); /* one slot short of a marker's 20 */
+    CHECK(mahyrei_run_find_from(header, sizeof header, marker, 1, capture, MOST + 1, 13) == 8);
+    CHECK(mahyrei_run_find_from(header, sizeof header, marker, 1, capture, SIZE_MAX, UINT64_MAX) ==
           8);
+    CHECK(mahyrei_run_find(header, sizeof header, marker, 1, capture, MOST + 1) == 8);
+    CHECK(mahyrei_run_find(header, sizeof header, marker, 1, capture, SIZE_MAX) == 8);
+    CHECK(mahyrei_run_find(header, sizeof header, marker, 1, capture, SIZE_MAX / 8 + 10000) == 8);
+    lend(&lent_slots, NULL, bytes);
+    CHECK(mahyrei_run_cut(header, sizeof header, capture, MOST, 13, lent_slots.slice, bytes) == 0);
+    CHECK(memcmp(lent_slots.slice, slots, bytes) == 0);
+    CHECK(mahyrei_run_cut(header, sizeof header, capture, MOST + 1, 13, lent_slots.slice, bytes) ==
+          8);
+    CHECK(mahyrei_run_cut(header, sizeof header, capture, SIZE_MAX, 13, lent_slots.slice, bytes) ==
+          8);
+    CHECK(mahyrei_run_cut(header, sizeof header, capture, MOST, (MOST << 3) - 1, lent_slots.slice,
+                          bytes) == 8);
 }
 
 static void test_refused_headers(void) {
@@ -482,8 +554,9 @@ static void test_refused_headers(void) {
         CHECK(find(header, MAHYREI_HEADER_BYTES, NULL, 0, NULL, 0) == WRONG[i].number);
         CHECK(cut(header, MAHYREI_HEADER_BYTES, capture, 100, 0, 1000) == WRONG[i].number);
         CHECK(cut(header, MAHYREI_HEADER_BYTES, NULL, 0, UINT64_MAX, 0) == WRONG[i].number);
-        CHECK(run_find(header, MAHYREI_HEADER_BYTES, NULL, 0, NULL, 0) == WRONG[i].number);
-        CHECK(run_cut(header, MAHYREI_HEADER_BYTES, NULL, 0, 0, NULL, 0) == WRONG[i].number);
+        CHECK(mahyrei_run_find(header, MAHYREI_HEADER_BYTES, NULL, 0, NULL, 0) == WRONG[i].number);
+        CHECK(mahyrei_run_cut(header, MAHYREI_HEADER_BYTES, NULL, 0, 0, NULL, 0) ==
+              WRONG[i].number);
     }
     pack_header(&ONE_WORD, header);
     for (size_t len = 0; len <= MAHYREI_HEADER_BYTES + 1; len++) {
@@ -500,11 +573,12 @@ static void test_refused_headers(void) {
         CHECK(cut(header, MAHYREI_HEADER_BYTES, capture, 10000, 0, slot_bytes(&ONE_WORD)) ==
               MAHYREI_BAD_HEADER);
     }
-    CHECK(run_find(NULL, 0, NULL, 0, NULL, 0) == MAHYREI_BAD_HEADER);
-    CHECK(run_cut(NULL, 0, NULL, 0, 0, NULL, 0) == MAHYREI_BAD_HEADER);
+    CHECK(mahyrei_run_find(NULL, 0, NULL, 0, NULL, 0) == MAHYREI_BAD_HEADER);
+    CHECK(mahyrei_run_find_from(NULL, 0, NULL, 0, NULL, 0, 0) == MAHYREI_BAD_HEADER);
+    CHECK(mahyrei_run_cut(NULL, 0, NULL, 0, 0, NULL, 0) == MAHYREI_BAD_HEADER);
 }
 
-/* 7 for the symbols up to the W-th, then 8 for their number, then 19. run_cut is lent none. */
+/* 7 for the symbols up to the W-th, then 8 for their number, then 19. A cut is lent none. */
 static void test_refused_markers(void) {
     const struct run run = {0, 3, 1, 1, 10, 4, 1, 1};
     static const struct {
@@ -530,8 +604,9 @@ static void test_refused_markers(void) {
     }
 }
 
-/* 20 comes behind 7, the marker's symbols included, and before 8; run_cut is lent none. Of a factor
- * that there is, run_find takes no account, and run_cut takes as many slots more. */
+/* 20 comes after 7, the marker's symbols included, and before 8; mahyrei_run_cut is lent none. Of
+ * a factor that there is, mahyrei_run_find takes no account, and mahyrei_run_cut takes as many
+ * slots more. */
 static void test_factors(void) {
     uint8_t header[MAHYREI_HEADER_BYTES];
     const uint8_t marker[] = {5}, high[] = {16};
@@ -581,17 +656,17 @@ static void test_repeated_runs(void) {
         const struct run *const run = &REPEATED[i];
         const size_t bytes = slot_bytes(run);
         for (size_t s = 0; s < run->W; s++) {
-            marker[s] = (uint8_t)((size_t)random_number() % pulse_order(run));
+            marker[s] = (uint8_t)random_below(pulse_order(run));
         }
         write_run(run, marker);
         pack_header(run, header);
-        for (size_t at = 0; at < 20; at += 1 + (size_t)random_number() % 5) {
+        for (size_t at = 0; at < 20; at += 1 + random_below(5)) {
             surround(ANYTHING);
             put_run(run, at);
             CHECK(cut(header, sizeof header, capture, bytes + 3, at, bytes) == MAHYREI_ACCEPTED);
             CHECK(memcmp(lent_slots.slice, slots, bytes) == 0);
-            CHECK(run_read(header, sizeof header, marker, run->W, lent_slots.slice, bytes, back,
-                           frame_bytes(run)) == MAHYREI_ACCEPTED);
+            CHECK(mahyrei_run_read(header, sizeof header, marker, run->W, lent_slots.slice, bytes,
+                                   back, frame_bytes(run)) == MAHYREI_ACCEPTED);
             CHECK(memcmp(back, frames, frame_bytes(run)) == 0);
         }
     }
@@ -601,10 +676,12 @@ static void test_every_number_met(void) {
     unsigned long total = 0, expected = 0;
     for (size_t number = 0; number < 256; number++) {
         const bool of_cut = number <= 8 || number == 20, of_find = of_cut || number == 19;
-        total += met[0][number] + met[1][number];
-        expected += (of_find ? met[0][number] : 0) + (of_cut ? met[1][number] : 0);
-        CHECK(!of_find || met[0][number] > 0);
-        CHECK(!of_cut || met[1][number] > 0);
+        for (int call = 0; call < CALLS; call++) {
+            const bool can_be = call == CUT ? of_cut : of_find;
+            total += met[call][number];
+            expected += can_be ? met[call][number] : 0;
+            CHECK(!can_be || met[call][number] > 0);
+        }
     }
     CHECK(total == expected);
     printf("find_calls: %lu calls, %lu checks, %lu failed\n", total, checks, failures);
@@ -618,6 +695,7 @@ int main(void) {
     test_short();
     test_all_orders();
     test_whole_capture();
+    test_from();
     test_worst();
     test_runs();
     test_decoy();

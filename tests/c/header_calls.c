@@ -1,7 +1,7 @@
 /*
- * Test of header_widen and header_narrow from C: known headers there and back, headers of all kinds
- * of fields beside what run_write says of them, and refusals of every number with the lent bytes
- * unchanged.
+ * Test of mahyrei_header_widen and mahyrei_header_narrow from C: known headers there and back,
+ * headers of all kinds of fields beside what mahyrei_run_write says of them, and refusals of every
+ * number with the lent bytes unchanged.
  *
  * The library is not built with sanitizers. So each slice is lent from a page of its own: it ends
  * where a page begins that may not be touched, the bytes before it are compared after the call, and
@@ -15,32 +15,13 @@
 #include <string.h>
 #include <sys/mman.h>
 
+#include "check.h"
 #include "mahyrei.h"
 #include "runs.h"
 
 enum { PAGE = 4096, MARGIN = 64, OLD = MAHYREI_OLD_HEADER_BYTES, NEW = MAHYREI_HEADER_BYTES };
 
-/* ---- checks, each of them counted */
-
-static unsigned long checks, failures;
 static unsigned long met[2][256]; /* answers by call and number */
-
-static void check(bool ok, int line, const char *what) {
-    checks++;
-    if (!ok && ++failures <= 20) { /* the first say enough */
-        fprintf(stderr, "header_calls.c:%d: %s\n", line, what);
-    }
-}
-
-#define CHECK(condition) check((condition), __LINE__, #condition)
-
-static uint64_t random_below(uint64_t limit) { /* xorshift64* */
-    static uint64_t state = UINT64_C(0x9E3779B97F4A7C15);
-    state ^= state >> 12;
-    state ^= state << 25;
-    state ^= state >> 27;
-    return (state * UINT64_C(0x2545F4914F6CDD1D) >> 16) % limit;
-}
 
 /* ---- the calls, on slices at the ends of pages */
 
@@ -66,7 +47,7 @@ static void protect(const struct lent *lent, int protection) {
     }
 }
 
-/* The first of these bytes, or where there are none random ones, behind random bytes. */
+/* The first of these bytes, or where there are none random ones, after random bytes. */
 static void lend(struct lent *lent, const uint8_t *bytes, size_t len) {
     for (size_t i = PAGE - MARGIN - len; i < PAGE; i++) {
         lent->page[i] = (uint8_t)random_below(256);
@@ -86,18 +67,18 @@ static uint64_t call(trip *trip, const uint8_t *header, size_t len, size_t to_le
     protect(&from, PROT_READ);
     const uint64_t answer = trip(from.slice, len, to.slice, to_len);
     protect(&from, PROT_READ | PROT_WRITE);
-    met[trip == header_narrow][answer_number(answer)]++;
+    met[trip == mahyrei_header_narrow][mahyrei_answer_number(answer)]++;
     CHECK(memcmp(from.page, from.before, PAGE) == 0);
     CHECK(memcmp(to.page, to.before, answer == MAHYREI_ACCEPTED ? PAGE - to_len : PAGE) == 0);
     return answer;
 }
 
 static uint64_t widen(const uint8_t *eight, size_t len, size_t to_len) {
-    return call(header_widen, eight, len, to_len);
+    return call(mahyrei_header_widen, eight, len, to_len);
 }
 
 static uint64_t narrow(const uint8_t *ten, size_t len, size_t to_len) {
-    return call(header_narrow, ten, len, to_len);
+    return call(mahyrei_header_narrow, ten, len, to_len);
 }
 
 /* ---- the tests */
@@ -142,9 +123,9 @@ static struct run some_run(void) {
                         COPIES[random_below(sizeof COPIES / sizeof COPIES[0])]};
 }
 
-/* With nothing else lent, run_write asks of a header what both trips do, then 8. */
+/* With nothing else lent, mahyrei_run_write asks of a header what both trips do, then 8. */
 static unsigned of_header(const uint8_t *ten) {
-    return answer_number(run_write(ten, NEW, NULL, 0, NULL, 0, NULL, 0));
+    return mahyrei_answer_number(mahyrei_run_write(ten, NEW, NULL, 0, NULL, 0, NULL, 0));
 }
 
 static void test_fields(void) {
@@ -169,7 +150,7 @@ static void test_fields(void) {
     }
 }
 
-/* The six bits of the factor and the two behind them: 1 before 20 before 8 before 21. */
+/* The six bits of the factor and the two after them: 1 before 20 before 8 before 21. */
 static void test_factors(void) {
     uint8_t ten[NEW];
     memcpy(ten, KNOWN[0].ten, NEW);
@@ -191,7 +172,7 @@ static void test_factors(void) {
     }
 }
 
-/* Every single bit behind the fields, and every length. */
+/* Every single bit after the fields, and every length. */
 static void test_forms(void) {
     for (size_t bit = 54; bit < 8 * NEW; bit++) {
         uint8_t ten[NEW];
@@ -214,10 +195,10 @@ static void test_forms(void) {
         CHECK(widen(eight, OLD, len) == (len == NEW ? MAHYREI_ACCEPTED : MAHYREI_BAD_LENGTH));
         CHECK(narrow(ten, NEW, len) == (len == OLD ? MAHYREI_ACCEPTED : MAHYREI_BAD_LENGTH));
     }
-    CHECK(header_widen(NULL, 0, NULL, 0) == MAHYREI_BAD_HEADER);
-    CHECK(header_narrow(NULL, 0, NULL, 0) == MAHYREI_BAD_HEADER);
-    CHECK(header_widen(KNOWN[0].eight, OLD, NULL, 0) == MAHYREI_BAD_LENGTH);
-    CHECK(header_narrow(KNOWN[0].ten, NEW, NULL, 0) == MAHYREI_BAD_LENGTH);
+    CHECK(mahyrei_header_widen(NULL, 0, NULL, 0) == MAHYREI_BAD_HEADER);
+    CHECK(mahyrei_header_narrow(NULL, 0, NULL, 0) == MAHYREI_BAD_HEADER);
+    CHECK(mahyrei_header_widen(KNOWN[0].eight, OLD, NULL, 0) == MAHYREI_BAD_LENGTH);
+    CHECK(mahyrei_header_narrow(KNOWN[0].ten, NEW, NULL, 0) == MAHYREI_BAD_LENGTH);
 }
 
 static void test_every_number_met(void) {

@@ -15,44 +15,13 @@
 #include <string.h>
 #include <sys/mman.h>
 
+#include "check.h"
 #include "mahyrei.h"
 #include "runs.h"
 
 enum { RATES = 3, WORD = MAHYREI_WORD_BYTES, MOST = MAHYREI_PASS_MAX };
 
-/* ---- checks, each of them counted */
-
-static unsigned long checks, failures;
 static unsigned long met[2][256]; /* answers by call and number */
-
-static void check(bool ok, int line, uint64_t rate, const char *what) {
-    checks++;
-    if (!ok && ++failures <= 20) { /* the first say enough */
-        fprintf(stderr, "pass_calls.c:%d: rate %" PRIu64 ": %s\n", line, rate, what);
-    }
-}
-
-#define CHECK(rate, condition) check((condition), __LINE__, (rate), #condition)
-
-/* ---- random numbers: xorshift64* */
-
-static uint64_t random_number(void) {
-    static uint64_t state = UINT64_C(0x9E3779B97F4A7C15);
-    state ^= state >> 12;
-    state ^= state << 25;
-    state ^= state >> 27;
-    return state * UINT64_C(0x2545F4914F6CDD1D);
-}
-
-static size_t random_below(size_t limit) {
-    return (size_t)((random_number() >> 16) % limit);
-}
-
-static void fill_random(uint8_t *bytes, size_t len) {
-    for (size_t i = 0; i < len; i++) {
-        bytes[i] = (uint8_t)(random_number() >> 56);
-    }
-}
 
 /* ---- lent slices */
 
@@ -115,14 +84,15 @@ static uint64_t call(bool write, uint64_t rate) {
     memcpy(from->before, margin_of(from), from->len + MARGIN);
     memcpy(to->before, margin_of(to), to->len + MARGIN);
     protect(from, PROT_READ);
-    const uint64_t answer = write ? pass_write(rate, from->slice, from->len, to->slice, to->len)
-                                  : pass_read(rate, from->slice, from->len, to->slice, to->len);
+    const uint64_t answer =
+        write ? mahyrei_pass_write(rate, from->slice, from->len, to->slice, to->len)
+              : mahyrei_pass_read(rate, from->slice, from->len, to->slice, to->len);
     protect(from, PROT_READ | PROT_WRITE);
-    met[write][answer_number(answer)]++;
+    met[write][mahyrei_answer_number(answer)]++;
 
-    CHECK(rate, memcmp(margin_of(from), from->before, from->len + MARGIN) == 0);
+    CHECK_FOR(rate, memcmp(margin_of(from), from->before, from->len + MARGIN) == 0);
     const bool accepted = answer == MAHYREI_ACCEPTED;
-    CHECK(rate, memcmp(margin_of(to), to->before, accepted ? MARGIN : to->len + MARGIN) == 0);
+    CHECK_FOR(rate, memcmp(margin_of(to), to->before, accepted ? MARGIN : to->len + MARGIN) == 0);
     return answer;
 }
 
@@ -132,36 +102,37 @@ static uint8_t blocks[AREA], words[AREA];
 
 /* n random blocks, their spare bits too, and the words that the pass writer makes of them. */
 static void write_pass(uint64_t rate, size_t n) {
-    const size_t len = word_block_bytes(rate);
+    const size_t len = mahyrei_word_block_bytes(rate);
     fill_random(blocks, n * len);
     lend_copy(&lent_blocks, blocks, n * len);
     lend(&lent_words, n * WORD);
-    CHECK(rate, call(true, rate) == MAHYREI_ACCEPTED);
+    CHECK_FOR(rate, call(true, rate) == MAHYREI_ACCEPTED);
     memcpy(words, lent_words.slice, n * WORD);
 }
 
 static uint64_t read_pass(uint64_t rate, size_t n) {
     lend_copy(&lent_words, words, n * WORD);
-    lend(&lent_blocks, n * word_block_bytes(rate));
+    lend(&lent_blocks, n * mahyrei_word_block_bytes(rate));
     return call(false, rate);
 }
 
 /* Both ways, and piece by piece what the word calls do. */
 static void test_singly(uint64_t rate, size_t n) {
-    const size_t len = word_block_bytes(rate);
+    const size_t len = mahyrei_word_block_bytes(rate);
     uint8_t word[WORD], block[MAHYREI_BLOCK_BYTES_MAX];
     write_pass(rate, n);
-    CHECK(rate, read_pass(rate, n) == MAHYREI_ACCEPTED);
+    CHECK_FOR(rate, read_pass(rate, n) == MAHYREI_ACCEPTED);
     for (size_t i = 0; i < n; i++) {
-        CHECK(rate, word_write(rate, blocks + i * len, len, word, WORD) == MAHYREI_ACCEPTED);
-        CHECK(rate, memcmp(word, words + i * WORD, WORD) == 0);
-        CHECK(rate, word_read(rate, word, WORD, block, len) == MAHYREI_ACCEPTED);
-        CHECK(rate, memcmp(block, lent_blocks.slice + i * len, len) == 0);
-        CHECK(rate, memcmp(block, blocks + i * len, len - 1) == 0);
+        CHECK_FOR(rate,
+                  mahyrei_word_write(rate, blocks + i * len, len, word, WORD) == MAHYREI_ACCEPTED);
+        CHECK_FOR(rate, memcmp(word, words + i * WORD, WORD) == 0);
+        CHECK_FOR(rate, mahyrei_word_read(rate, word, WORD, block, len) == MAHYREI_ACCEPTED);
+        CHECK_FOR(rate, memcmp(block, lent_blocks.slice + i * len, len) == 0);
+        CHECK_FOR(rate, memcmp(block, blocks + i * len, len - 1) == 0);
     }
 }
 
-/* Damages word i: the number that word_read gives for it. */
+/* Damages word i: the number that mahyrei_word_read gives for it. */
 static unsigned damage(uint64_t rate, size_t i, unsigned number) {
     uint8_t *const word = words + i * WORD;
     const size_t inputs = code_inputs(rate);
@@ -173,8 +144,9 @@ static unsigned damage(uint64_t rate, size_t i, unsigned number) {
         flip_code_input(rate, word, random_below(inputs - 2));
     }
     uint8_t block[MAHYREI_BLOCK_BYTES_MAX];
-    const uint64_t answer = word_read(rate, word, WORD, block, word_block_bytes(rate));
-    CHECK(rate, answer_number(answer) == number);
+    const uint64_t answer =
+        mahyrei_word_read(rate, word, WORD, block, mahyrei_word_block_bytes(rate));
+    CHECK_FOR(rate, mahyrei_answer_number(answer) == number);
     return number;
 }
 
@@ -186,14 +158,14 @@ static void test_damage(uint64_t rate, size_t n) {
         for (size_t i = 0; i < 3; i++) {
             write_pass(rate, n);
             damage(rate, places[i], number);
-            CHECK(rate, read_pass(rate, n) == places[i] * 256 + number);
+            CHECK_FOR(rate, read_pass(rate, n) == places[i] * 256 + number);
         }
         for (unsigned other = MAHYREI_BAD_CODE; other <= MAHYREI_BAD_CHECK; other++) {
             const size_t high = 1 + random_below(n - 1), low = random_below(high);
             write_pass(rate, n);
             damage(rate, high, other);
             damage(rate, low, number);
-            CHECK(rate, read_pass(rate, n) == low * 256 + number);
+            CHECK_FOR(rate, read_pass(rate, n) == low * 256 + number);
         }
     }
 }
@@ -203,7 +175,7 @@ static void test_refused(uint64_t rate, size_t blocks_len, size_t words_len, uns
     for (int write = 0; write < 2; write++) {
         lend(&lent_blocks, blocks_len);
         lend(&lent_words, words_len);
-        CHECK(rate, call(write, rate) == number);
+        CHECK_FOR(rate, call(write, rate) == number);
     }
 }
 
@@ -213,20 +185,20 @@ static void test_refused_rates(void) {
     for (size_t i = 0; i < sizeof WRONG / sizeof WRONG[0]; i++) {
         test_refused(WRONG[i], 0, 0, MAHYREI_BAD_RATE);
         for (uint64_t like = 0; like < RATES; like++) {
-            test_refused(WRONG[i], 2 * word_block_bytes(like), 2 * WORD, MAHYREI_BAD_RATE);
-            test_refused(WRONG[i], word_block_bytes(like), WORD + 1, MAHYREI_BAD_RATE);
+            test_refused(WRONG[i], 2 * mahyrei_word_block_bytes(like), 2 * WORD, MAHYREI_BAD_RATE);
+            test_refused(WRONG[i], mahyrei_word_block_bytes(like), WORD + 1, MAHYREI_BAD_RATE);
         }
         for (int write = 0; write < 2; write++) {
             lend_null(&lent_blocks);
             lend_null(&lent_words);
-            CHECK(WRONG[i], call(write, WRONG[i]) == MAHYREI_BAD_RATE);
+            CHECK_FOR(WRONG[i], call(write, WRONG[i]) == MAHYREI_BAD_RATE);
         }
     }
 }
 
 /* Question 8: none, more than 211, a broken block or word, and slices of different counts. */
 static void test_refused_lengths(uint64_t rate) {
-    const size_t len = word_block_bytes(rate), counts[] = {1, 2, 100, MOST - 1, MOST};
+    const size_t len = mahyrei_word_block_bytes(rate), counts[] = {1, 2, 100, MOST - 1, MOST};
     test_refused(rate, 0, 0, MAHYREI_BAD_LENGTH);
     test_refused(rate, len, 0, MAHYREI_BAD_LENGTH);
     test_refused(rate, 0, WORD, MAHYREI_BAD_LENGTH);
@@ -244,17 +216,18 @@ static void test_refused_lengths(uint64_t rate) {
         test_refused(rate, n * len, (n + 1) * WORD, MAHYREI_BAD_LENGTH);
         test_refused(rate, (n - 1) * len, n * WORD, MAHYREI_BAD_LENGTH);
         test_refused(rate, (n + 1) * len, n * WORD, MAHYREI_BAD_LENGTH);
-        test_refused(rate, n * word_block_bytes((rate + 1) % RATES), n * WORD, MAHYREI_BAD_LENGTH);
+        test_refused(rate, n * mahyrei_word_block_bytes((rate + 1) % RATES), n * WORD,
+                     MAHYREI_BAD_LENGTH);
     }
     for (int write = 0; write < 2; write++) {
         lend_null(&lent_blocks);
         lend_null(&lent_words);
-        CHECK(rate, call(write, rate) == MAHYREI_BAD_LENGTH);
+        CHECK_FOR(rate, call(write, rate) == MAHYREI_BAD_LENGTH);
         lend(&lent_words, WORD);
-        CHECK(rate, call(write, rate) == MAHYREI_BAD_LENGTH);
+        CHECK_FOR(rate, call(write, rate) == MAHYREI_BAD_LENGTH);
         lend(&lent_blocks, len);
         lend_null(&lent_words);
-        CHECK(rate, call(write, rate) == MAHYREI_BAD_LENGTH);
+        CHECK_FOR(rate, call(write, rate) == MAHYREI_BAD_LENGTH);
     }
 }
 
@@ -265,10 +238,10 @@ static void test_every_number_met(void) {
         const bool read = written || (number >= MAHYREI_BAD_CODE && number <= MAHYREI_BAD_CHECK);
         total += met[0][number] + met[1][number];
         expected += (written ? met[1][number] : 0) + (read ? met[0][number] : 0);
-        CHECK(number, !written || met[1][number] > 0);
-        CHECK(number, !read || met[0][number] > 0);
+        CHECK_FOR(number, !written || met[1][number] > 0);
+        CHECK_FOR(number, !read || met[0][number] > 0);
     }
-    CHECK(0, total == expected);
+    CHECK_FOR(0, total == expected);
     printf("pass_calls: %lu calls, %lu checks, %lu failed\n", total, checks, failures);
 }
 
@@ -287,7 +260,7 @@ int main(void) {
         test_refused_lengths(rate);
         write_pass(rate, MOST);
         damage(rate, MOST - 1, MAHYREI_BAD_CHECK);
-        CHECK(rate, read_pass(rate, MOST) == (MOST - 1) * 256 + MAHYREI_BAD_CHECK);
+        CHECK_FOR(rate, read_pass(rate, MOST) == (MOST - 1) * 256 + MAHYREI_BAD_CHECK);
     }
     test_every_number_met();
     return failures == 0 ? EXIT_SUCCESS : EXIT_FAILURE;

@@ -1,6 +1,7 @@
 /*
- * Test of the two run calls from C: known answers, runs beside the words that word_write makes,
- * damaged runs, copies that are pooled, and refusals of every number with the lent bytes unchanged.
+ * Test of the two run calls from C: known answers, runs beside the words that mahyrei_word_write
+ * makes, damaged runs, copies that are pooled, and refusals of every number with the lent bytes
+ * unchanged.
  *
  * The sanitizers watch this program but not the library, which is not built with them. So each
  * slice is lent from pages of its own: it ends where a page begins that may not be touched, the
@@ -15,43 +16,11 @@
 #include <string.h>
 #include <sys/mman.h>
 
+#include "check.h"
 #include "mahyrei.h"
 #include "runs.h"
 
-/* ---- checks, each of them counted */
-
-static unsigned long checks, failures;
 static unsigned long met[2][256]; /* answers by call and number */
-
-static void check(bool ok, int line, const char *what) {
-    checks++;
-    if (!ok && ++failures <= 20) { /* the first say enough */
-        fprintf(stderr, "run_calls.c:%d: %s\n", line, what);
-    }
-}
-
-#define CHECK(condition) check((condition), __LINE__, #condition)
-
-/* ---- random numbers: xorshift64* */
-
-static uint64_t random_state = UINT64_C(0x9E3779B97F4A7C15);
-
-static uint64_t random_number(void) {
-    random_state ^= random_state >> 12;
-    random_state ^= random_state << 25;
-    random_state ^= random_state >> 27;
-    return random_state * UINT64_C(0x2545F4914F6CDD1D);
-}
-
-static size_t random_below(size_t limit) {
-    return (size_t)((random_number() >> 16) % limit);
-}
-
-static void fill_random(uint8_t *bytes, size_t len) {
-    for (size_t i = 0; i < len; i++) {
-        bytes[i] = (uint8_t)(random_number() >> 56);
-    }
-}
 
 /* ---- lent slices */
 
@@ -134,16 +103,18 @@ static uint64_t call(bool write) {
     }
     remember(to);
     const uint64_t answer =
-        write ? run_write(lent_header.slice, lent_header.len, lent_marker.slice, lent_marker.len,
-                          lent_frames.slice, lent_frames.len, lent_slots.slice, lent_slots.len)
-              : run_read(lent_header.slice, lent_header.len, lent_marker.slice, lent_marker.len,
-                         lent_slots.slice, lent_slots.len, lent_frames.slice, lent_frames.len);
+        write ? mahyrei_run_write(lent_header.slice, lent_header.len, lent_marker.slice,
+                                  lent_marker.len, lent_frames.slice, lent_frames.len,
+                                  lent_slots.slice, lent_slots.len)
+              : mahyrei_run_read(lent_header.slice, lent_header.len, lent_marker.slice,
+                                 lent_marker.len, lent_slots.slice, lent_slots.len,
+                                 lent_frames.slice, lent_frames.len);
     for (size_t i = 0; i < 3; i++) {
         protect(read[i], PROT_READ | PROT_WRITE);
         CHECK(unchanged(read[i], read[i]->len + MARGIN));
     }
     CHECK(unchanged(to, answer == MAHYREI_ACCEPTED ? MARGIN : to->len + MARGIN));
-    met[write][answer_number(answer)]++;
+    met[write][mahyrei_answer_number(answer)]++;
     return answer;
 }
 
@@ -151,7 +122,7 @@ static uint64_t call(bool write) {
 
 /* The smallest runs with rows, one for each m, then runs with N = 1, one of which has no fill bits;
  * then runs of several copies. The hash is that of the slots for the frames and the marker below,
- * made alike by two programs with no common code, tests/second/run.rs and tests/c/plain_run.c. */
+ * made alike by two programs with no common code, tests/second/run.rs and reference/run.c. */
 static const struct {
     struct run run;
     uint64_t fnv1a;
@@ -251,11 +222,11 @@ static void make_block(const struct run *run, uint64_t marker, size_t marker_bit
 }
 
 static void make_word(const struct run *run, const uint8_t *block, uint8_t *word) {
-    CHECK(word_write(run->rate, block, word_block_bytes(run->rate), word, MAHYREI_WORD_BYTES) ==
-          MAHYREI_ACCEPTED);
+    CHECK(mahyrei_word_write(run->rate, block, mahyrei_word_block_bytes(run->rate), word,
+                             MAHYREI_WORD_BYTES) == MAHYREI_ACCEPTED);
 }
 
-/* The words of a run by word_write. */
+/* The words of a run by mahyrei_word_write. */
 static void make_words(const struct run *run, size_t wrong) {
     for (size_t c = 0; c < block_count(run); c++) {
         uint8_t block[MAHYREI_BLOCK_BYTES_MAX];
@@ -278,6 +249,7 @@ static void randomize(uint8_t *bytes, size_t count) {
 /* The symbols of the words, interleaved by the draft book's recursion, with markers. */
 static void make_symbols(const struct run *run) {
     const size_t S = word_symbols(run);
+    assert(S > 0);
     uint8_t marker[MAHYREI_MARKER_MAX];
     sample_marker(run, marker);
     int64_t source = 0; /* of the symbol at place j; outside the words there are zeros */
@@ -473,7 +445,7 @@ static void test_copies_of(const struct run *run, size_t s) {
         CHECK(read_moved(run, s, k / 2, k / 2, guard) == refused);
         CHECK(still_told(read_moved(run, s, 0, k / 2 - 1, guard), run));
     } else { /* another symbol is told */
-        const unsigned number = answer_number(read_moved(run, s, 0, k / 2 + 1, other));
+        const unsigned number = mahyrei_answer_number(read_moved(run, s, 0, k / 2 + 1, other));
         CHECK(number > MAHYREI_BAD_PULSE && number < MAHYREI_BAD_CHECK);
     }
 }
@@ -522,9 +494,9 @@ static void test_symbols(const struct run *run) {
         CHECK(read_changed(run, s) == s * 256 + MAHYREI_WRONG_MARKER);
         const size_t t = random_below(C * S);
         const uint64_t answer = read_changed(run, stand(run, t));
-        CHECK(answer_number(answer) == MAHYREI_BAD_CODE ||
-              answer_number(answer) == MAHYREI_BAD_TERMINATION);
-        CHECK(answer_place(answer) == t / S);
+        CHECK(mahyrei_answer_number(answer) == MAHYREI_BAD_CODE ||
+              mahyrei_answer_number(answer) == MAHYREI_BAD_TERMINATION);
+        CHECK(mahyrei_answer_place(answer) == t / S);
     }
 }
 
@@ -628,7 +600,7 @@ static void test_fills(void) {
  * where the longer markers make more blocks of it. */
 static void test_draft_order(const struct run *run) {
     static const uint64_t MARKER = 0x034776C7272895B0, PLACE[] = {3, 4, 6};
-    const size_t k = block_bits(run), len = word_block_bytes(run->rate);
+    const size_t k = block_bits(run), len = mahyrei_word_block_bytes(run->rate);
     const size_t blocks = (run->A * (64 + 8 * run->F) + k - 1) / k;
     const size_t more = blocks - block_count(run);
     uint8_t block[MAHYREI_BLOCK_BYTES_MAX];
@@ -643,10 +615,10 @@ static void test_draft_order(const struct run *run) {
     }
     for (size_t c = 0; c < blocks; c++) {
         make_block(run, MARKER, 64, c, SIZE_MAX, block);
-        randomize(block, k); /* so that word_write takes it in as it was */
+        randomize(block, k); /* so that mahyrei_word_write takes it in as it was */
         make_word(run, block, words[c]);
         randomize(words[c], MAHYREI_WORD_BITS);
-        CHECK(word_read(run->rate, words[c], MAHYREI_WORD_BYTES, block, len) ==
+        CHECK(mahyrei_word_read(run->rate, words[c], MAHYREI_WORD_BYTES, block, len) ==
               PLACE[run->rate] * 256 + MAHYREI_BAD_CODE);
     }
     CHECK(read_words(run) == MAHYREI_BAD_CODE);
@@ -773,7 +745,7 @@ static void test_refused_header_bytes(const struct run *run) {
                 lend_header(run);
                 lend(&lent_header, len);
                 CHECK(call(write) == MAHYREI_BAD_HEADER);
-                lend_header(run); /* cut off, or with zeros behind it */
+                lend_header(run); /* cut off, or with zeros after it */
                 uint8_t header[20] = {0};
                 memcpy(header, lent_header.slice, MAHYREI_HEADER_BYTES);
                 lend_copy(&lent_header, header, len);
@@ -825,7 +797,7 @@ static void test_refused_markers(void) {
     }
 }
 
-/* Question 20: after 7, marker symbols included, and before any length. The two bits behind the
+/* Question 20: after 7, marker symbols included, and before any length. The two bits after the
  * factor are zeros of question 1. */
 static void test_refused_copies(void) {
     const struct run run = {0, 3, 1, 1, 10, 2, 1, 1}, wrong = {0, 3, 2, 1, 10, 2, 1, 1};

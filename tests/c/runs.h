@@ -54,7 +54,7 @@ static inline size_t word_symbols(const struct run *run) {
 }
 
 static inline size_t block_bits(const struct run *run) {
-    return word_block_bytes(run->rate) * 8 - 2;
+    return mahyrei_word_block_bytes(run->rate) * 8 - 2;
 }
 
 /* A frame with its marker, in bits. */
@@ -125,11 +125,11 @@ static inline void flip_coded(uint8_t *word, uint64_t coded) {
     }
 }
 
-/* Input bits of the code behind the block: check and termination. */
+/* Input bits of the code after the block: check and termination. */
 enum { CODE_TAIL = 34 };
 
 static inline size_t code_inputs(uint64_t rate) {
-    return word_block_bytes(rate) * 8 - 2 + CODE_TAIL;
+    return mahyrei_word_block_bytes(rate) * 8 - 2 + CODE_TAIL;
 }
 
 /* Changes the encoder's outputs at one step: the second, and the first only where it is asked. */

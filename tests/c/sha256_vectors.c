@@ -1,10 +1,15 @@
 /* SHA-256 on the published vectors: FIPS 180-4's examples and the empty message, and lengths about
- * the edges of a block. */
+ * the edges of a block; the way that the command takes, and plain C, and both on many lengths. */
 #include <stdio.h>
 #include <stdlib.h>
 #include <string.h>
 
-#include "sha256.h"
+#include "formats/sha256.h"
+
+/* How the command does it, by the Makefile. */
+#ifndef SHA256_BY
+#define SHA256_BY "plain"
+#endif
 
 static int failures;
 
@@ -22,7 +27,7 @@ static void expect_of(void (*function)(const uint8_t *, size_t, uint8_t *), cons
     }
 }
 
-/* With the processor's instructions, where it has them, and without. */
+/* As the command has it, and in plain C. */
 static void expect(const char *what, const uint8_t *from, size_t len, const char *wanted) {
     expect_of(sha256, what, from, len, wanted);
     expect_of(sha256_plain, what, from, len, wanted);
@@ -45,6 +50,25 @@ static void expect_letters(size_t count, const char *wanted) {
     free(letters);
 }
 
+/* Two ways, written by others, on the same bytes. */
+static void expect_same(size_t most) {
+    uint8_t *const bytes = malloc(most);
+    uint8_t one[SHA256_BYTES], other[SHA256_BYTES];
+    if (bytes == NULL) {
+        exit(2);
+    }
+    for (size_t len = 0; len < most; len++) {
+        bytes[len] = (uint8_t)(len * len >> 3 ^ len);
+        sha256(bytes, len, one);
+        sha256_plain(bytes, len, other);
+        if (memcmp(one, other, sizeof one) != 0) {
+            printf("sha256: two ways differ on %zu bytes\n", len);
+            failures++;
+        }
+    }
+    free(bytes);
+}
+
 int main(void) {
     expect("nothing", NULL, 0, "e3b0c44298fc1c149afbf4c8996fb92427ae41e4649b934ca495991b7852b855");
     expect_text("abc", "ba7816bf8f01cfea414140de5dae2223b00361a396177a9cb410ff61f20015ad");
@@ -60,8 +84,9 @@ int main(void) {
     expect_letters(64, "ffe054fe7ae0cb6dc65c3af9b61d5209f439851db43d0ba5997337df154668eb");
     expect_letters(119, "31eba51c313a5c08226adf18d4a359cfdfd8d2e816b13f4af952f7ea6584dcfb");
     expect_letters(120, "2f3d335432c70b580af0e8e1b3674a7c020d683aa5f73aaaedfdc55af904c21c");
+    expect_same(1000);
     if (failures == 0) {
-        puts("sha256: the published vectors passed");
+        puts("sha256: the published vectors passed, by " SHA256_BY " and in plain C");
     }
     return failures == 0 ? 0 : 1;
 }

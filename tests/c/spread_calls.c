@@ -1,6 +1,6 @@
 /*
- * Test of bit_spread from C: known places, the words of blocks that differ in one bit, and refusals
- * of every number with the lent bytes unchanged.
+ * Test of mahyrei_bit_spread from C: known places, the words of blocks that differ in one bit, and
+ * refusals of every number with the lent bytes unchanged.
  *
  * The library is not built with sanitizers. So the slice is lent from pages of its own: it ends
  * where a page begins that may not be touched, and the bytes before it are compared after the call.
@@ -13,6 +13,7 @@
 #include <string.h>
 #include <sys/mman.h>
 
+#include "check.h"
 #include "mahyrei.h"
 #include "runs.h"
 
@@ -20,33 +21,7 @@ enum { RATES = 3, PAGE = 4096, WORD = MAHYREI_WORD_BYTES };
 
 static const size_t LIMITS[RATES] = {110, 73, 56};
 
-/* ---- checks, each of them counted */
-
-static unsigned long checks, failures;
 static unsigned long met[256]; /* answers by number */
-
-static void check(bool ok, int line, uint64_t rate, const char *what) {
-    checks++;
-    if (!ok && ++failures <= 20) { /* the first say enough */
-        fprintf(stderr, "spread_calls.c:%d: rate %" PRIu64 ": %s\n", line, rate, what);
-    }
-}
-
-#define CHECK(rate, condition) check((condition), __LINE__, (rate), #condition)
-
-static uint64_t random_number(void) { /* xorshift64* */
-    static uint64_t state = UINT64_C(0x9E3779B97F4A7C15);
-    state ^= state >> 12;
-    state ^= state << 25;
-    state ^= state >> 27;
-    return state * UINT64_C(0x2545F4914F6CDD1D) >> 16;
-}
-
-static void fill_random(uint8_t *bytes, size_t len) {
-    for (size_t i = 0; i < len; i++) {
-        bytes[i] = (uint8_t)random_number();
-    }
-}
 
 /* ---- the call, on a slice at the end of a page */
 
@@ -65,9 +40,9 @@ static uint64_t call(uint64_t rate, uint64_t bit, size_t len) {
     fill_random(page, PAGE);
     memcpy(before, page, PAGE);
     places = page + PAGE - len;
-    const uint64_t answer = bit_spread(rate, bit, places, len);
-    met[answer_number(answer)]++;
-    CHECK(rate, memcmp(page, before, answer == MAHYREI_ACCEPTED ? PAGE - len : PAGE) == 0);
+    const uint64_t answer = mahyrei_bit_spread(rate, bit, places, len);
+    met[mahyrei_answer_number(answer)]++;
+    CHECK_FOR(rate, memcmp(page, before, answer == MAHYREI_ACCEPTED ? PAGE - len : PAGE) == 0);
     return answer;
 }
 
@@ -120,27 +95,27 @@ static const struct {
 static void test_known(void) {
     for (size_t i = 0; i < sizeof KNOWN / sizeof KNOWN[0]; i++) {
         const uint64_t rate = KNOWN[i].rate;
-        CHECK(rate, call(rate, KNOWN[i].bit, WORD) == MAHYREI_ACCEPTED);
-        CHECK(rate, count() == KNOWN[i].count);
-        CHECK(rate, KNOWN[i].fnv1a == 0 || fnv1a(places, WORD) == KNOWN[i].fnv1a);
+        CHECK_FOR(rate, call(rate, KNOWN[i].bit, WORD) == MAHYREI_ACCEPTED);
+        CHECK_FOR(rate, count() == KNOWN[i].count);
+        CHECK_FOR(rate, KNOWN[i].fnv1a == 0 || fnv1a(places, WORD) == KNOWN[i].fnv1a);
     }
-    CHECK(0, call(0, 0, WORD) == MAHYREI_ACCEPTED);
-    CHECK(0, places[0] == 0xEF && places[1] == 0x80 && places[2] == 0); /* 0 1 2 4 5 6 7 8 */
-    CHECK(2, call(2, 1, WORD) == MAHYREI_ACCEPTED);
-    CHECK(2, places[0] == 0x2C && places[1] == 0); /* 2 4 5 */
+    CHECK_FOR(0, call(0, 0, WORD) == MAHYREI_ACCEPTED);
+    CHECK_FOR(0, places[0] == 0xEF && places[1] == 0x80 && places[2] == 0); /* 0 1 2 4 5 6 7 8 */
+    CHECK_FOR(2, call(2, 1, WORD) == MAHYREI_ACCEPTED);
+    CHECK_FOR(2, places[0] == 0x2C && places[1] == 0); /* 2 4 5 */
 }
 
 /* The words of a random block and of the same with one bit changed: their sum, with the accumulator
  * and the interleaver undone, has the places that the call gives. The randomizer cancels out. */
 static void test_words(uint64_t rate) {
-    const size_t len = word_block_bytes(rate), k = 8 * len - 2;
+    const size_t len = mahyrei_word_block_bytes(rate), k = 8 * len - 2;
     uint8_t block[MAHYREI_BLOCK_BYTES_MAX], word[WORD], other[WORD], expected[WORD];
     for (size_t i = 0; i < 60; i++) {
-        const size_t bit = i < 3 ? i : i < 6 ? k - 1 - (i - 3) : (size_t)(random_number() % k);
+        const size_t bit = i < 3 ? i : i < 6 ? k - 1 - (i - 3) : random_below(k);
         fill_random(block, len);
-        CHECK(rate, word_write(rate, block, len, word, WORD) == MAHYREI_ACCEPTED);
+        CHECK_FOR(rate, mahyrei_word_write(rate, block, len, word, WORD) == MAHYREI_ACCEPTED);
         flip(block, bit);
-        CHECK(rate, word_write(rate, block, len, other, WORD) == MAHYREI_ACCEPTED);
+        CHECK_FOR(rate, mahyrei_word_write(rate, block, len, other, WORD) == MAHYREI_ACCEPTED);
         memset(expected, 0, WORD);
         size_t before = 0;
         for (uint64_t j = 0; j < MAHYREI_WORD_BITS; j++) {
@@ -150,9 +125,9 @@ static void test_words(uint64_t rate) {
             }
             before = now;
         }
-        CHECK(rate, call(rate, bit, WORD) == MAHYREI_ACCEPTED);
-        CHECK(rate, memcmp(places, expected, WORD) == 0);
-        CHECK(rate, count() <= LIMITS[rate]);
+        CHECK_FOR(rate, call(rate, bit, WORD) == MAHYREI_ACCEPTED);
+        CHECK_FOR(rate, memcmp(places, expected, WORD) == 0);
+        CHECK_FOR(rate, count() <= LIMITS[rate]);
     }
 }
 
@@ -161,23 +136,23 @@ static void test_refusals(void) {
     static const uint64_t NO_RATE[] = {3, 4, 256, UINT64_C(1) << 32, UINT64_MAX};
     static const size_t NO_LENGTH[] = {0, 1, WORD - 1, WORD + 1, PAGE};
     for (size_t i = 0; i < sizeof NO_RATE / sizeof NO_RATE[0]; i++) {
-        CHECK(NO_RATE[i], call(NO_RATE[i], 0, WORD) == MAHYREI_BAD_RATE);
-        CHECK(NO_RATE[i], call(NO_RATE[i], UINT64_MAX, 0) == MAHYREI_BAD_RATE);
-        CHECK(NO_RATE[i], bit_spread(NO_RATE[i], 0, NULL, 0) == MAHYREI_BAD_RATE);
+        CHECK_FOR(NO_RATE[i], call(NO_RATE[i], 0, WORD) == MAHYREI_BAD_RATE);
+        CHECK_FOR(NO_RATE[i], call(NO_RATE[i], UINT64_MAX, 0) == MAHYREI_BAD_RATE);
+        CHECK_FOR(NO_RATE[i], mahyrei_bit_spread(NO_RATE[i], 0, NULL, 0) == MAHYREI_BAD_RATE);
     }
     for (uint64_t rate = 0; rate < RATES; rate++) {
-        const uint64_t k = 8 * word_block_bytes(rate) - 2;
+        const uint64_t k = 8 * mahyrei_word_block_bytes(rate) - 2;
         const uint64_t no_bit[] = {
             k, k + 1, k + 2, 15120, UINT64_C(1) << 32, (UINT64_C(1) << 32) + 5, UINT64_MAX};
         for (size_t i = 0; i < sizeof NO_LENGTH / sizeof NO_LENGTH[0]; i++) {
-            CHECK(rate, call(rate, 0, NO_LENGTH[i]) == MAHYREI_BAD_LENGTH);
-            CHECK(rate, call(rate, k, NO_LENGTH[i]) == MAHYREI_BAD_LENGTH);
+            CHECK_FOR(rate, call(rate, 0, NO_LENGTH[i]) == MAHYREI_BAD_LENGTH);
+            CHECK_FOR(rate, call(rate, k, NO_LENGTH[i]) == MAHYREI_BAD_LENGTH);
         }
-        CHECK(rate, bit_spread(rate, 0, NULL, 0) == MAHYREI_BAD_LENGTH);
+        CHECK_FOR(rate, mahyrei_bit_spread(rate, 0, NULL, 0) == MAHYREI_BAD_LENGTH);
         for (size_t i = 0; i < sizeof no_bit / sizeof no_bit[0]; i++) {
-            CHECK(rate, call(rate, no_bit[i], WORD) == MAHYREI_BAD_BIT);
+            CHECK_FOR(rate, call(rate, no_bit[i], WORD) == MAHYREI_BAD_BIT);
         }
-        CHECK(rate, call(rate, k - 1, WORD) == MAHYREI_ACCEPTED);
+        CHECK_FOR(rate, call(rate, k - 1, WORD) == MAHYREI_ACCEPTED);
     }
 }
 
@@ -188,10 +163,10 @@ static void test_every_number_met(void) {
         total += met[i];
     }
     for (size_t i = 0; i < sizeof NUMBERS / sizeof NUMBERS[0]; i++) {
-        CHECK(NUMBERS[i], met[NUMBERS[i]] > 0);
+        CHECK_FOR(NUMBERS[i], met[NUMBERS[i]] > 0);
         expected += met[NUMBERS[i]];
     }
-    CHECK(0, total == expected);
+    CHECK_FOR(0, total == expected);
     printf("spread_calls: %lu calls, %lu checks, %lu failed\n", total, checks, failures);
 }
 

@@ -14,6 +14,7 @@
 #include <string.h>
 #include <sys/mman.h>
 
+#include "check.h"
 #include "mahyrei.h"
 
 enum {
@@ -23,35 +24,7 @@ enum {
     BITS = 2 * CODEBLOCK /* of a codeblock, and so its groups */
 };
 
-/* ---- checks, each of them counted */
-
-static unsigned long checks, failures;
 static unsigned long met[2][256]; /* answers by call and number */
-
-static void check(bool ok, int line, size_t n, const char *what) {
-    checks++;
-    if (!ok && ++failures <= 20) { /* the first say enough */
-        fprintf(stderr, "uplink_calls.c:%d: %zu: %s\n", line, n, what);
-    }
-}
-
-#define CHECK(n, condition) check((condition), __LINE__, (n), #condition)
-
-/* ---- random numbers: xorshift64* */
-
-static uint64_t random_number(void) {
-    static uint64_t state = UINT64_C(0x9E3779B97F4A7C15);
-    state ^= state >> 12;
-    state ^= state << 25;
-    state ^= state >> 27;
-    return state * UINT64_C(0x2545F4914F6CDD1D);
-}
-
-static void fill_random(uint8_t *bytes, size_t len) {
-    for (size_t i = 0; i < len; i++) {
-        bytes[i] = (uint8_t)(random_number() >> 56);
-    }
-}
 
 /* ---- lent slices */
 
@@ -114,14 +87,15 @@ static uint64_t call(bool write) {
     memcpy(from->before, margin_of(from), from->len + MARGIN);
     memcpy(to->before, margin_of(to), to->len + MARGIN);
     protect(from, PROT_READ);
-    const uint64_t answer = write ? uplink_write(from->slice, from->len, to->slice, to->len)
-                                  : uplink_read(from->slice, from->len, to->slice, to->len);
+    const uint64_t answer = write ? mahyrei_uplink_write(from->slice, from->len, to->slice, to->len)
+                                  : mahyrei_uplink_read(from->slice, from->len, to->slice, to->len);
     protect(from, PROT_READ | PROT_WRITE);
-    met[write][answer_number(answer)]++;
+    met[write][mahyrei_answer_number(answer)]++;
 
-    CHECK(from->len, memcmp(margin_of(from), from->before, from->len + MARGIN) == 0);
+    CHECK_FOR(from->len, memcmp(margin_of(from), from->before, from->len + MARGIN) == 0);
     const bool accepted = answer == MAHYREI_ACCEPTED;
-    CHECK(to->len, memcmp(margin_of(to), to->before, accepted ? MARGIN : to->len + MARGIN) == 0);
+    CHECK_FOR(to->len,
+              memcmp(margin_of(to), to->before, accepted ? MARGIN : to->len + MARGIN) == 0);
     return answer;
 }
 
@@ -133,7 +107,7 @@ static uint8_t frames[MOST * FRAME], slots[MOST * CODEBLOCK];
 static void write_frames(size_t n) {
     lend_copy(&lent_frames, frames, n * FRAME);
     lend(&lent_slots, n * CODEBLOCK);
-    CHECK(n, call(true) == MAHYREI_ACCEPTED);
+    CHECK_FOR(n, call(true) == MAHYREI_ACCEPTED);
     memcpy(slots, lent_slots.slice, n * CODEBLOCK);
 }
 
@@ -207,35 +181,35 @@ static void test_known(void) {
     for (size_t i = 0; i < KNOWN_COUNT; i++) {
         put_number(frames, KNOWN[i].frame);
         write_frames(1);
-        CHECK(i, get_number(slots) == KNOWN[i].first);
-        CHECK(i, get_number(slots + CODEBLOCK - 8) == KNOWN[i].last);
-        CHECK(i, (bits_in(slots) ^ SEQUENCE[0]) == KNOWN[i].frame);
-        CHECK(i, (bits_in(slots + CODEBLOCK / 2) ^ SEQUENCE[1]) == KNOWN[i].parity);
+        CHECK_FOR(i, get_number(slots) == KNOWN[i].first);
+        CHECK_FOR(i, get_number(slots + CODEBLOCK - 8) == KNOWN[i].last);
+        CHECK_FOR(i, (bits_in(slots) ^ SEQUENCE[0]) == KNOWN[i].frame);
+        CHECK_FOR(i, (bits_in(slots + CODEBLOCK / 2) ^ SEQUENCE[1]) == KNOWN[i].parity);
         memcpy(all + i * CODEBLOCK, slots, CODEBLOCK);
     }
     for (size_t i = 0; i < KNOWN_COUNT; i++) {
         put_number(frames + i * FRAME, KNOWN[i].frame);
     }
     write_frames(KNOWN_COUNT);
-    CHECK(KNOWN_COUNT, memcmp(slots, all, sizeof all) == 0);
+    CHECK_FOR(KNOWN_COUNT, memcmp(slots, all, sizeof all) == 0);
     memset(frames, 0, 2 * FRAME);
     write_frames(2);
-    CHECK(2, memcmp(slots, all, CODEBLOCK) == 0);
-    CHECK(2, memcmp(slots + CODEBLOCK, all, CODEBLOCK) == 0);
+    CHECK_FOR(2, memcmp(slots, all, CODEBLOCK) == 0);
+    CHECK_FOR(2, memcmp(slots + CODEBLOCK, all, CODEBLOCK) == 0);
 }
 
 /* n frames there and back, and each as if it were alone. */
 static void test_both_ways(size_t n) {
     uint8_t all[MOST * CODEBLOCK], each[MOST * FRAME];
     write_random(n);
-    CHECK(n, read_slots(n) == MAHYREI_ACCEPTED);
-    CHECK(n, memcmp(lent_frames.slice, frames, n * FRAME) == 0);
+    CHECK_FOR(n, read_slots(n) == MAHYREI_ACCEPTED);
+    CHECK_FOR(n, memcmp(lent_frames.slice, frames, n * FRAME) == 0);
     memcpy(all, slots, n * CODEBLOCK);
     memcpy(each, frames, n * FRAME);
     for (size_t i = 0; i < n; i++) {
         memcpy(frames, each + i * FRAME, FRAME);
         write_frames(1);
-        CHECK(i, memcmp(slots, all + i * CODEBLOCK, CODEBLOCK) == 0);
+        CHECK_FOR(i, memcmp(slots, all + i * CODEBLOCK, CODEBLOCK) == 0);
     }
 }
 
@@ -252,7 +226,7 @@ static void test_groups(void) {
             const uint64_t answer = !bit ? group * 256 + MAHYREI_BAD_GROUP
                                     : memcmp(slots, sound, sizeof sound) == 0 ? MAHYREI_ACCEPTED
                                                                               : MAHYREI_BAD_PARITY;
-            CHECK(group, read_slots(1) == answer);
+            CHECK_FOR(group, read_slots(1) == answer);
         }
     }
 }
@@ -262,53 +236,53 @@ static void test_bits(void) {
     write_random(1);
     for (size_t a = 0; a < BITS; a++) {
         turn_bit(a);
-        CHECK(a, read_slots(1) == MAHYREI_BAD_PARITY);
+        CHECK_FOR(a, read_slots(1) == MAHYREI_BAD_PARITY);
         for (size_t b = a + 1; b < BITS; b++) {
             turn_bit(b);
-            CHECK(b, read_slots(1) == MAHYREI_BAD_PARITY);
+            CHECK_FOR(b, read_slots(1) == MAHYREI_BAD_PARITY);
             turn_bit(b);
         }
         turn_bit(a);
     }
-    CHECK(0, read_slots(1) == MAHYREI_ACCEPTED);
+    CHECK_FOR(0, read_slots(1) == MAHYREI_ACCEPTED);
 }
 
 /* Of several the first counts, and 28 in the last codeblock comes before 29 in the first. */
 static void test_order(void) {
     write_random(MOST);
     put_group(MOST * BITS - 1, 0);
-    CHECK(MOST, read_slots(MOST) == UINT64_C(8191) * 256 + MAHYREI_BAD_GROUP);
+    CHECK_FOR(MOST, read_slots(MOST) == UINT64_C(8191) * 256 + MAHYREI_BAD_GROUP);
     turn_bit(0);
-    CHECK(MOST, read_slots(MOST) == UINT64_C(8191) * 256 + MAHYREI_BAD_GROUP);
+    CHECK_FOR(MOST, read_slots(MOST) == UINT64_C(8191) * 256 + MAHYREI_BAD_GROUP);
     put_group(8064, 1);
-    CHECK(MOST, read_slots(MOST) == UINT64_C(8064) * 256 + MAHYREI_BAD_GROUP);
+    CHECK_FOR(MOST, read_slots(MOST) == UINT64_C(8064) * 256 + MAHYREI_BAD_GROUP);
     for (size_t n = 1; n <= MOST; n++) {
         write_random(MOST);
         turn_bit(MOST * BITS - 1);
         turn_bit((n - 1) * BITS + n);
-        CHECK(n, read_slots(MOST) == (n - 1) * 256 + MAHYREI_BAD_PARITY);
+        CHECK_FOR(n, read_slots(MOST) == (n - 1) * 256 + MAHYREI_BAD_PARITY);
     }
     write_random(2); /* the parity of another frame */
     memcpy(slots + CODEBLOCK / 2, slots + CODEBLOCK + CODEBLOCK / 2, CODEBLOCK / 2);
-    CHECK(2, read_slots(2) == MAHYREI_BAD_PARITY);
+    CHECK_FOR(2, read_slots(2) == MAHYREI_BAD_PARITY);
     write_random(2); /* two codeblocks that have changed places are codewords still */
     memcpy(slots, slots + CODEBLOCK, CODEBLOCK);
-    CHECK(2, read_slots(2) == MAHYREI_ACCEPTED);
-    CHECK(2, memcmp(lent_frames.slice, frames + FRAME, FRAME) == 0);
+    CHECK_FOR(2, read_slots(2) == MAHYREI_ACCEPTED);
+    CHECK_FOR(2, memcmp(lent_frames.slice, frames + FRAME, FRAME) == 0);
 }
 
 static void test_plain_contents(void) {
     memset(slots, 0, CODEBLOCK);
-    CHECK(0, read_slots(1) == MAHYREI_BAD_GROUP);
+    CHECK_FOR(0, read_slots(1) == MAHYREI_BAD_GROUP);
     memset(slots, 0xFF, CODEBLOCK);
-    CHECK(0, read_slots(1) == MAHYREI_BAD_GROUP);
+    CHECK_FOR(0, read_slots(1) == MAHYREI_BAD_GROUP);
     memset(slots, 0x88, sizeof slots);
-    CHECK(0, read_slots(MOST) == MAHYREI_BAD_PARITY);
+    CHECK_FOR(0, read_slots(MOST) == MAHYREI_BAD_PARITY);
     memset(slots, 0x44, sizeof slots);
-    CHECK(0, read_slots(MOST) == MAHYREI_BAD_PARITY);
+    CHECK_FOR(0, read_slots(MOST) == MAHYREI_BAD_PARITY);
     write_random(1);
     slots[0] = 0xA8; /* a pulse in a guard slot too */
-    CHECK(0, read_slots(1) == MAHYREI_BAD_GROUP);
+    CHECK_FOR(0, read_slots(1) == MAHYREI_BAD_GROUP);
 }
 
 /* Both calls with slices of these lengths, which hold anything. */
@@ -316,7 +290,7 @@ static void test_refused(size_t frames_len, size_t slots_len) {
     for (int write = 0; write < 2; write++) {
         lend(&lent_frames, frames_len);
         lend(&lent_slots, slots_len);
-        CHECK(frames_len, call(write) == MAHYREI_BAD_LENGTH);
+        CHECK_FOR(frames_len, call(write) == MAHYREI_BAD_LENGTH);
     }
 }
 
@@ -347,12 +321,12 @@ static void test_lengths(void) {
     for (int write = 0; write < 2; write++) {
         lend_null(&lent_frames);
         lend_null(&lent_slots);
-        CHECK(0, call(write) == MAHYREI_BAD_LENGTH);
+        CHECK_FOR(0, call(write) == MAHYREI_BAD_LENGTH);
         lend(&lent_slots, CODEBLOCK);
-        CHECK(0, call(write) == MAHYREI_BAD_LENGTH);
+        CHECK_FOR(0, call(write) == MAHYREI_BAD_LENGTH);
         lend(&lent_frames, FRAME);
         lend_null(&lent_slots);
-        CHECK(0, call(write) == MAHYREI_BAD_LENGTH);
+        CHECK_FOR(0, call(write) == MAHYREI_BAD_LENGTH);
     }
 }
 
@@ -363,10 +337,10 @@ static void test_every_number_met(void) {
         const bool read = written || number == MAHYREI_BAD_GROUP || number == MAHYREI_BAD_PARITY;
         total += met[0][number] + met[1][number];
         expected += (written ? met[1][number] : 0) + (read ? met[0][number] : 0);
-        CHECK(number, !written || met[1][number] > 0);
-        CHECK(number, !read || met[0][number] > 0);
+        CHECK_FOR(number, !written || met[1][number] > 0);
+        CHECK_FOR(number, !read || met[0][number] > 0);
     }
-    CHECK(0, total == expected);
+    CHECK_FOR(0, total == expected);
     printf("uplink_calls: %lu calls, %lu checks, %lu failed\n", total, checks, failures);
 }
 

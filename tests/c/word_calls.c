@@ -14,6 +14,7 @@
 #include <string.h>
 #include <sys/mman.h>
 
+#include "check.h"
 #include "mahyrei.h"
 
 enum {
@@ -22,40 +23,7 @@ enum {
     BURST = 18 /* the longest stretch of flips that is refused before the check */
 };
 
-/* ---- checks, each of them counted */
-
-static unsigned long checks, failures;
 static unsigned long met[256]; /* answers by number */
-
-static void check(bool ok, int line, uint64_t rate, const char *what) {
-    checks++;
-    if (!ok && ++failures <= 20) { /* the first say enough */
-        fprintf(stderr, "word_calls.c:%d: rate %" PRIu64 ": %s\n", line, rate, what);
-    }
-}
-
-#define CHECK(rate, condition) check((condition), __LINE__, (rate), #condition)
-
-/* ---- random numbers: xorshift64* */
-
-static uint64_t random_state = UINT64_C(0x9E3779B97F4A7C15);
-
-static uint64_t random_number(void) {
-    random_state ^= random_state >> 12;
-    random_state ^= random_state << 25;
-    random_state ^= random_state >> 27;
-    return random_state * UINT64_C(0x2545F4914F6CDD1D);
-}
-
-static size_t random_below(size_t limit) {
-    return (size_t)((random_number() >> 16) % limit);
-}
-
-static void fill_random(uint8_t *bytes, size_t len) {
-    for (size_t i = 0; i < len; i++) {
-        bytes[i] = (uint8_t)(random_number() >> 56);
-    }
-}
 
 /* ---- lent slices */
 
@@ -111,14 +79,15 @@ static uint64_t call(bool write, uint64_t rate) {
     memcpy(from->before, from->page, PAGE);
     memcpy(to->before, to->page, PAGE);
     protect(from, PROT_READ);
-    const uint64_t answer = write ? word_write(rate, from->slice, from->len, to->slice, to->len)
-                                  : word_read(rate, from->slice, from->len, to->slice, to->len);
+    const uint64_t answer =
+        write ? mahyrei_word_write(rate, from->slice, from->len, to->slice, to->len)
+              : mahyrei_word_read(rate, from->slice, from->len, to->slice, to->len);
     protect(from, PROT_READ | PROT_WRITE);
-    met[answer_number(answer)]++;
+    met[mahyrei_answer_number(answer)]++;
 
-    CHECK(rate, memcmp(from->page, from->before, PAGE) == 0);
+    CHECK_FOR(rate, memcmp(from->page, from->before, PAGE) == 0);
     const bool accepted = answer == MAHYREI_ACCEPTED;
-    CHECK(rate, memcmp(to->page, to->before, accepted ? PAGE - to->len : PAGE) == 0);
+    CHECK_FOR(rate, memcmp(to->page, to->before, accepted ? PAGE - to->len : PAGE) == 0);
     return answer;
 }
 
@@ -139,15 +108,15 @@ static void ones_block(uint8_t *block, size_t len) {
 }
 
 static void write_word(uint64_t rate, const uint8_t *block, uint8_t *word) {
-    lend_copy(&lent_block, block, word_block_bytes(rate));
+    lend_copy(&lent_block, block, mahyrei_word_block_bytes(rate));
     lend(&lent_word, MAHYREI_WORD_BYTES);
-    CHECK(rate, call(true, rate) == MAHYREI_ACCEPTED);
+    CHECK_FOR(rate, call(true, rate) == MAHYREI_ACCEPTED);
     memcpy(word, lent_word.slice, MAHYREI_WORD_BYTES);
 }
 
 static uint64_t read_word(uint64_t rate, const uint8_t *word) {
     lend_copy(&lent_word, word, MAHYREI_WORD_BYTES);
-    lend(&lent_block, word_block_bytes(rate));
+    lend(&lent_block, mahyrei_word_block_bytes(rate));
     return call(false, rate);
 }
 
@@ -171,7 +140,7 @@ static void flip_coded(uint8_t *word, size_t coded_place) {
 
 /* Input bits of the convolutional code: the block, its check and two termination bits. */
 static size_t input_bits(uint64_t rate) {
-    return word_block_bytes(rate) * 8 - 2 + CHECK_BITS + 2;
+    return mahyrei_word_block_bytes(rate) * 8 - 2 + CHECK_BITS + 2;
 }
 
 /* The first coded place of input bit i: of its first output where that is kept, else its second. */
@@ -209,7 +178,7 @@ static uint64_t fnv1a(const uint8_t *bytes, size_t len) {
 }
 
 /* Words made alike by two programs with no common code, tests/second/word.rs and
- * bench/plain_word.c. */
+ * reference/word.c. */
 static const struct {
     uint64_t rate;
     void (*make)(uint8_t *block, size_t len);
@@ -267,13 +236,13 @@ static void test_known_words(void) {
     uint8_t block[MAHYREI_BLOCK_BYTES_MAX], word[MAHYREI_WORD_BYTES];
     for (size_t i = 0; i < sizeof KNOWN_WORDS / sizeof KNOWN_WORDS[0]; i++) {
         const uint64_t rate = KNOWN_WORDS[i].rate;
-        KNOWN_WORDS[i].make(block, word_block_bytes(rate));
+        KNOWN_WORDS[i].make(block, mahyrei_word_block_bytes(rate));
         write_word(rate, block, word);
-        CHECK(rate, memcmp(word, KNOWN_WORDS[i].first, 8) == 0);
-        CHECK(rate, memcmp(word + MAHYREI_WORD_BYTES - 8, KNOWN_WORDS[i].last, 8) == 0);
-        CHECK(rate, fnv1a(word, MAHYREI_WORD_BYTES) == KNOWN_WORDS[i].fnv1a);
-        CHECK(rate, read_word(rate, word) == MAHYREI_ACCEPTED);
-        CHECK(rate, block_is(block));
+        CHECK_FOR(rate, memcmp(word, KNOWN_WORDS[i].first, 8) == 0);
+        CHECK_FOR(rate, memcmp(word + MAHYREI_WORD_BYTES - 8, KNOWN_WORDS[i].last, 8) == 0);
+        CHECK_FOR(rate, fnv1a(word, MAHYREI_WORD_BYTES) == KNOWN_WORDS[i].fnv1a);
+        CHECK_FOR(rate, read_word(rate, word) == MAHYREI_ACCEPTED);
+        CHECK_FOR(rate, block_is(block));
     }
 }
 
@@ -294,36 +263,36 @@ static const struct {
 
 static void test_known_refusals(uint64_t rate) {
     uint8_t block[MAHYREI_BLOCK_BYTES_MAX], word[MAHYREI_WORD_BYTES];
-    counting_block(block, word_block_bytes(rate));
+    counting_block(block, mahyrei_word_block_bytes(rate));
     for (size_t i = 0; i < sizeof KNOWN_REFUSALS / sizeof KNOWN_REFUSALS[0]; i++) {
         write_word(rate, block, word);
         for (size_t place = KNOWN_REFUSALS[i].first; place <= KNOWN_REFUSALS[i].last; place++) {
             flip(word, place);
         }
-        CHECK(rate, read_word(rate, word) == KNOWN_REFUSALS[i].place[rate] * 256 + 13);
+        CHECK_FOR(rate, read_word(rate, word) == KNOWN_REFUSALS[i].place[rate] * 256 + 13);
     }
     memset(word, 0, sizeof word); /* coded bits of zeros, and so an input of zeros: no check */
-    CHECK(rate, read_word(rate, word) == MAHYREI_BAD_CHECK);
+    CHECK_FOR(rate, read_word(rate, word) == MAHYREI_BAD_CHECK);
     memset(word, 0xFF, sizeof word);
-    CHECK(rate, read_word(rate, word) == 13);
+    CHECK_FOR(rate, read_word(rate, word) == 13);
 }
 
 static void test_round_trips(uint64_t rate) {
     uint8_t block[MAHYREI_BLOCK_BYTES_MAX], word[MAHYREI_WORD_BYTES], again[MAHYREI_WORD_BYTES];
     for (int i = 0; i < 200; i++) {
-        fill_random(block, word_block_bytes(rate));
+        fill_random(block, mahyrei_word_block_bytes(rate));
         write_word(rate, block, word);
-        CHECK(rate, read_word(rate, word) == MAHYREI_ACCEPTED);
-        CHECK(rate, block_is(block));
+        CHECK_FOR(rate, read_word(rate, word) == MAHYREI_ACCEPTED);
+        CHECK_FOR(rate, block_is(block));
         write_word(rate, block, again); /* over other bytes */
-        CHECK(rate, memcmp(word, again, sizeof word) == 0);
+        CHECK_FOR(rate, memcmp(word, again, sizeof word) == 0);
     }
 }
 
 /* The sum of three words is the word of the sum of their blocks, whatever the spare bits of the
  * four: those of the fourth need not be the sums. */
 static void test_sums(uint64_t rate) {
-    const size_t len = word_block_bytes(rate);
+    const size_t len = mahyrei_word_block_bytes(rate);
     for (int i = 0; i < 30; i++) {
         uint8_t sum_block[MAHYREI_BLOCK_BYTES_MAX] = {0}, sum[MAHYREI_WORD_BYTES] = {0};
         uint8_t block[MAHYREI_BLOCK_BYTES_MAX], word[MAHYREI_WORD_BYTES];
@@ -339,31 +308,32 @@ static void test_sums(uint64_t rate) {
         }
         sum_block[len - 1] = (uint8_t)(sum_block[len - 1] ^ random_below(4));
         write_word(rate, sum_block, word);
-        CHECK(rate, memcmp(word, sum, sizeof word) == 0);
-        CHECK(rate, read_word(rate, sum) == MAHYREI_ACCEPTED);
-        CHECK(rate, block_is(sum_block));
+        CHECK_FOR(rate, memcmp(word, sum, sizeof word) == 0);
+        CHECK_FOR(rate, read_word(rate, sum) == MAHYREI_ACCEPTED);
+        CHECK_FOR(rate, block_is(sum_block));
     }
 }
 
 /* 13, at a place where the re-encoding can differ, which no second output is; or 14. */
 static bool refused_before_check(uint64_t rate, uint64_t answer) {
-    const uint64_t place = answer_place(answer);
+    const uint64_t place = mahyrei_answer_place(answer);
     const bool second_output = rate == MAHYREI_RATE_1_3   ? place % 3 == 1
                                : rate == MAHYREI_RATE_1_2 ? place % 2 == 1
                                                           : place % 3 != 0;
-    return answer == MAHYREI_BAD_TERMINATION || (answer_number(answer) == MAHYREI_BAD_CODE &&
-                                                 place < MAHYREI_WORD_BITS && !second_output);
+    return answer == MAHYREI_BAD_TERMINATION ||
+           (mahyrei_answer_number(answer) == MAHYREI_BAD_CODE && place < MAHYREI_WORD_BITS &&
+            !second_output);
 }
 
 static void test_flips(uint64_t rate) {
     uint8_t block[MAHYREI_BLOCK_BYTES_MAX], word[MAHYREI_WORD_BYTES];
-    fill_random(block, word_block_bytes(rate));
+    fill_random(block, mahyrei_word_block_bytes(rate));
     write_word(rate, block, word);
     for (size_t place = 0; place < MAHYREI_WORD_BITS; place++) {
         const bool near_an_end = place < 64 || place >= MAHYREI_WORD_BITS - 64;
         if (near_an_end || place % 5 == rate) {
             flip(word, place);
-            CHECK(rate, refused_before_check(rate, read_word(rate, word)));
+            CHECK_FOR(rate, refused_before_check(rate, read_word(rate, word)));
             flip(word, place);
         }
     }
@@ -380,11 +350,11 @@ static void test_flips(uint64_t rate) {
                     flip(damaged, place);
                 }
             }
-            CHECK(rate, refused_before_check(rate, read_word(rate, damaged)));
+            CHECK_FOR(rate, refused_before_check(rate, read_word(rate, damaged)));
         }
     }
-    CHECK(rate, read_word(rate, word) == MAHYREI_ACCEPTED);
-    CHECK(rate, block_is(block));
+    CHECK_FOR(rate, read_word(rate, word) == MAHYREI_ACCEPTED);
+    CHECK_FOR(rate, block_is(block));
 }
 
 /* What reading answers when one coded bit is wrong: output 0, 1 or 2 of input bit i. */
@@ -400,7 +370,7 @@ static uint64_t one_wrong(uint64_t rate, size_t i, int output) {
 
 static void test_coded_flips(uint64_t rate) {
     uint8_t block[MAHYREI_BLOCK_BYTES_MAX], word[MAHYREI_WORD_BYTES];
-    fill_random(block, word_block_bytes(rate));
+    fill_random(block, mahyrei_word_block_bytes(rate));
     write_word(rate, block, word);
     for (size_t i = 0; i < input_bits(rate); i++) {
         if (i % 41 != 0 && i > 3 && i + 4 < input_bits(rate)) {
@@ -412,7 +382,7 @@ static void test_coded_flips(uint64_t rate) {
                               (output == 0 && (rate != MAHYREI_RATE_2_3 || i % 2 == 0));
             if (kept) {
                 flip_coded(word, place);
-                CHECK(rate, read_word(rate, word) == one_wrong(rate, i, output));
+                CHECK_FOR(rate, read_word(rate, word) == one_wrong(rate, i, output));
                 flip_coded(word, place);
                 place++;
             }
@@ -424,30 +394,30 @@ static void test_coded_flips(uint64_t rate) {
 static void test_wrong_inputs(uint64_t rate) {
     uint8_t block[MAHYREI_BLOCK_BYTES_MAX], word[MAHYREI_WORD_BYTES];
     const size_t n = input_bits(rate), check_start = n - 2 - CHECK_BITS;
-    fill_random(block, word_block_bytes(rate));
+    fill_random(block, mahyrei_word_block_bytes(rate));
     write_word(rate, block, word);
 
     flip_input(rate, word, n - 1);
-    CHECK(rate, read_word(rate, word) == MAHYREI_BAD_TERMINATION);
+    CHECK_FOR(rate, read_word(rate, word) == MAHYREI_BAD_TERMINATION);
     flip_input(rate, word, n - 2);
-    CHECK(rate, read_word(rate, word) == MAHYREI_BAD_TERMINATION);
+    CHECK_FOR(rate, read_word(rate, word) == MAHYREI_BAD_TERMINATION);
     flip_input(rate, word, n - 1);
-    CHECK(rate, read_word(rate, word) == MAHYREI_BAD_TERMINATION);
+    CHECK_FOR(rate, read_word(rate, word) == MAHYREI_BAD_TERMINATION);
     flip_input(rate, word, check_start);
-    CHECK(rate, read_word(rate, word) == MAHYREI_BAD_TERMINATION);
+    CHECK_FOR(rate, read_word(rate, word) == MAHYREI_BAD_TERMINATION);
     flip_coded(word, 6); /* a first output at each rate */
-    CHECK(rate, read_word(rate, word) == 6 * 256 + MAHYREI_BAD_CODE);
+    CHECK_FOR(rate, read_word(rate, word) == 6 * 256 + MAHYREI_BAD_CODE);
     flip_coded(word, 6);
     flip_input(rate, word, n - 2);
-    CHECK(rate, read_word(rate, word) == MAHYREI_BAD_CHECK);
+    CHECK_FOR(rate, read_word(rate, word) == MAHYREI_BAD_CHECK);
     flip_input(rate, word, check_start);
-    CHECK(rate, read_word(rate, word) == MAHYREI_ACCEPTED);
-    CHECK(rate, block_is(block));
+    CHECK_FOR(rate, read_word(rate, word) == MAHYREI_ACCEPTED);
+    CHECK_FOR(rate, block_is(block));
 
     for (size_t i = 0; i < n - 2; i++) {
         if (i % 101 == 0 || i + 1 == check_start || i >= check_start) {
             flip_input(rate, word, i);
-            CHECK(rate, read_word(rate, word) == MAHYREI_BAD_CHECK);
+            CHECK_FOR(rate, read_word(rate, word) == MAHYREI_BAD_CHECK);
             flip_input(rate, word, i);
         }
     }
@@ -469,16 +439,16 @@ static void flip_window(uint64_t rate, uint8_t *word, size_t start, size_t width
  * flips over 33 bits, which are the check's polynomial, make the word of another block. */
 static void test_check_windows(uint64_t rate) {
     static const size_t POLYNOMIAL[] = {0, 3, 14, 18, 29, 32}, WIDTHS[] = {1, 2, 32};
-    const size_t k = word_block_bytes(rate) * 8 - 2;
+    const size_t k = mahyrei_word_block_bytes(rate) * 8 - 2;
     const size_t starts[] = {0,     1, k - 33, k - 32, k - 31, k - 16,         k - 2,
                              k - 1, k, k + 1,  k + 16, k + 31, random_below(k)};
     uint8_t block[MAHYREI_BLOCK_BYTES_MAX], word[MAHYREI_WORD_BYTES];
-    fill_random(block, word_block_bytes(rate));
+    fill_random(block, mahyrei_word_block_bytes(rate));
     for (size_t i = 0; i < sizeof starts / sizeof starts[0]; i++) {
         for (size_t j = 0; j < sizeof WIDTHS / sizeof WIDTHS[0]; j++) {
             write_word(rate, block, word);
             flip_window(rate, word, starts[i], WIDTHS[j]);
-            CHECK(rate, read_word(rate, word) == MAHYREI_BAD_CHECK);
+            CHECK_FOR(rate, read_word(rate, word) == MAHYREI_BAD_CHECK);
         }
     }
     for (size_t start = 0; start < k; start += k - 1) {
@@ -486,18 +456,18 @@ static void test_check_windows(uint64_t rate) {
         for (size_t i = 0; i < sizeof POLYNOMIAL / sizeof POLYNOMIAL[0]; i++) {
             flip_input(rate, word, start + POLYNOMIAL[i]);
         }
-        CHECK(rate, read_word(rate, word) == MAHYREI_ACCEPTED);
-        CHECK(rate, !block_is(block));
+        CHECK_FOR(rate, read_word(rate, word) == MAHYREI_ACCEPTED);
+        CHECK_FOR(rate, !block_is(block));
     }
 }
 
 static void test_other_rate(uint64_t rate) {
     uint8_t block[MAHYREI_BLOCK_BYTES_MAX], word[MAHYREI_WORD_BYTES];
-    fill_random(block, word_block_bytes(rate));
+    fill_random(block, mahyrei_word_block_bytes(rate));
     write_word(rate, block, word);
     for (uint64_t other = 0; other < RATES; other++) {
         const unsigned number = other == rate ? MAHYREI_ACCEPTED : MAHYREI_BAD_CODE;
-        CHECK(other, answer_number(read_word(other, word)) == number);
+        CHECK_FOR(other, mahyrei_answer_number(read_word(other, word)) == number);
     }
 }
 
@@ -513,20 +483,20 @@ static void test_refused_rates(void) {
     for (size_t i = 0; i < sizeof WRONG / sizeof WRONG[0]; i++) {
         for (int write = 0; write < 2; write++) {
             for (uint64_t like = 0; like < RATES; like++) {
-                lend(&lent_block, word_block_bytes(like));
+                lend(&lent_block, mahyrei_word_block_bytes(like));
                 lend(&lent_word, MAHYREI_WORD_BYTES);
-                CHECK(WRONG[i], call(write, WRONG[i]) == MAHYREI_BAD_RATE);
+                CHECK_FOR(WRONG[i], call(write, WRONG[i]) == MAHYREI_BAD_RATE);
             }
             lend_null(&lent_block);
             lend_null(&lent_word);
-            CHECK(WRONG[i], call(write, WRONG[i]) == MAHYREI_BAD_RATE);
+            CHECK_FOR(WRONG[i], call(write, WRONG[i]) == MAHYREI_BAD_RATE);
         }
     }
 }
 
 /* Question 8 comes before those on the bits: the word is random. */
 static void test_refused_lengths(uint64_t rate) {
-    const size_t block_len = word_block_bytes(rate), word_len = MAHYREI_WORD_BYTES;
+    const size_t block_len = mahyrei_word_block_bytes(rate), word_len = MAHYREI_WORD_BYTES;
     const size_t lengths[] = {0,
                               1,
                               block_len - 1,
@@ -548,31 +518,31 @@ static void test_refused_lengths(uint64_t rate) {
             }
             lend(&lent_block, block);
             lend(&lent_word, word);
-            CHECK(rate, call(write, rate) == MAHYREI_BAD_LENGTH);
+            CHECK_FOR(rate, call(write, rate) == MAHYREI_BAD_LENGTH);
         }
         lend_null(&lent_block);
         lend(&lent_word, word_len);
-        CHECK(rate, call(write, rate) == MAHYREI_BAD_LENGTH);
+        CHECK_FOR(rate, call(write, rate) == MAHYREI_BAD_LENGTH);
         lend(&lent_block, block_len);
         lend_null(&lent_word);
-        CHECK(rate, call(write, rate) == MAHYREI_BAD_LENGTH);
+        CHECK_FOR(rate, call(write, rate) == MAHYREI_BAD_LENGTH);
         lend_null(&lent_block);
-        CHECK(rate, call(write, rate) == MAHYREI_BAD_LENGTH);
+        CHECK_FOR(rate, call(write, rate) == MAHYREI_BAD_LENGTH);
     }
 }
 
 /* All four contents of the spare bits give one word, and reading it gives zeros there. */
 static void test_spare_bits(uint64_t rate) {
     uint8_t block[MAHYREI_BLOCK_BYTES_MAX], words[4][MAHYREI_WORD_BYTES];
-    const size_t last = word_block_bytes(rate) - 1;
+    const size_t last = mahyrei_word_block_bytes(rate) - 1;
     for (int i = 0; i < 50; i++) {
         fill_random(block, last + 1);
         for (size_t spare = 0; spare < 4; spare++) {
             block[last] = (uint8_t)((block[last] & 0xFC) | spare);
             write_word(rate, block, words[spare]);
-            CHECK(rate, memcmp(words[spare], words[0], MAHYREI_WORD_BYTES) == 0);
-            CHECK(rate, read_word(rate, words[spare]) == MAHYREI_ACCEPTED);
-            CHECK(rate, block_is(block));
+            CHECK_FOR(rate, memcmp(words[spare], words[0], MAHYREI_WORD_BYTES) == 0);
+            CHECK_FOR(rate, read_word(rate, words[spare]) == MAHYREI_ACCEPTED);
+            CHECK_FOR(rate, block_is(block));
         }
     }
 }
@@ -584,10 +554,10 @@ static void test_every_number_met(void) {
         total += met[i];
     }
     for (size_t i = 0; i < sizeof NUMBERS / sizeof NUMBERS[0]; i++) {
-        CHECK(NUMBERS[i], met[NUMBERS[i]] > 0);
+        CHECK_FOR(NUMBERS[i], met[NUMBERS[i]] > 0);
         expected += met[NUMBERS[i]];
     }
-    CHECK(0, total == expected);
+    CHECK_FOR(0, total == expected);
     printf("word_calls: %lu calls, %lu checks, %lu failed\n", total, checks, failures);
 }
 

@@ -1,5 +1,5 @@
 # batch: many runs of a list.
-# shellcheck shell=bash disable=SC2034,SC2154
+# shellcheck shell=bash
 
 # Six runs, written; `list` as tabs, `made` has their slots as `write` makes them.
 begin_batch() {
@@ -20,7 +20,7 @@ batched() {
     wanted+=" $5 failed, $6 left"
     shift 6
     run "$status" batch "$@"
-    same "what batch $* says" "$wanted" "$err"
+    same "what batch $* says in the end" "$wanted" "$(tail -n 1 "$said/err")"
 }
 
 # made_all: the six outputs are there
@@ -65,21 +65,38 @@ test_batch() {
     batched 0 0 6 0 0 0 list
     same 'no line for what was done' 6 "$(wc -l <list.results)"
     same 'what is done is left alone' "$before" "$(stat -c '%n %i %Y' s? | xargs)"
-    # What is no longer as the results say is made again.
+    # What is no longer as the results say is made again: what is gone, and what the list itself has
+    # written and whose input is another. What others have written is not replaced unasked.
     printf x >>s1
     rm s2
     printf '\x01' | dd of=s3 bs=1 seek=100 conv=notrunc 2>"$said/err"
     cp f5 f4
     cp made/s5 made/s4
-    batched 0 4 2 0 0 0 --jobs 1 list
+    cp s1 kept1
+    cp s3 kept3
+    batched 2 2 2 0 2 0 --jobs 1 list
+    alike 'an output that was changed' kept1 s1
+    alike 'another that was changed' kept3 s3
+    has 'why it is left alone' 's1: this file is there already; --force replaces it' \
+        "$(<list.results)"
+    batched 0 2 4 0 0 0 --force list
     made_all
     honest list.results
     batched 0 0 6 0 0 0 list
     sed -i 's/05000C0309/05000C030A/' list # another marker
     batched 0 6 0 0 0 0 list
     same 'with another marker' no "$(cmp -s s1 made/s1 || echo no)"
+    # Without results, an output that has the very bytes is done.
     rm list.results
+    before=$(stat -c '%n %i %Y' s? | xargs)
     batched 0 6 0 0 0 0 list
+    same 'outputs that are as they should be' "$before" "$(stat -c '%n %i %Y' s? | xargs)"
+    # Another file is not replaced.
+    rm list.results
+    echo old >s1
+    batched 2 5 0 0 1 0 list
+    same 'a file that no result speaks of' old "$(<s1)"
+    batched 0 1 5 0 0 0 -f list
     run 0 --quiet batch list
     same 'nothing is said' '' "$err"
 }
@@ -98,7 +115,7 @@ test_batch_goes_on() {
         alike "output $run beside a refusal" "made/s$run" "s$run"
     done
     same 'no output of the others' '' "$(ls s2 s4 2>/dev/null)"
-    has 'the refusal' '"number": 8, "place": 0, "sentence": "A lent slice is' "$(<list.results)"
+    has 'the refusal' '"number": 8, "place": 0, "sentence": "The marker or the frames are' "$(<list.results)"
     has 'what is said of it' 'f2: the frames have 5 bytes' "$(<list.results)"
     has 'the failure' 'f4: No such file or directory' "$(<list.results)"
     honest list.results
@@ -116,11 +133,27 @@ test_batch_goes_on() {
     batched 2 0 5 0 1 0 list
     mv away f3
     batched 0 1 5 0 0 0 list
+    # NUL bytes in the place of a line, as a power cut leaves them, end nothing: the lines before and
+    # after them count.
+    cp list.results whole
+    {
+        head -n 3 whole
+        head -c 300 /dev/zero
+        echo
+        tail -n +4 whole
+        head -c 4096 /dev/zero
+    } >list.results
+    batched 0 0 6 0 0 0 list
+    rm s5
+    batched 0 1 5 0 0 0 list
+    same 'the line after NUL bytes' 1 "$(tail -n 1 list.results | tr -d '\0' | grep -c '^{.*}$')"
+    batched 0 0 6 0 0 0 list
+    cp whole list.results
     # A line that was cut off in the middle is none, and none is joined to it.
     head -c -20 list.results >rest
     mv rest list.results
     batched 0 1 5 0 0 0 list
-    same 'the line behind a broken one' 1 "$(tail -n 1 list.results | grep -c '^{.*}$')"
+    same 'the line after a broken one' 1 "$(tail -n 1 list.results | grep -c '^{.*}$')"
     batched 0 0 6 0 0 0 list
     # One whose line is missing in the log has failed, although its output is there.
     rm list.results
@@ -192,6 +225,19 @@ test_batch_wrong_lists() {
     unharmed 2 'line 2 of the list: it names the list, its results or the log' batch list --log f2
     unharmed 2 'have to be different files' batch list --results list
     unharmed 2 'have to be different files' batch list --results results --log results
+    ln list linked
+    ln f1 linked.f1
+    unharmed 2 'have to be different files' batch list --results linked
+    unharmed 2 'have to be different files' batch list --log linked
+    unharmed 2 'line 1 of the list: it names the list, its results or the log' \
+        batch list --results linked.f1
+    unharmed 2 'line 1 of the list: it names the list, its results or the log' \
+        batch list --log linked.f1
+    cp list listed
+    "$mahyrei" batch - <list >>linked 2>"$said/err"
+    same 'status of a list that gets its own results' 2 $?
+    alike 'that list' listed list
+    rm linked linked.f1 listed
     unharmed 2 'results go to a file' batch list --results /dev/full
     unharmed 2 'directory: Is a directory' batch list --results directory
     unharmed 2 'none: No such file' batch none
@@ -211,7 +257,7 @@ once_batch_faults() {
     same 'no claim' 0 "$(grep -c '"status": 0' list.results)"
     has 'what failed' ': No space left on device"' "$(<list.results)"
     same 'no sentence that says otherwise' 0 "$(grep -c 'All is well' list.results)"
-    prefix=(env LD_PRELOAD="$faults" FAULT=fsync:1:5)
+    prefix=(env LD_PRELOAD="$faults" FAULT=fsync:2:5) # after the folder of the results
     run 2 batch list
     has 'a disk that fails' ' 6 failed, 0 left' "$err"
     has 'a disk that fails' 'list.results: Input/output error' "$err"
@@ -221,6 +267,23 @@ once_batch_faults() {
     honest list.results
     prefix=()
     batched 0 0 6 0 0 0 list
+    prefix=(env LD_PRELOAD="$faults" FAULT=setlk:1:37)
+    run 2 batch list
+    has 'results that cannot be locked' 'list.results: this file cannot be locked: No locks available' \
+        "$err"
+    same 'nobody else is blamed' 0 "$(grep -c 'another batch' "$said/err")"
+    rm list.results
+    prefix=(env LD_PRELOAD="$faults" FAULT=fsync:1:5)
+    run 2 batch list
+    has 'results whose name does not get to the disk' 'list.results: Input/output error' "$err"
+    prefix=()
+    batched 0 6 0 0 0 0 list
+    # Results that others add lines to, too, as under GNU parallel.
+    head -c -20 list.results >torn
+    tail -n 1 list >one
+    rm s6
+    "$mahyrei" batch - <one >>torn 2>"$said/err"
+    same 'a line after a broken one, on standard output' 1 "$(tail -n 1 torn | grep -c '^{.*}$')"
     if ! command -v python3 >"$said/out"; then
         echo 'command: no python3 here; digests and locks of results are not looked at'
         return
@@ -319,9 +382,9 @@ once_batch_killed() {
     # One of its runs is killed; it may just have ended.
     for ((try = 0; try < 20; try++)); do
         halted "$count"
-        # shellcheck disable=SC2086
+        # shellcheck disable=SC2086  # several words are meant
         kill -KILL ${children%% *}
-        # shellcheck disable=SC2086
+        # shellcheck disable=SC2086  # several words are meant
         kill -CONT ${children#* } "$batch" 2>/dev/null
         wait "$batch"
         status=$?
@@ -334,13 +397,13 @@ once_batch_killed() {
     batched 0 1 "$((count - 1))" 0 0 0 list
 }
 
-# The same list under GNU parallel, as README has it but on this machine, and as tasks of Slurm.
+# The same list under GNU parallel, as the manual has it but on this machine, and as tasks of Slurm.
 once_batch_elsewhere() {
     begin_batch
     local line PATH=$folder/bin:$PATH
-    # shellcheck disable=SC2016
-    line=$(sed -n 's/^    \(sed -n "\${SLURM_ARRAY_TASK_ID}p" .*\)/\1/p' "$root/README.md")
-    same 'the line of a task in README' yes "$([ -n "$line" ] && echo yes)"
+    # shellcheck disable=SC2016  # the manual has it so
+    line=$(sed -n 's/^    \(sed -n "\${SLURM_ARRAY_TASK_ID}p" .*\)/\1/p' "$root/docs/manual/batch.md")
+    same 'the line of a task in the manual' yes "$([ -n "$line" ] && echo yes)"
     for task in 1 2 3 4 5 6 7; do
         SLURM_ARRAY_TASK_ID=$task bash -c "$line" 2>"$said/err"
         same "status of task $task" 0 $?
@@ -353,12 +416,91 @@ once_batch_elsewhere() {
         echo 'command: no GNU parallel here; the list is not tried under it'
         return
     fi
-    line=$(sed -n 's/^    \(parallel .*\)/\1/p' "$root/README.md")
-    same 'the line of parallel in README' yes "$([[ $line == *rack1,rack2* ]] && echo yes)"
+    line=$(sed -n 's/^    \(parallel .*\)/\1/p' "$root/docs/manual/batch.md")
+    same 'the line of parallel in the manual' yes "$([[ $line == *rack1,rack2* ]] && echo yes)"
     mkdir home
     HOME=$work/home bash -c "${line/rack1,rack2/2\/:}" 2>"$said/err" </dev/null
     same 'status of parallel' 0 $?
     made_all
     same 'lines of results' 6 "$(grep -c '"status": 0' list.results)"
     batched 0 0 6 0 0 0 list
+}
+
+# Lines that begin with #, and runs that are refused or fail, which are named.
+test_batch_remarks() {
+    begin
+    damage lose 7000
+    printf '# the runs of Monday\n\nread\t%s\t%s\tslots\tone\n  # and a damaged one\n' "$header" "$marker" >list
+    printf 'read\t%s\t%s\tdamaged\ttwo\nread\t%s\t%s\tnone\tthree\n' "$header" "$marker" "$header" "$marker" >>list
+    run 2 batch --jobs 1 list
+    alike 'the run among remarks' frames one
+    has 'a refused run' "mahyrei: line 5 of the list: refused, number 10, place 7000: $(sentence 10)"$'\n' "$err"
+    has 'a run that failed' 'mahyrei: line 6 of the list: none: No such file' "$err"
+    has 'the counts' '3 runs: 1 done, 0 done before, 1 refused, 1 failed, 0 left' "$err"
+    same 'lines of all that' 3 "$(wc -l <"$said/err")"
+    run 2 -q batch --jobs 1 list
+    has 'a refused run, quietly' 'mahyrei: line 5 of the list: refused, number 10' "$err"
+    same 'lines of that' 2 "$(wc -l <"$said/err")"
+}
+
+# Every kind of run that a list can have: made, told in the results, and left out the next time.
+test_batch_kinds() {
+    begin
+    local run
+    capture 13 5 1
+    head -c 1882 <(yes 'blocks of a pass') >blocks
+    head -c 16 frames >commands
+    "$mahyrei" -q pass-write 1/2 blocks words
+    "$mahyrei" -qf pass-read 1/2 words blocks # with spare bits of zero
+    "$mahyrei" -q uplink-write commands pulses
+    {
+        printf 'write\t%s\t%s\tframes\tmade.slots\n' "$header" "$marker"
+        printf 'verify\t%s\t%s\tslots\n' "$header" "$marker"
+        printf 'read\t--capture\t%s\t%s\tcapture\tmade.frames\n' "$header" "$marker"
+        printf 'verify\t--capture\t%s\t%s\tcapture\n' "$header" "$marker"
+        printf 'pass-write\t1/2\tblocks\tmade.words\npass-read\t1/2\twords\tmade.blocks\n'
+        printf 'uplink-write\tcommands\tmade.pulses\nuplink-read\tpulses\tmade.commands\n'
+    } >list
+    {
+        printf '{"run": "read", "header": "%s", "marker": "%s", "capture": "capture", "frames": "json.frames"}\n' "$header" "$marker"
+        printf '{"run": "verify", "header": "%s", "marker": "%s", "slots": "made.slots"}\n' "$header" "$marker"
+        printf '{"run": "pass-read", "rate": "1/2", "words": "words", "blocks": "json.blocks"}\n'
+        printf '{"run": "uplink-read", "slots": "pulses", "frames": "json.commands"}\n'
+    } >json
+    batched 0 8 0 0 0 0 list
+    batched 0 4 0 0 0 0 json
+    for run in frames slots words blocks pulses commands; do
+        alike "the $run of a list" "$run" "made.$run"
+    done
+    for run in frames blocks commands; do
+        alike "the $run of a list of JSON" "$run" "json.$run"
+    done
+    has 'a run in a capture' "\"slot\": \"13\"" "$(grep '"run": "read"' list.results)"
+    has 'a pass' "\"rate\": \"1/2\", \"blocks\": \"blocks\", \"words\": \"made.words\", \"blocks_bytes\": 1882" "$(<list.results)"
+    batched 0 0 8 0 0 0 list
+    batched 0 0 4 0 0 0 json
+    # What is another now is made again, and nothing else.
+    head -c 1882 <(yes 'other blocks') >blocks
+    batched 0 1 7 0 0 0 list
+    damage lose 7000
+    cp damaged slots
+    batched 1 0 7 1 0 0 list
+    rm made.commands
+    sed -i 's/^pass-read.1.2/pass-read\t2\/3/' list
+    run 1 batch list
+    same 'a command frame again' 16 "$(stat -c %s made.commands)"
+    has 'a pass of another rate' 'line 6 of the list: refused, number 13, place 0: ' "$err"
+    # Lines that are wrong.
+    local line
+    for line in 'verify\t00\t00' 'verify\t00\t00\tslots\tout' 'write\t--capture\t00\t00\tframes\tout' \
+        'pass-write\tblocks\tout' 'uplink-read\t1/2\tslots\tout' 'read\t--capture\t00\t00\tslots' \
+        'scan\t00\t00\tslots' '{"run": "pass-write", "blocks": "blocks", "words": "out"}'; do
+        printf '%b\n' "$line" >wrong
+        run 2 batch wrong
+        has "a line that is wrong: $line" 'line 1 of the list: ' "$err"
+        rm -f wrong.results
+    done
+    printf 'pass-write\t1/2\tblocks\tout\npass-read\t1/2\tout\tback\n' >wrong
+    run 2 batch wrong
+    has 'a file that is written and read' 'it names a file that another run writes' "$err"
 }

@@ -1,5 +1,5 @@
 # Runs whose symbols are sent several times.
-# shellcheck shell=bash disable=SC2034,SC2154
+# shellcheck shell=bash
 
 # factor K: the header with this factor
 factor() {
@@ -12,14 +12,14 @@ test_copies() {
     for copies in 1 2 3 4 8 16 32; do
         local size=$(((11355 * copies * 20 + 7) / 8))
         h=$(factor "$copies")
-        run 0 write "$h" "$marker" frames out
+        run 0 write -f "$h" "$marker" frames out
         logged "$said/err" "write header=$h marker=5 frames=1500 slots=$size answer=0 place=0 status=0"
         same "slot bytes of $copies copies" "$size" "$(stat -c %s out)"
-        run 0 read "$h" "$marker" out back
+        run 0 read -f "$h" "$marker" out back
         alike "frames of $copies copies" frames back
         run 0 verify "$h" "$marker" out
     done
-    run 0 write "$(factor 1)" "$marker" frames out
+    run 0 write -f "$(factor 1)" "$marker" frames out
     alike 'one copy' slots out
     h=$(factor 3)
     run 0 write "$h" "$marker" frames tripled
@@ -78,7 +78,7 @@ test_copies_captured() {
     logged "$said/err" "cut header=$h marker=- frames=- slots=56775 capture=$(stat -c %s capture) \
 slot=13 answer=0 place=0 status=0"
     says "capture: the run has 454200 slots, and from slot 100000 on the capture has $((
-        8 * $(stat -c %s capture) - 100000))" cut "$h" capture 100000 out
+        8 * $(stat -c %s capture) - 100000))" cut -f "$h" capture 100000 out
     says "$h: symbols are sent 2 times, and the search takes them to be sent once" \
         find "$h" "$marker" capture
     run 0 -q find "$h" "$marker" slots # whatever the factor is
@@ -86,7 +86,7 @@ slot=13 answer=0 place=0 status=0"
     for words in 'read --capture' 'verify --capture'; do
         local to=out
         [ "$words" = 'read --capture' ] || to=
-        # shellcheck disable=SC2086
+        # shellcheck disable=SC2086  # several words are meant
         unharmed 2 "$h: a run that is found in a capture has symbols that are sent once" \
             $words "$h" "$marker" capture $to
     done
@@ -97,14 +97,14 @@ slot=- answer=- place=- status=2"
     has 'a header from standard input' 'standard input: a run that is found' "$err"
 }
 
-# What is wrong in a capture, over the copies: what run_read says is what is counted.
+# What is wrong in a capture, over the copies: what mahyrei_run_read says is what is counted.
 test_copies_inspected() {
     begin
     local h
     h=$(factor 3)
     "$mahyrei" -q write "$h" "$marker" frames sent
     inspected() {
-        run "$1" inspect "$h" "$marker" damaged --svg picture.svg
+        run "$1" inspect -f "$h" "$marker" damaged --svg picture.svg
         same 'counts of the report' "$2" \
             "$(sed -n '/^How many/,/^$/ s/.* \([0-9]*\) of [0-9]*$/\1/p' "$said/out" | xargs)"
         same 'nothing else is said' '' "$err"

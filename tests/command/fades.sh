@@ -1,5 +1,5 @@
 # Fades over a run: the counts of the words, other rows and steps, and the picture.
-# shellcheck shell=bash disable=SC2034,SC2154
+# shellcheck shell=bash
 
 # The planner's question: 13 words of 3780 symbols, with these rows and steps.
 planned() {
@@ -136,7 +136,7 @@ test_fades_refused() {
     has 'an old header' 'mahyrei widen OLD NEW' "$err"
     unharmed 2 'number of operands' fades "$three"
     unharmed 2 'operand too many' fades "$three" list list
-    unharmed 2 'no-clobber: this command has no such option' fades -n "$three" list
+    unharmed 2 'capture: this command has no such option' fades --capture "$three" list
 }
 
 test_fades_tried() {
@@ -208,7 +208,7 @@ test_fades_picture() {
     begin_fades
     run 0 -q fades --svg picture.svg "$(planned 21 36)" list
     has 'the table beside it' 'worst: word 0, 355 of 3780 symbols' "$(out)"
-    has 'the title' 'list: worst is word 0, 355 of 3780 symbols</text>' "$(<picture.svg)"
+    has 'the title' '>Worst is word 0, 355 of 3780 symbols: list</text>' "$(<picture.svg)"
     has 'the symbols of words' 'symbols of words that are hit: 578</text>' "$(<picture.svg)"
     has 'the others' 'markers, and places of no word, that are hit: 922</text>' "$(<picture.svg)"
     same 'a bar for each word that is hit' '0 1' \
@@ -219,17 +219,17 @@ test_fades_picture() {
         python3 -c 'import sys, xml.dom.minidom; xml.dom.minidom.parse(sys.argv[1])' picture.svg
         same 'it is XML' 0 $?
     fi
-    run 0 -q fades --svg picture.svg "$three" empty
-    has 'no fade' 'empty: no word is hit</text>' "$(<picture.svg)"
+    run 0 -q fades -f --svg picture.svg "$three" empty
+    has 'no fade' '>No word is hit: empty</text>' "$(<picture.svg)"
     same 'no bar' '' "$(grep '<title>word ' picture.svg)"
-    run 0 -q fades --svg picture.svg "$three" - <<<'0 7568'
-    has 'all of it' 'standard input: worst is word 0, 1890 of 1890 symbols' "$(<picture.svg)"
+    run 0 -q fades -f --svg picture.svg "$three" - <<<'0 7568'
+    has 'all of it' '>Worst is word 0, 1890 of 1890 symbols: standard input</text>' "$(<picture.svg)"
     echo '2 1' >$'<a & "b">\n\xFF'
-    run 0 -q fades --svg picture.svg "$three" $'<a & "b">\n\xFF'
-    has 'an escaped name' '&#60;a &#38; "b"&#62;??: worst' "$(<picture.svg)"
-    run 0 -q fades --svg picture.svg "$largest" empty
-    run 0 -q fades --try --pairs 1:1 --svg picture.svg "$three" empty
-    has 'a picture beside what was tried' 'no word is hit</text>' "$(<picture.svg)"
+    run 0 -q fades -f --svg picture.svg "$three" $'<a & "b">\n\xFF'
+    has 'an escaped name' ': &#60;a &#38; "b"&#62;??</text>' "$(<picture.svg)"
+    run 0 -q fades -f --svg picture.svg "$largest" empty
+    run 0 -q fades -f --try --pairs 1:1 --svg picture.svg "$three" empty
+    has 'a picture beside what was tried' '>No word is hit: empty</text>' "$(<picture.svg)"
     # It goes over nothing that is read, and appears whole or not at all.
     bytes "$three" >three
     cp list kept
@@ -240,7 +240,7 @@ test_fades_picture() {
         has "a picture over $name" 'this is what is looked at, and no picture goes there' "$err"
     done
     alike 'the list after that' kept list
-    unharmed 2 '--svg: a file; standard output has the report' fades --svg - "$three" list
+    unharmed 2 '-: the picture goes to a file; standard output has the report' fades --svg - "$three" list
     unharmed 2 'none/out: its folder cannot be opened' fades --svg none/out "$three" list
     unharmed 2 'directory: Is a directory' fades --svg directory "$three" list
     run 2 fades --svg /dev/full "$three" empty
@@ -287,7 +287,7 @@ once_fades_faults() {
         prefix=(env "LD_PRELOAD=$faults" "FAULT=$fault")
         unharmed 2 'mahyrei: ' fades "$three" empty
     done
-    for fault in write:1:28 fsync:1:5 close:2:5 rename:1:5 thread:1:11; do
+    for fault in write:1:28 fsync:1:5 close:1:5 rename:1:5 thread:1:11; do
         prefix=(env "LD_PRELOAD=$faults" "FAULT=$fault")
         unharmed 2 'mahyrei: ' fades --svg out "$three" empty
     done

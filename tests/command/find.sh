@@ -1,5 +1,5 @@
 # Captures that begin on any slot: find, cut, and read and verify with --capture.
-# shellcheck shell=bash disable=SC2034,SC2154
+# shellcheck shell=bash
 
 # A run of 28,388 bytes from slot 13 of a capture on, with pulses around it.
 begin_capture() {
@@ -25,14 +25,14 @@ test_any_slot() {
             run 0 -q cut "$header" capture "$slot" out
             alike "the run at slot $slot among $around" slots out
             same 'what is printed beside it' '' "$(out)"
-            run 0 -q read --capture "$header" "$marker" capture out
+            run 0 -q read -f --capture "$header" "$marker" capture out
             alike "frames of the run at slot $slot among $around" frames out
             same 'what is said beside them' '' "$err$(out)"
             run 0 -q verify --capture "$header" "$marker" capture
             rm out
         done
     done
-    # The last slot that has room, and the one behind it.
+    # The last slot that has room, and the one after it.
     capture 8 0 0
     run 0 -q cut "$header" capture 12 out # four spare bits, and so four slots more
     refused 8 0 cut "$header" capture 13 out
@@ -60,7 +60,7 @@ test_find() {
     cat capture capture >twice
     run 0 find "$header" "$marker" twice
     same 'the first of two runs' 13 "$(out)"
-    tail -c +101 capture >later # from slot 800 on; the second line is 3785 symbols behind the first
+    tail -c +101 capture >later # from slot 800 on; the second line is 3785 symbols after the first
     run 0 find "$header" "$marker" later
     same 'the second line of a run' $((13 + 3785 * 20 - 800)) "$(out)"
     # An empty capture, and one that is shorter than the marker.
@@ -122,26 +122,26 @@ test_refused_in_capture() {
     refused 10 7000 read --capture "$header" "$marker" capture out
     says 'capture: symbol 7000 is slots 140013 to 140032, in bytes 17501 to 17504' \
         read --capture "$header" "$marker" capture out
-    has 'where it began' 'mahyrei: capture: the first whole marker stands at slot 13, in byte 1' "$err"
+    has 'where it began' 'mahyrei: capture: the first whole marker begins at slot 13, in byte 1' "$err"
     logged "$said/err" "read header=$header marker=5 frames=- slots=28388 capture=28395 slot=13 \
 answer=10 place=7000 status=1"
     run 1 -q read --capture "$header" "$marker" capture out
-    has 'where it began, quietly' 'the first whole marker stands at slot 13' "$err"
+    has 'where it began, quietly' 'the first whole marker begins at slot 13' "$err"
     damage turn 1 7000
     "$tool" "$header" capture 13 5 0 <damaged >capture
     refused 13 1 verify --capture "$header" "$marker" capture
     says 'standard input: word 1 has its symbols from 3790 to 11354: slots 75813 to 227112, bytes 9476 to 28389' \
         verify --capture "$header" "$marker" - <capture
-    has 'where that began' 'mahyrei: standard input: the first whole marker stands at slot 13' "$err"
+    has 'where that began' 'mahyrei: standard input: the first whole marker begins at slot 13' "$err"
     # A marker by itself before the run is the one that is found, and no frames come of it.
     { head -c 13 slots && cat slots; } >decoy
     run 0 find "$header" "$marker" decoy
     same 'a marker by itself' 0 "$(out)"
     # The run is four slots further on than the decoy's symbols: its third pulse is a guard pulse.
     refused 10 7 read --capture "$header" "$marker" decoy out
-    has 'what was taken for the start' 'the first whole marker stands at slot 0, in byte 0' "$err"
+    has 'what was taken for the start' 'the first whole marker begins at slot 0, in byte 0' "$err"
     run 0 cut "$header" decoy 104 out
-    alike 'the run behind a marker by itself' slots out
+    alike 'the run after a marker by itself' slots out
     run 0 find "$header" "$marker" - < <(tail -c +2 decoy)
     same 'the run without the byte that its decoy begins in' 96 "$(out)"
 }
@@ -198,8 +198,8 @@ test_find_usage() {
     unharmed 2 'directory: Is a directory' cut "$header" capture 13 directory
     unharmed 2 'none/out: its folder cannot be opened: none: No such file' \
         cut "$header" capture 13 none/out
-    logged "$said/err" "cut header=$header marker=- frames=- slots=- capture=28395 slot=13 \
-answer=0 place=0 status=2"
+    logged "$said/err" \
+        'cut header=- marker=- frames=- slots=- capture=- slot=13 answer=- place=- status=2'
     # Nothing is read where the output cannot be meant, and the log has what was known.
     run 2 --log log cut "$header" capture x out
     logged log 'cut header=- marker=- frames=- slots=- capture=- slot=- answer=- place=- status=2'
@@ -232,11 +232,11 @@ capture-file=capture slot=13 answer=0 place=0 status=0" "$(tail -n 1 log)"
     logged log "verify $read_out"
     run 1 --log log find "$header" 05000C0308 capture
     logged log "find header=$header marker=5 frames=- slots=- capture=28395 slot=- answer=19 place=0 status=1"
-    run 1 --log log cut "$header" capture 61 out
+    run 1 --log log cut -f "$header" capture 61 out
     logged log "cut header=$header marker=- frames=- slots=- capture=28395 slot=61 answer=8 place=0 status=1"
     local forged=$'capture\n2026-11-15T16:50:01Z read answer=0 place=0 status=0'
     cp capture "$forged"
-    run 0 read --capture "$header" "$marker" "$forged" out
+    run 0 read -f --capture "$header" "$marker" "$forged" out
     same 'lines about a name of two lines' 2 "$(wc -l <"$said/err")"
     run 1 find "$header" 05000C0308 "$forged"
     same 'lines of a refusal about it' 3 "$(wc -l <"$said/err")"
@@ -283,14 +283,14 @@ test_over_the_capture() {
     done
     for name in - /dev/stdout /dev/fd/1; do
         "$mahyrei" cut "$header" capture 13 "$name" 2>"$said/err" >>capture
-        same "status of $name behind the capture" 2 $?
+        same "status of $name after the capture" 2 $?
         "$mahyrei" read --capture "$header" "$marker" capture "$name" 2>"$said/err" 1<>capture
         same "status of $name over the capture" 2 $?
         alike "the capture after $name" kept capture
     done
     over read --capture "$header" "$marker" capture /dev/fd/7 7>>capture
     # Another file with the same bytes may be written over.
-    run 0 cut "$header" capture 13 kept
+    run 0 cut -f "$header" capture 13 kept
     alike 'a run over another file' slots kept
 }
 
@@ -298,18 +298,18 @@ test_find_outputs() {
     begin_capture
     echo old >out
     run 2 --no-clobber cut "$header" capture 13 out
-    has 'a file that is not to be replaced' 'out: File exists' "$err"
+    has 'a file that is not to be replaced' 'out: this file is there already' "$err"
     run 2 -n read --capture "$header" "$marker" capture out
-    has 'a file that is not to be replaced' 'out: File exists' "$err"
+    has 'a file that is not to be replaced' 'out: this file is there already' "$err"
     same 'that file' old "$(<out)"
     chmod 604 out
-    run 0 cut "$header" capture 13 out
+    run 0 cut -f "$header" capture 13 out
     same 'mode of a file that is replaced' 604 "$(stat -c %a out)"
     rm out
     run 0 -n cut "$header" capture 13 out
     alike 'slots in a new file' slots out
     ln -s out link
-    run 0 read --capture "$header" "$marker" capture link
+    run 0 read -f --capture "$header" "$marker" capture link
     same 'a link stays a link' out "$(readlink link)"
     alike 'the file that a link leads to' frames out
     run 0 cut "$header" - 13 - <capture
@@ -348,7 +348,7 @@ test_find_outputs() {
 once_find_faults() {
     begin_capture
     local fault
-    for fault in read:1:5 write:1:28 write:1:5 fsync:1:5 close:2:5 rename:1:5; do
+    for fault in read:1:5 write:1:28 write:1:5 fsync:1:5 close:1:5 rename:1:5; do
         prefix=(env "LD_PRELOAD=$faults" "FAULT=$fault")
         unharmed 2 'mahyrei: ' cut "$header" capture 13 out
         unharmed 2 'mahyrei: ' read --capture "$header" "$marker" capture out
@@ -382,9 +382,9 @@ answer=- place=- status=2"
         prefix=(bash -c "ulimit -s $size; exec \"\$@\"" bash)
         run 0 -q find "$header" "$marker" capture
         same "a slot on a stack of $size KiB" 13 "$(out)"
-        run 0 cut "$header" capture 13 out
+        run 0 cut -f "$header" capture 13 out
         alike "slots on a stack of $size KiB" slots out
-        run 0 read --capture "$header" "$marker" capture out
+        run 0 read -f --capture "$header" "$marker" capture out
         alike "frames on a stack of $size KiB" frames out
     done
     prefix=()
@@ -432,9 +432,9 @@ once_find_signals() {
         for words in "cut $header capture 13" "read --capture $header $marker capture"; do
             : >hold
             rm -f .mahyrei.*
-            # shellcheck disable=SC2016,SC2086
+            # shellcheck disable=SC2016,SC2086  # the inner shell expands it; several words
             env --default-signal env "LD_PRELOAD=$faults" FAULT=hold \
-                bash -c 'ulimit -c 0; exec "$@"' bash "$mahyrei" --log /dev/null $words out \
+                bash -c 'ulimit -c 0; exec "$@"' bash "$mahyrei" --log /dev/null --force $words out \
                 2>/dev/null &
             held=$! temporary=''
             while [ ! -s "$temporary" ] && kill -0 "$held" 2>/dev/null; do

@@ -1,5 +1,5 @@
 # Headers of eight bytes and of ten: widen and narrow.
-# shellcheck shell=bash disable=SC2034,SC2154
+# shellcheck shell=bash
 
 begin_forms() {
     begin
@@ -15,11 +15,11 @@ test_forms() {
     alike 'a header of ten bytes' new out
     logged "$said/err" "widen eight=$eight ten=$ten answer=0 place=0 status=0"
     has 'its names in the log' " eight-file=old ten=$ten ten-file=out " "$err"
-    run 0 narrow new out
+    run 0 narrow -f new out
     alike 'a header of eight bytes' old out
     logged "$said/err" "narrow eight=$eight ten=$ten answer=0 place=0 status=0"
     has 'its names in the log' " eight-file=out ten=$ten ten-file=new " "$err"
-    run 0 write new "$marker" frames out
+    run 0 write -f new "$marker" frames out
     alike 'slots under the header that was made' slots out
     local text
     for text in "$eight" "${eight,,}" "hex:$eight" "0x$eight" '50:15:7A:3E:82:83:00:00' ./old; do
@@ -27,7 +27,7 @@ test_forms() {
         run 0 -q widen "$text" out
         alike "the header from $text" new out
     done
-    run 0 --log log widen "$eight" out
+    run 0 --log log widen -f "$eight" out
     has 'text has no file' " eight-file=- ten=$ten ten-file=out " "$(tail -n 1 log)"
     run 0 widen - - <old
     alike 'through standard files' new "$said/out"
@@ -38,18 +38,18 @@ test_forms() {
     local each
     for each in 5950F01BE8020000 21FDFF0010400000 0804020020810000 5004021BE1010000 9C05FEFFEFBF0000; do
         bytes "$each" >one
-        run 0 -q widen one two
+        run 0 -q widen -f one two
         alike "$each in ten bytes" <(bytes "${each:0:12}04000000") two
-        run 0 -q narrow two three
+        run 0 -q narrow -f two three
         alike "$each again" one three
     done
     # Over itself: read whole before it is written.
     cp old over
     chmod 604 over
-    run 0 -q widen over over
+    run 0 -q widen -f over over
     alike 'a header over itself' new over
     same 'its mode' 604 "$(stat -c %a over)"
-    run 0 -q narrow over over
+    run 0 -q narrow -f over over
     alike 'and back' old over
 }
 
@@ -69,7 +69,7 @@ test_forms_refused() {
         '1 4 5 257 500 5 3=4' '1 4 2 189 500 5 3=5' '1 4 5 189 0 5 3=6' '1 4 5 189 500 5 65=6' \
         '1 4 5 189 500 33 3=7' '1 4 5 189 500 0 3=7'; do
         number=${fields#*=}
-        # shellcheck disable=SC2086
+        # shellcheck disable=SC2086  # several words are meant
         h=$(header ${fields%=*})
         refused "$number" 0 widen "$(old_header "$h")" out
         refused "$number" 0 narrow "$h" out
@@ -104,7 +104,8 @@ test_forms_refused() {
 test_old_headers() {
     begin_forms
     local hint='a header of eight bytes, as up to version 0.3, becomes one of ten by '
-    hint+='`mahyrei widen OLD NEW`' # no substitution is meant
+    # shellcheck disable=SC2016  # no substitution is meant
+    hint+='`mahyrei widen OLD NEW`'
     says "$eight: $hint" write "$eight" "$marker" frames out
     says "old: $hint" read old "$marker" slots out
     says "standard input: $hint" verify - "$marker" slots <old
@@ -139,7 +140,7 @@ test_forms_usage() {
     run 2 --log log widen none out
     logged log 'widen eight=- ten=- answer=- place=- status=2'
     run 2 --log log narrow new none/out
-    logged log "narrow eight=- ten=$ten answer=0 place=0 status=2"
+    logged log 'narrow eight=- ten=- answer=- place=- status=2'
     cp old kept
     run 2 --log old widen old out
     has 'the header as log' 'old: this is the log' "$err"
@@ -149,17 +150,17 @@ test_forms_usage() {
     same 'no output then' no "$([ -e out ] && echo yes || echo no)"
     echo there >out
     run 2 -n widen old out
-    has 'a file that is not to be replaced' 'out: File exists' "$err"
+    has 'a file that is not to be replaced' 'out: this file is there already' "$err"
     same 'that file' there "$(<out)"
     local forged=$'old\n2026-11-15T16:50:01Z widen answer=0 place=0 status=0'
     cp old "$forged"
-    run 0 widen "$forged" out
+    run 0 widen -f "$forged" out
     same 'lines about a name of two lines' 1 "$(wc -l <"$said/err")"
     logged "$said/err" "widen eight=$eight ten=$ten answer=0 place=0 status=0"
-    run 1 narrow "$forged" out
+    run 1 narrow -f "$forged" out
     same 'lines of a refusal about it' 3 "$(wc -l <"$said/err")"
     ln -s out link
-    run 0 widen old link
+    run 0 widen -f old link
     same 'a link stays a link' out "$(readlink link)"
     alike 'the file that a link leads to' new out
     run 2 widen old /dev/full
@@ -168,19 +169,19 @@ test_forms_usage() {
     same 'status with a full standard output' 2 $?
     "$mahyrei" narrow new - 2>/dev/null >&-
     same 'status with standard output closed' 2 $?
-    run 0 -q widen old out
+    run 0 -q widen -f old out
     same 'what a quiet trip says' '' "$err"
 }
 
 once_forms_faults() {
     begin_forms
     local fault
-    for fault in read:1:5 write:1:28 write:1:5 fsync:1:5 close:2:5 rename:1:5; do
+    for fault in read:1:5 write:1:28 write:1:5 fsync:1:5 close:1:5 rename:1:5; do
         prefix=(env "LD_PRELOAD=$faults" "FAULT=$fault")
         unharmed 2 'mahyrei: ' widen old out
         unharmed 2 'mahyrei: ' narrow new out
     done
-    prefix=(env "LD_PRELOAD=$faults" FAULT=link:1:5)
+    prefix=(env "LD_PRELOAD=$faults" FAULT=noreplace:1:5)
     rm -f out
     run 2 -n widen old out
     same 'no output where the new name cannot be taken' no "$([ -e out ] && echo yes || echo no)"
@@ -193,7 +194,7 @@ once_forms_faults() {
     prefix=(bash -c 'ulimit -s 64; exec "$@"' bash)
     run 0 -q widen old out
     alike 'a header on a stack of 64 KiB' new out
-    run 0 -q narrow new out
+    run 0 -q narrow -f new out
     alike 'and back' old out
     prefix=()
     if command -v script >"$said/out"; then
@@ -214,9 +215,9 @@ once_forms_signals() {
         for words in 'widen old' 'narrow new'; do
             : >hold
             rm -f .mahyrei.*
-            # shellcheck disable=SC2016,SC2086
+            # shellcheck disable=SC2016,SC2086  # the inner shell expands it; several words
             env --default-signal env "LD_PRELOAD=$faults" FAULT=hold \
-                bash -c 'ulimit -c 0; exec "$@"' bash "$mahyrei" --log /dev/null $words out \
+                bash -c 'ulimit -c 0; exec "$@"' bash "$mahyrei" --log /dev/null --force $words out \
                 2>/dev/null &
             held=$! temporary=''
             while [ ! -s "$temporary" ] && kill -0 "$held" 2>/dev/null; do

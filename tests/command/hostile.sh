@@ -1,5 +1,5 @@
 # Full disks, little memory, failing systems, killed runs.
-# shellcheck shell=bash disable=SC2034,SC2154
+# shellcheck shell=bash
 
 # A disk with too little room, and files that may not grow.
 once_full_disk() {
@@ -14,12 +14,12 @@ once_full_disk() {
         echo 'command: no small disk can be mounted here; a file size limit stands in for it'
         return
     fi
-    # shellcheck disable=SC2016
+    # shellcheck disable=SC2016  # the inner shell expands it
     "${space[@]}" bash -c 'mount -t tmpfs -o size=1m none directory || exit
         "$@" directory/out; echo "status $?"; ls -A directory
         echo old >directory/out
         "$@" directory/out; echo "status $?"; ls -A directory; cat directory/out' bash \
-        "$mahyrei" --log /dev/null write "$example" "$example_marker" example >"$said/out" 2>&1
+        "$mahyrei" --log /dev/null write -f "$example" "$example_marker" example >"$said/out" 2>&1
     local failed='mahyrei: directory/out: No space left on device'
     same 'a run on a full disk' "$failed"$'\nstatus 2\n'"$failed"$'\nstatus 2\nout\nold' "$(out)"
 }
@@ -35,21 +35,21 @@ once_little_memory() {
 # The system fails the command at each step of an output.
 once_faults() {
     begin
-    for fault in read:1:5 write:1:28 write:1:5 fsync:1:5 close:2:5 rename:1:5; do
+    for fault in read:1:5 write:1:28 write:1:5 fsync:1:5 close:1:5 rename:1:5; do
         prefix=(env "LD_PRELOAD=$faults" "FAULT=$fault")
         unharmed 2 'mahyrei: ' write "$header" "$marker" frames out
     done
     echo old >out
     prefix=(env "LD_PRELOAD=$faults" FAULT=fchmod:1:1)
-    run 2 write "$header" "$marker" frames out
+    run 2 write -f "$header" "$marker" frames out
     same 'an output whose mode cannot be kept' old "$(<out)"
     prefix=(env "LD_PRELOAD=$faults" FAULT=fsync:2:5) # the folder, after the renaming
-    run 2 write "$header" "$marker" frames out
+    run 2 write -f "$header" "$marker" frames out
     alike 'an output whose folder may not be on the disk' slots out
     prefix=(env "LD_PRELOAD=$faults" FAULT=fsync:2:22) # a file system that cannot do that
-    run 0 write "$header" "$marker" frames out
+    run 0 write -f "$header" "$marker" frames out
     prefix=(env "LD_PRELOAD=$faults" FAULT=fsync:1:4) # interrupted
-    run 0 write "$header" "$marker" frames out
+    run 0 write -f "$header" "$marker" frames out
     prefix=(env "LD_PRELOAD=$faults" FAULT=slow)
     rm out
     run 0 write "$header" "$marker" frames out
@@ -65,9 +65,9 @@ held() {
     local temporary=''
     : >hold
     rm -f .mahyrei.*
-    # shellcheck disable=SC2016
+    # shellcheck disable=SC2016  # the inner shell expands it
     "$@" env "LD_PRELOAD=$faults" FAULT=hold bash -c 'ulimit -c 0; exec "$@"' bash \
-        "$mahyrei" --log /dev/null write "$header" "$marker" frames out &
+        "$mahyrei" --log /dev/null write -f "$header" "$marker" frames out &
     held=$!
     while [ ! -s "$temporary" ] && kill -0 "$held"; do
         for temporary in .mahyrei.*; do :; done
@@ -127,9 +127,9 @@ once_little_stack() {
     begin
     for size in 400 100 64; do
         prefix=(bash -c "ulimit -s $size; exec \"\$@\"" bash)
-        run 0 write "$header" "$marker" frames out
+        run 0 write -f "$header" "$marker" frames out
         alike "slots on a stack of $size KiB" slots out
-        run 0 read "$header" "$marker" slots back
+        run 0 read -f "$header" "$marker" slots back
         alike "frames on a stack of $size KiB" frames back
         run 0 sheet "$header"
         same "a sheet on a stack of $size KiB" '1/2 16 5 189 500 5 3 2 11355 227100 1' "$(out)"
@@ -153,7 +153,7 @@ once_nonblocking() {
     same 'status with files that do not block' '0 0 0' "${PIPESTATUS[*]}"
     alike 'slots through files that do not block' wanted got
     # What is said waits too.
-    # shellcheck disable=SC2016
+    # shellcheck disable=SC2016  # the inner shell expands it
     "${prefix[@]}" bash -c '"$1" read 00 00 slots out & (yes | head -c 100000 >&2); wait $!' bash \
         "$mahyrei" 2>&1 >/dev/null | (sleep 0.2 && cat) >said_late
     has 'a refusal through a full pipe' 'refused, number 1' "$(tr -d '\0' <said_late)"
@@ -174,7 +174,7 @@ test_unwritable_folder() {
     prefix=("${as[@]}")
     run 2 write "$header" "$marker" frames shut/out
     has 'a file in a folder that may not be written' \
-        "shut/out: no temporary file can be made in $work/shut: Permission denied" "$err"
+        'shut/out: no temporary file can be made in shut: Permission denied' "$err"
     same 'that file' old "$(<shut/out)"
     chmod 311 shut # files can be made there, but it cannot be brought to the disk
     run 2 write "$header" "$marker" frames shut/new
@@ -194,11 +194,11 @@ once_mounted_file() {
         echo 'command: nothing can be mounted here; an output that is mounted is not tried'
         return
     fi
-    # shellcheck disable=SC2016
+    # shellcheck disable=SC2016  # the inner shell expands it
     "${space[@]}" bash -c 'mount --bind mounted out && "$@"; echo "status $?"; cat out; ls -A' bash \
-        "$mahyrei" --log /dev/null write "$header" "$marker" frames out >"$said/out" 2>&1
+        "$mahyrei" --log /dev/null write -f "$header" "$marker" frames out >"$said/out" 2>&1
     has 'an output that is mounted' \
-        "out: the finished file cannot take this name in $work: Device or resource busy"$'\nstatus 2\nold' \
+        $'out: the finished file cannot take this name in .: Device or resource busy\nstatus 2\nold' \
         "$(out)"
     same 'what is left beside it' '' "$(grep mahyrei\\. "$said/out")"
 }

@@ -1,5 +1,5 @@
 # Files that are missing, of another kind, empty or endless.
-# shellcheck shell=bash disable=SC2034,SC2154
+# shellcheck shell=bash
 
 test_files() {
     begin
@@ -20,9 +20,10 @@ test_files() {
         write "$header" "$marker" frames none/out
     unharmed 2 'none/: its folder cannot be opened: none: No such file' \
         write "$header" "$marker" frames none/
-    unharmed 2 'frames/out: Not a directory' write "$header" "$marker" frames frames/out
+    unharmed 2 'frames/out: its folder cannot be opened: frames: Not a directory' \
+        write "$header" "$marker" frames frames/out
     unharmed 2 ': No such file' write "$header" "$marker" frames ''
-    logged "$said/err" "write header=$header marker=5 frames=1500 slots=- answer=0 place=0 status=2"
+    logged "$said/err" 'write header=- marker=- frames=- slots=- answer=- place=- status=2'
     refused 1 0 write empty "$marker" frames out
     refused 8 0 write "$header" empty frames out
     refused 8 0 write "$header" "$marker" empty out

@@ -1,5 +1,5 @@
 # What an operand can be.
-# shellcheck shell=bash disable=SC2034,SC2154
+# shellcheck shell=bash
 
 test_round_trip() {
     begin
@@ -10,9 +10,9 @@ test_round_trip() {
     run 0 read header marker out back
     logged "$said/err" "read $sound"
     alike 'frames that come back' frames back
-    run 0 write "$example" "$example_marker" example out
+    run 0 write -f "$example" "$example_marker" example out
     same 'slot bytes of the example' 8444880 "$(stat -c %s out)"
-    run 0 read "$example" "$example_marker" out back
+    run 0 read -f "$example" "$example_marker" out back
     alike 'frames of the example' example back
 }
 
@@ -30,13 +30,13 @@ test_operands() {
         alike "slots with the header as $text" slots out
     done
     for text in "$marker" 05000c0309 "hex:$marker" '05 00 0C 03 09' marker; do
-        run 0 read "$header" "$text" slots out
+        run 0 read -f "$header" "$text" slots out
         alike "frames with the marker as $text" frames out
     done
     run 0 -- sheet "$header"
     run 2 sheet -- --help
     has 'an operand named like an option' 'mahyrei: --help: No such file' "$err"
-    run 0 write "$header" "$marker" -- -frames out
+    run 0 write -f "$header" "$marker" -- -frames out
     alike 'frames from a file named like an option' slots out
     rm out
     rm beef
@@ -61,7 +61,7 @@ test_dashes() {
     alike 'slots of standard input' slots out
     run 0 write "$header" "$marker" frames -
     alike 'slots on standard output' slots "$said/out"
-    run 0 write - "$marker" frames out <header
+    run 0 write -f - "$marker" frames out <header
     alike 'slots with the header from standard input' slots out
     run 0 read "$header" - slots - <marker
     alike 'frames on standard output' frames "$said/out"
@@ -82,17 +82,17 @@ test_names() {
     long=$(printf '%0255d' 0)
     for name in 'a name with blanks' $'two\nlines' "$long" directory/out "$work/directory/out" \
         directory/../over; do
-        run 0 write "$header" "$marker" frames "$name"
+        run 0 write -f "$header" "$marker" frames "$name"
         alike "slots in $name" slots "$name"
-        run 0 read "$header" "$marker" "$name" out
+        run 0 read -f "$header" "$marker" "$name" out
         alike "frames of $name" frames out
     done
     cp frames both
-    run 0 write "$header" "$marker" both both
+    run 0 write -f "$header" "$marker" both both
     alike 'slots over their own frames' slots both
-    run 0 read "$header" "$marker" both both
+    run 0 read -f "$header" "$marker" both both
     alike 'frames over their own slots' frames both
-    run 0 write "$header" marker frames marker
+    run 0 write -f "$header" marker frames marker
     alike 'slots over the marker' slots marker
 }
 

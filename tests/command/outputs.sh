@@ -1,5 +1,5 @@
 # Where an output goes, and what it keeps.
-# shellcheck shell=bash disable=SC2034,SC2154
+# shellcheck shell=bash
 
 test_output_streams() {
     begin
@@ -40,7 +40,7 @@ test_links() {
     mkdir elsewhere
     echo old >elsewhere/real
     ln -s elsewhere/real link
-    run 0 write "$header" "$marker" frames link
+    run 0 write -f "$header" "$marker" frames link
     same 'a link stays a link' elsewhere/real "$(readlink link)"
     alike 'the file that a link leads to' slots elsewhere/real
     same 'files beside it' real "$(ls -A elsewhere)"
@@ -54,7 +54,7 @@ test_links() {
     ln -s round round
     run 2 write "$header" "$marker" frames round
     ln elsewhere/real other
-    run 0 read "$header" "$marker" slots elsewhere/real
+    run 0 read -f "$header" "$marker" slots elsewhere/real
     alike 'another hard link keeps the old bytes' slots other
 }
 
@@ -65,7 +65,7 @@ test_modes() {
     same 'mode of a new file' 640 "$(stat -c %a new)"
     echo old >out
     chmod 604 out
-    run 0 write "$header" "$marker" frames out
+    run 0 write -f "$header" "$marker" frames out
     same 'mode of a file that is replaced' 604 "$(stat -c %a out)"
     prefix=()
     if [ "$(id -u)" -eq 0 ]; then # nothing is forbidden to root
@@ -74,14 +74,16 @@ test_modes() {
     fi
     cp frames secret
     chmod 000 secret
-    unharmed 2 'secret: Permission denied' write "$header" "$marker" secret out
-    unharmed 2 'secret: Permission denied' write secret "$marker" frames out
     rm -f out
+    run 2 write "$header" "$marker" secret out
+    has 'frames that may not be read' 'secret: Permission denied' "$err"
+    run 2 write secret "$marker" frames out
+    has 'a header that may not be read' 'secret: Permission denied' "$err"
     run 0 write "$header" "$marker" frames out
     chmod 444 out
     [ "$(id -u)" -ne 0 ] || chown 65534:65534 out
     cp out kept
-    run 2 read "$header" "$marker" slots out
+    run 2 read -f "$header" "$marker" slots out
     has 'a file that may not be written' 'out: Permission denied' "$err"
     alike 'a file that may not be written' kept out
     mkdir shut
@@ -94,7 +96,7 @@ test_modes() {
     prefix=()
 }
 
-# /dev/stdout and the like are the open file: what is in it stays, and what follows comes behind.
+# /dev/stdout and the like are the open file: what is in it stays, and what follows comes after.
 test_open_files() {
     begin
     local name
@@ -107,7 +109,7 @@ test_open_files() {
         cp before archive
         "$mahyrei" read "$header" "$marker" slots "$name" >>archive 2>"$said/err"
         same "status with the output $name" 0 $?
-        alike "what is behind $name" wanted archive
+        alike "what is after $name" wanted archive
         {
             echo before
             "$mahyrei" read "$header" "$marker" slots "$name" 2>/dev/null
@@ -144,6 +146,20 @@ test_open_files() {
 # Status 0 says that the other copy may be erased: what is on a disk has to be there.
 once_open_files_synced() {
     begin
+    local words
+    capture 13 100 1
+    printf 'read\t%s\t%s\tslots\tback\n' "$header" "$marker" >list
+    for words in "sheet $header" "find $header $marker capture" 'explain 3' 'spread 1/2 3' \
+        'header rate=1/2 m=6 N=84 B=120 F=223 W=16 A=2' --help --version \
+        "show $header slots 0 3" "inspect $header $marker slots"; do
+        # shellcheck disable=SC2086  # several words are meant
+        env "LD_PRELOAD=$faults" FAULT=fsync:1:5 "$mahyrei" $words >file 2>"$said/err"
+        same "status of $words that does not get to the disk" 2 $?
+        has "what is said then" 'standard output: Input/output error' "$(<"$said/err")"
+    done
+    env "LD_PRELOAD=$faults" FAULT=fsync:1:5 "$mahyrei" batch - <list >file 2>"$said/err"
+    same 'status of results that do not get to the disk' 2 $?
+    has 'what is said of results' 'standard output: Input/output error' "$(<"$said/err")"
     prefix=(env "LD_PRELOAD=$faults" FAULT=fsync:1:5)
     for name in - /dev/stdout /dev/fd/7; do
         run 2 read "$header" "$marker" slots "$name" 7>file
@@ -168,7 +184,7 @@ test_owners() {
     echo old >out
     chown 1234:2345 out
     chmod 640 out
-    run 0 write "$header" "$marker" frames out
+    run 0 write -f "$header" "$marker" frames out
     same 'owner, group and mode of a file that is replaced' '1234 2345 640' "$(owned out)"
     # As somebody who may write the file and not give it away: nobody gets more than before.
     chown 65534:65534 .
@@ -178,7 +194,7 @@ test_owners() {
         echo old >out
         chown 1234:2345 out
         chmod "${old% *}" out
-        run 0 write "$header" "$marker" frames out
+        run 0 write -f "$header" "$marker" frames out
         alike "slots in a file of mode ${old% *}" slots out
         same "who may use what was ${old% *}" "65534 65534 ${old#* }" \
             "$(stat -c '%u %g' out) $(printf %03o $((8#$(stat -c %a out) & 8#777)))"
@@ -187,7 +203,7 @@ test_owners() {
     chown 1234:2345 out
     chmod 464 out
     prefix=(chroot --userspec=65534:65534 --groups=2345 --skip-chdir /)
-    run 0 write "$header" "$marker" frames out
+    run 0 write -f "$header" "$marker" frames out
     same 'a group that may be kept' '65534 2345 444' "$(owned out)"
     prefix=()
     chown 0:0 .
@@ -203,12 +219,12 @@ test_access_lists() {
     fi
     local list
     list=$(./list_tool show out)
-    run 0 write "$header" "$marker" frames out
+    run 0 write -f "$header" "$marker" frames out
     same 'an access list and its mode' "$list 660" "$(./list_tool show out) $(stat -c %a out)"
     # By somebody else: the list would mean something else, and its mask is not the group's.
     chown 65534:65534 .
     prefix=(chroot --userspec=65534:65534 --groups= --skip-chdir /)
-    run 0 read "$header" "$marker" slots out
+    run 0 read -f "$header" "$marker" slots out
     same 'mode where a list cannot be kept' '65534 65534 600' "$(owned out)"
     prefix=()
     chown 0:0 .
@@ -217,7 +233,7 @@ test_access_lists() {
     echo old >plain
     chmod 640 plain
     mv plain directory/plain
-    run 0 write "$header" "$marker" frames directory/plain
+    run 0 write -f "$header" "$marker" frames directory/plain
     same 'a file that had no list' 'none 640' \
         "$(./list_tool show directory/plain) $(stat -c %a directory/plain)"
     # A new file has what any program's new file has.
@@ -228,15 +244,24 @@ test_access_lists() {
         "$(./list_tool show directory/new) $(stat -c %a directory/new)"
 }
 
-test_no_clobber() {
+# Nothing that is there is replaced unasked, with --no-clobber or without it.
+test_replacing() {
     begin
+    local name word
     echo old >out
     ln -s out link
     for name in out link ./out; do
-        run 2 --no-clobber write "$header" "$marker" frames "$name"
-        has 'a file that is not to be replaced' "$name: File exists" "$err"
-        same 'that file' old "$(<out)"
+        for word in --no-clobber -n --quiet; do
+            run 2 "$word" write "$header" "$marker" frames "$name"
+            has 'a file that is not to be replaced' \
+                "$name: this file is there already; --force replaces it" "$err"
+            same 'that file' old "$(<out)"
+        done
     done
+    run 0 --force write "$header" "$marker" frames link
+    alike 'slots in a file that is replaced' slots out
+    run 0 -nf read "$header" "$marker" slots out # the one word changes nothing
+    alike 'frames in a file that is replaced' frames out
     rm out link
     run 0 -n write "$header" "$marker" frames out
     alike 'slots in a new file' slots out
@@ -246,12 +271,194 @@ test_no_clobber() {
     alike 'standard output is no file to be replaced' frames "$said/out"
 }
 
+# every STATUS WORD...: each command that writes a file, to `out`
+every() {
+    local status=$1
+    shift
+    run "$status" "$@" write "$header" "$marker" frames out
+    run "$status" "$@" read "$header" "$marker" slots out
+    run "$status" "$@" read --capture "$header" "$marker" capture out
+    run "$status" "$@" cut "$header" capture 13 out
+    run "$status" "$@" pass-write 1/2 block out
+    run "$status" "$@" pass-read 1/2 word out
+    run "$status" "$@" uplink-write commands out
+    run "$status" "$@" uplink-read commands.slots out
+    run "$status" "$@" header -oout rate=1/2 m=6 N=84 B=120 F=223 W=16 A=2
+    run "$status" "$@" widen "$(old_header "$header")" out
+    run "$status" "$@" narrow "$header" out
+    run "$status" "$@" rack-read rack 0 0 1 out
+    run "$status" "$@" fades --svg out "$header" clouds
+    run "$status" "$@" inspect --svg out "$header" "$marker" slots
+}
+
+# Operands that were swapped cost nothing.
+test_nothing_is_lost() {
+    begin
+    capture 13 100 1
+    head -c 941 /dev/zero >block
+    printf 'command1command2' >commands
+    echo 5000 10 >clouds
+    "$mahyrei" -q pass-write 1/2 block word
+    "$mahyrei" -q uplink-write commands commands.slots
+    "$mahyrei" -q rack-load rack 0 0 1 "$header"
+    echo old >out
+    every 2
+    same 'the file that is there' old "$(<out)"
+    every 0 --force
+    run 2 uplink-write commands.slots commands
+    has 'swapped operands' 'commands: this file is there already; --force replaces it' "$err"
+    same 'the commands' command1command2 "$(<commands)"
+}
+
+# Whoever sits at a terminal is asked; nothing is taken for a yes but a yes.
+once_asked() {
+    begin
+    if ! command -v script >"$said/out"; then
+        echo 'command: no script(1) here; nobody is asked on a terminal'
+        return
+    fi
+    local answer name
+    for answer in n '' yellow-not x no; do
+        echo old >out
+        script -qec "$mahyrei --log log read $header $marker slots out; echo status \$?" /dev/null \
+            <<<"${answer/yellow-not/ y}" >"$said/out"
+        has "what is asked before the answer '$answer'" \
+            'mahyrei: out: this file is there already; replace it? [y/N] ' "$(out)"
+        has "the status after '$answer'" 'status 2' "$(out)"
+        same "the file after '$answer'" old "$(<out)"
+    done
+    for answer in y Y yes; do
+        echo old >out
+        script -qec "$mahyrei --log log read $header $marker slots out; echo status \$?" /dev/null \
+            <<<"$answer" >"$said/out"
+        has "the status after '$answer'" 'status 0' "$(out)"
+        alike "the file after '$answer'" frames out
+    done
+    # Nobody is asked who asked for quiet, or whose answer would be the input.
+    echo old >out
+    script -qec "$mahyrei -q read $header $marker slots out" /dev/null <<<y >"$said/out"
+    same 'a quiet run asks nothing' '' "$(grep '?' "$said/out")"
+    same 'and replaces nothing' old "$(<out)"
+    for name in - /dev/stdin; do
+        script -qec "timeout 20 $mahyrei --log log uplink-write $name out; echo status \$?" /dev/null \
+            <<<y >"$said/out"
+        has "a run that reads $name asks nothing" \
+            'mahyrei: out: this file is there already; --force replaces it' "$(out)"
+        has "the status where $name is read" 'status 2' "$(out)"
+        same "the file where $name is read" old "$(<out)"
+    done
+}
+
+# A folder that is missing is found before the work, not after it.
+test_missing_folder() {
+    begin
+    local words
+    head -c 941 /dev/zero >block
+    for words in "write $header $marker FROM none/out" "read $header $marker FROM none/out" \
+        "cut $header FROM 0 none/out" 'pass-write 1/2 FROM none/out' 'uplink-read FROM none/out' \
+        'widen FROM none/out' "fades --svg none/out $header FROM" \
+        "inspect --svg none/out $header $marker FROM"; do
+        # shellcheck disable=SC2086  # several words are meant
+        run 2 ${words/FROM/absent} # which is read later, and would be missed
+        has "what is said by $words" \
+            'none/out: its folder cannot be opened: none: No such file or directory' "$err"
+        same "nothing else is looked at by $words" '' "$(grep absent: "$said/err")"
+    done
+    run 2 write "$header" "$marker" frames frames/out
+    has 'a file as folder' 'frames/out: its folder cannot be opened: frames: Not a directory' "$err"
+    run 2 write -f "$header" "$marker" absent directory
+    has 'a folder as output' 'directory: Is a directory' "$err"
+    same 'nothing else is looked at before that' '' "$(grep absent: "$said/err")"
+}
+
+# A file that appears between the last look and the renaming stays too.
+once_replacing_last_moment() {
+    begin
+    local fault
+    for fault in '' noreplace:1:22; do # by renaming, and where that is not there by a second name
+        cp marker precious
+        env "LD_PRELOAD=$faults" FAULT="$fault" SWAP=rename:precious:out "$mahyrei" -q write \
+            "$header" "$marker" frames out 2>"$said/err"
+        same "status where a file appears at last, $fault" 2 $?
+        has 'what is said' 'out: this file is there already; --force replaces it' "$(<"$said/err")"
+        alike "the file that appeared, $fault" marker out
+        same 'what is left beside it' '' "$(find . -name '.mahyrei*')"
+        rm out
+    done
+}
+
+# A link that leads to the output by the time at which it is read: what was read is known by its
+# file, and does not go.
+once_input_becomes_output() {
+    begin
+    capture 13 100 1
+    cp capture other
+    "$mahyrei" -q rack-load rack 0 0 1 "$header"
+    local words from
+    for words in "cut $header link 13 out" "read --capture $header $marker link out" \
+        'rack-read link 0 0 1 out'; do
+        from=capture
+        [[ $words != rack-* ]] || from=rack
+        cp "$from" out
+        ln -sf other link
+        ln -sf out next
+        prefix=(env "LD_PRELOAD=$faults" SWAP=folder:next:link)
+        # shellcheck disable=SC2086  # several words are meant
+        run 2 --force $words
+        prefix=()
+        same "the link leads to the output by then, $words" out "$(readlink link)"
+        has "what is said by $words" 'out: this is the ' "$err"
+        alike "what was read by $words" "$from" out
+    done
+}
+
+# A pipe when it is looked at, and a file when it is opened: it is not written over in place.
+once_output_becomes_file() {
+    begin
+    mkfifo pipe
+    cp frames precious
+    ln -s precious next
+    env "LD_PRELOAD=$faults" SWAP=open:next:pipe "$mahyrei" -q write "$header" "$marker" frames pipe \
+        2>"$said/err"
+    same 'status where a pipe became a file' 2 $?
+    has 'what is said' 'pipe: this was no file when it was looked at, and is one now' \
+        "$(<"$said/err")"
+    alike 'the file' frames precious
+}
+
+# The output becomes the capture, by another name, while the run is read.
+once_output_becomes_capture() {
+    begin
+    capture 13 100 1
+    cp capture kept
+    local words
+    for words in "read --capture $header $marker capture out" "cut $header capture 13 out"; do
+        rm -f out next
+        ln capture next
+        # shellcheck disable=SC2086  # several words are meant
+        env "LD_PRELOAD=$faults" SWAP=fsync:next:out "$mahyrei" -q --force $words 2>"$said/err"
+        same "status of $words" 2 $?
+        has "what is said by $words" 'out: this is the capture' "$(<"$said/err")"
+        alike "the capture after $words" kept out
+    done
+    "$mahyrei" -q rack-load rack 0 0 1 "$header"
+    cp rack kept
+    ln rack next
+    rm -f out
+    env "LD_PRELOAD=$faults" SWAP=fsync:next:out "$mahyrei" -q --force rack-read rack 0 0 1 out \
+        2>"$said/err"
+    same 'status of a header over the rack' 2 $?
+    has 'what is said of it' 'out: this is the rack' "$(<"$said/err")"
+    alike 'the rack' kept out
+    same 'what is left beside it' '' "$(find . -name '.mahyrei*')"
+}
+
 # A file that comes into being while the run is on its way.
-once_no_clobber_late() {
+once_replacing_late() {
     begin
     local late
     mkfifo pipe
-    "$mahyrei" --no-clobber write "$header" "$marker" pipe out 2>"$said/err" &
+    "$mahyrei" write "$header" "$marker" pipe out 2>"$said/err" &
     late=$!
     timeout 20 bash -c 'exec 7>pipe; echo late >out; cat frames >&7' # waits for the reader
     wait "$late"

@@ -1,5 +1,5 @@
 # Passes: blocks to words and back.
-# shellcheck shell=bash disable=SC2034,SC2154
+# shellcheck shell=bash
 
 sizes=([0]=626 [1]=941 [2]=1256)
 rate_names=([0]=1/3 [1]=1/2 [2]=2/3)
@@ -59,10 +59,10 @@ test_pass_round_trip() {
     done
     # One by one the words are the same.
     blocks 1 5
-    run 0 pass-write 1/2 blocks out
+    run 0 pass-write -f 1/2 blocks out
     for ((count = 0; count < 5; count++)); do
         tail -c +$((count * 941 + 1)) blocks | head -c 941 >one
-        run 0 pass-write 1/2 one word
+        run 0 pass-write -f 1/2 one word
         alike "word $count" word <(tail -c +$((count * 1890 + 1)) out | head -c 1890)
     done
 }
@@ -132,9 +132,9 @@ test_pass_usage() {
     "$mahyrei" -q pass-write 1/2 - - <blocks | "$mahyrei" -q pass-read 1 - - | cmp -s - zeroed
     same 'status of each program in a row' '0 0 0' "${PIPESTATUS[*]}"
     cp blocks both
-    run 0 pass-write 1/2 both both
+    run 0 pass-write -f 1/2 both both
     alike 'words over their own blocks' words both
-    run 0 pass-read 1/2 both both
+    run 0 pass-read -f 1/2 both both
     alike 'blocks over their own words' zeroed both
 }
 
@@ -153,17 +153,17 @@ words=5670 words-sha256=$(digest words) words-file=out answer=0 place=0 status=0
 words-sha256=$(digest words) words-file=words " "$(tail -n 1 log)"
     logged log "pass-read $sound_pass"
     spoil 5000
-    run 1 --log log pass-read 1/2 damaged out
+    run 1 --log log pass-read -f 1/2 damaged out
     has 'a refusal in the log' "blocks=- blocks-sha256=- blocks-file=out words=5670 \
 words-sha256=$(digest damaged) words-file=damaged answer=13 place=2 status=1" "$(tail -n 1 log)"
-    run 1 --log log pass-write 9 /dev/zero out
+    run 1 --log log pass-write -f 9 /dev/zero out
     has 'what is not read to its end' 'rate=9 blocks=265017 blocks-sha256=- blocks-file=/dev/zero' \
         "$(tail -n 1 log)"
     run 2 --log log pass-write x blocks out
     logged log 'pass-write rate=- blocks=- words=- answer=- place=- status=2'
-    run 0 --quiet pass-write 1/2 blocks out
+    run 0 --quiet pass-write -f 1/2 blocks out
     same 'what a quiet pass says' '' "$err"
-    run 1 -q pass-read 1/2 damaged out
+    run 1 -q pass-read -f 1/2 damaged out
     has 'a quiet refusal' 'mahyrei: refused, number 13, place 2: ' "$err"
     same 'no line of the log there' 0 "$(grep -Ec "$log_line" "$said/err")"
     cp blocks kept
@@ -173,7 +173,7 @@ words-sha256=$(digest damaged) words-file=damaged answer=13 place=2 status=1" "$
     run 2 --log out pass-write 1/2 blocks ./out
     has 'the output as log' './out: this is the log' "$err"
     mkdir 1
-    run 0 --log 1/2 pass-write 1/2 blocks out # the rate is no file
+    run 0 --log 1/2 pass-write -f 1/2 blocks out # the rate is no file
     logged 1/2 "pass-write $sound_pass"
 }
 
@@ -181,16 +181,16 @@ test_pass_outputs() {
     begin_pass
     echo old >out
     run 2 --no-clobber pass-write 1/2 blocks out
-    has 'a file that is not to be replaced' 'out: File exists' "$err"
+    has 'a file that is not to be replaced' 'out: this file is there already' "$err"
     same 'that file' old "$(<out)"
     chmod 604 out
-    run 0 pass-write 1/2 blocks out
+    run 0 pass-write -f 1/2 blocks out
     same 'mode of a file that is replaced' 604 "$(stat -c %a out)"
     rm out
     run 0 -n pass-read 1/2 words out
     alike 'blocks in a new file' zeroed out
     ln -s out link
-    run 0 pass-write 1/2 blocks link
+    run 0 pass-write -f 1/2 blocks link
     same 'a link stays a link' out "$(readlink link)"
     alike 'the file that a link leads to' words out
     run 2 pass-write 1/2 blocks /dev/full
@@ -201,7 +201,7 @@ test_pass_outputs() {
 once_pass_faults() {
     begin_pass
     local fault
-    for fault in read:1:5 write:1:28 write:1:5 fsync:1:5 close:2:5 rename:1:5; do
+    for fault in read:1:5 write:1:28 write:1:5 fsync:1:5 close:1:5 rename:1:5; do
         prefix=(env "LD_PRELOAD=$faults" "FAULT=$fault")
         unharmed 2 'mahyrei: ' pass-write 1/2 blocks out
         unharmed 2 'mahyrei: ' pass-read 1/2 words out
@@ -224,9 +224,9 @@ once_pass_signals() {
     for signal in INT TERM HUP SEGV KILL; do
         : >hold
         rm -f .mahyrei.*
-        # shellcheck disable=SC2016
+        # shellcheck disable=SC2016  # the inner shell expands it
         env --default-signal env "LD_PRELOAD=$faults" FAULT=hold bash -c 'ulimit -c 0; exec "$@"' \
-            bash "$mahyrei" --log /dev/null pass-read 1/2 words out 2>/dev/null &
+            bash "$mahyrei" --log /dev/null pass-read -f 1/2 words out 2>/dev/null &
         held=$! temporary=''
         while [ ! -s "$temporary" ] && kill -0 "$held" 2>/dev/null; do
             for temporary in .mahyrei.*; do :; done

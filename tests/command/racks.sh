@@ -1,5 +1,5 @@
 # Headers in the rack.
-# shellcheck shell=bash disable=SC2034,SC2154
+# shellcheck shell=bash
 
 first=5950F01BE80204000000 second=5004021BE10104000000
 zeros=0000000000000000000000
@@ -43,14 +43,15 @@ kept() {
 
 # refused_rack NUMBER WORD...
 refused_rack() {
-    local number=$1 lines
+    local number=$1 lines text
     shift
-    kept 1 "mahyrei: refused, number $number, place 0: $(sentence "$number")" "$@"
+    [ "$number" -eq 8 ] && text=$(sentence_of_8 "$@") || text=$(sentence "$number")
+    kept 1 "mahyrei: refused, number $number, place 0: $text" "$@"
     mapfile -t lines <"$said/err"
     has "the log of mahyrei $*" "answer=$number place=0 status=1" "${lines[-1]-}"
 }
 
-# reads HEADER WORD...: rack-read of these numbers gives this header
+# reads HEADER WORD...: rack-read of these numbers gives this given
 reads() {
     local header=$1
     shift
@@ -64,8 +65,8 @@ test_rack_trace() {
     same 'standard output' '' "$(out)"
     same 'bytes of a rack' 176 "$(stat -c %s rack)"
     same 'the rack after a load' "1:01$first " "$(entries rack)"
-    refused_rack 25 rack-read rack 0 0 0 header
-    refused_rack 25 rack-read rack 2 0 1 header
+    refused_rack 25 rack-read rack 0 0 0 given
+    refused_rack 25 rack-read rack 2 0 1 given
     refused_rack 23 rack-lend rack 0 0 1 0
     refused_rack 25 rack-lend rack 0 0 2 2
     refused_rack 23 rack-lend rack 1 0 1 1
@@ -77,16 +78,16 @@ test_rack_trace() {
     same 'the rack after another load' "1:04$second " "$(entries rack)"
     reads "$second" 2 0 1
     run 0 rack-lend rack 0 0 1 3
-    refused_rack 25 rack-read rack 2 0 1 header
+    refused_rack 25 rack-read rack 2 0 1 given
     reads "$second" 3 0 1
     refused_rack 25 rack-drop rack 3 0 1
     run 0 rack-drop rack 0 0 1
     same 'the rack after a drop' '' "$(entries rack)"
-    refused_rack 25 rack-read rack 3 0 1 header
+    refused_rack 25 rack-read rack 3 0 1 given
     run 0 rack-load rack 0 0 1 "$first"
-    refused_rack 25 rack-read rack 3 0 1 header
-    refused_rack 23 rack-read rack 4 9 9 header
-    refused_rack 24 rack-read rack 1 1 4 header
+    refused_rack 25 rack-read rack 3 0 1 given
+    refused_rack 23 rack-read rack 4 9 9 given
+    refused_rack 24 rack-read rack 1 1 4 given
     refused_rack 1 rack-load rack 1 1 0 "${first:0:18}"
     refused_rack 25 rack-load rack 1 2 0 "${first:0:18}"
     same 'the rack at the end' "1:01$first " "$(entries rack)"
@@ -96,14 +97,14 @@ test_rack_trace() {
 # is the same to the mission: there is no digest of it in the log.
 test_rack_says_no_more() {
     begin_rack
-    run 1 rack-read rack 2 0 1 header # loaded, and not lent
+    run 1 rack-read -f rack 2 0 1 given # loaded, and not lent
     sed 's/^[^ ]*Z //' "$said/err" >loaded
     run 0 rack-load rack 1 1 0 "$second"
-    run 1 rack-read rack 2 0 1 header
+    run 1 rack-read -f rack 2 0 1 given
     sed 's/^[^ ]*Z //' "$said/err" >another
     alike 'what is said after another load' loaded another
     run 0 rack-drop rack 0 0 1
-    run 1 rack-read rack 2 0 1 header # empty
+    run 1 rack-read -f rack 2 0 1 given # empty
     sed 's/^[^ ]*Z //' "$said/err" >dropped
     alike 'what is said of an empty place and of one that is not lent' loaded dropped
     same 'the sentence of 25' "The place is not open to this mission: it is empty, or another's \
@@ -115,7 +116,7 @@ test_rack_refusals() {
     local number
     for number in 4 5 256 4294967296 4611686018427387904 18446744073709551615; do
         refused_rack 23 rack-load rack "$number" 0 0 "$first"
-        refused_rack 23 rack-read rack 0 "$number" 1 header
+        refused_rack 23 rack-read rack 0 "$number" 1 given
         refused_rack 23 rack-drop rack "$number" "$number" "$number"
         refused_rack 23 rack-lend rack 0 0 1 "$number"
         refused_rack 24 rack-load rack 0 0 "$number" "$first"
@@ -141,22 +142,22 @@ test_rack_refusals() {
     for length in 0 11 175 177 100000; do
         head -c "$length" /dev/zero >rack
         refused_rack 8 rack-load rack 0 0 1 "$first"
-        refused_rack 25 rack-read rack 0 0 1 header
+        refused_rack 25 rack-read rack 0 0 1 given
         refused_rack 25 rack-drop rack 0 0 1
         head -c "$length" /dev/zero | tr '\0' '\1' >rack
-        refused_rack "$((length > 0 ? 8 : 25))" rack-read rack 0 0 0 header
+        refused_rack "$((length > 0 ? 8 : 25))" rack-read rack 0 0 0 given
         refused_rack "$((length > 165 ? 8 : 25))" rack-lend rack 3 3 3 0
         refused_rack "$((length > 165 ? 8 : 25))" rack-drop rack 3 3 3
     done
     # Every content is a rack: a first byte of 1, or above 5, is loaded and lent to nobody.
     head -c 176 /dev/zero | tr '\0' '\377' >rack
     reads FFFFFFFFFFFFFFFFFFFF 3 3 3
-    refused_rack 25 rack-read rack 0 3 3 header
+    refused_rack 25 rack-read rack 0 3 3 given
     run 0 rack-load rack 3 3 3 "$first"
     same 'a first byte that stays' "FF$first" "$(digits rack | tail -c 22)"
     head -c 176 /dev/zero | tr '\0' '\2' >rack # all lent to mission 0
     reads 02020202020202020202 0 3 3
-    refused_rack 25 rack-read rack 1 3 3 header
+    refused_rack 25 rack-read rack 1 3 3 given
 }
 
 test_rack_says_where() {
@@ -185,21 +186,21 @@ test_rack_usage() {
     kept 2 'this command has no such option' rack-drop -f rack 0 0 1
     for word in x '' -1 0x1 1.5 ' 1' 18446744073709551616; do
         kept 2 "$word: not a number, or too large" rack-drop -- rack "$word" 0 1
-        kept 2 "$word: not a number, or too large" rack-read -- rack 0 "$word" 1 header
+        kept 2 "$word: not a number, or too large" rack-read -- rack 0 "$word" 1 given
         kept 2 "$word: not a number, or too large" rack-load -- rack 0 0 "$word" "$first"
         kept 2 "$word: not a number, or too large" rack-lend -- rack 0 0 1 "$word"
     done
-    # A rack that is not there is empty when it is loaded, and only then.
-    kept 2 'none: No such file' rack-read none 0 0 1 header
-    kept 2 'none: No such file' rack-drop none 0 0 1
-    kept 2 'none: No such file' rack-lend none 0 0 1 2
+    # A rack that is not there is the empty rack.
+    kept 1 'refused, number 25' rack-read none 0 0 1 given
+    kept 1 'refused, number 25' rack-drop none 0 0 1
+    kept 1 'refused, number 25' rack-lend none 0 0 1 2
     kept 1 'refused, number 25' rack-load none 0 1 0 "$first"
     kept 1 'refused, number 1,' rack-load none 0 0 0 00
     kept 2 'none/rack: its folder cannot be opened: none: No such file' \
         rack-load none/rack 0 0 0 "$first"
     # A rack is a file that is replaced, and no other.
     kept 2 'directory: Is a directory' rack-load directory 0 0 1 "$first"
-    kept 2 'directory: Is a directory' rack-read directory 0 0 1 header
+    kept 2 'directory: Is a directory' rack-read directory 0 0 1 given
     for word in - /dev/stdin /dev/fd/0 /dev/null /dev/full; do
         kept 2 "$word: a rack is kept in a file, by its name" rack-load "$word" 0 0 1 "$first" <rack
     done
@@ -208,7 +209,7 @@ test_rack_usage() {
     rm pipe
     kept 2 'rack: this is the rack' rack-read rack 0 0 1 ./rack
     # Reading takes it from anywhere.
-    run 0 rack-read - 0 0 1 header <rack
+    run 0 rack-read -f - 0 0 1 header <rack
     same 'a header from standard input' "$first" "$(digits header)"
     run 0 rack-load rack 0 0 2 header
     run 0 rack-load rack 0 0 3 - <header
@@ -220,11 +221,11 @@ test_rack_usage() {
 test_rack_outputs() {
     begin_rack
     echo old >header
-    run 2 --no-clobber rack-read rack 0 0 1 header
-    has 'a file that is not to be replaced' 'header: File exists' "$err"
+    run 2 rack-read rack 0 0 1 header
+    has 'a file that is not to be replaced' 'header: this file is there already' "$err"
     same 'that file' old "$(<header)"
     chmod 604 header
-    run 0 rack-read rack 0 0 1 header
+    run 0 rack-read -f rack 0 0 1 given
     same 'mode of a file that is replaced' 604 "$(stat -c %a header)"
     run 2 rack-read rack 0 0 1 /dev/full
     has 'a full device' '/dev/full: No space left on device' "$err"
@@ -236,9 +237,9 @@ test_rack_outputs() {
     same 'a link stays a link' elsewhere "$(readlink rack)"
     same 'the file that it leads to' "1:04$first 640" "$(entries elsewhere)$(stat -c %a elsewhere)"
     ln -s nowhere astray
-    run 2 rack-load astray 0 0 1 "$first"
-    has 'a link that leads nowhere' 'astray: No such file or directory' "$err"
-    same 'what came of it' no "$([ -e nowhere ] && echo yes || echo no)"
+    run 1 rack-read astray 0 0 1 out
+    run 0 rack-load astray 0 0 1 "$first"
+    same 'a rack by a link that led nowhere' "1:01$first nowhere" "$(entries nowhere)$(readlink astray)"
     ln -s round round
     run 2 rack-load round 0 0 1 "$first"
     prefix=(bash -c 'umask 027; exec "$@"' bash)
@@ -259,7 +260,7 @@ test_rack_permissions() {
     kept 2 'rack: Permission denied' rack-load rack 0 0 1 "$second"
     reads "$first" 0 0 1 # which needs no more than reading
     chmod 000 rack
-    run 2 rack-read rack 0 0 1 header
+    run 2 rack-read rack 0 0 1 given
     has 'a rack that may not be read' 'rack: Permission denied' "$err"
     mkdir shut
     chmod 644 rack
@@ -291,8 +292,8 @@ header=$first answer=0 place=0 status=0" "$(tail -n 1 log)"
     logged log 'rack-drop caller=1 owner=0 rack-place=1 to=- header=- answer=25 place=0 status=1'
     run 1 --log log rack-load rack 0 0 1 00
     logged log 'rack-load caller=0 owner=0 rack-place=1 to=- header=00 answer=1 place=0 status=1'
-    run 2 --log log rack-drop none 0 0 1
-    logged log 'rack-drop caller=0 owner=0 rack-place=1 to=- header=- answer=- place=- status=2'
+    run 1 --log log rack-drop none 0 0 1
+    logged log 'rack-drop caller=0 owner=0 rack-place=1 to=- header=- answer=25 place=0 status=1'
     run 2 --log log rack-lend rack 0 0 1 x
     logged log 'rack-lend caller=0 owner=0 rack-place=1 to=- header=- answer=- place=- status=2'
     run 2 --log log rack-drop rack x 0 1
@@ -315,6 +316,7 @@ header=$first answer=0 place=0 status=0" "$(tail -n 1 log)"
     has 'the output as log' './out: this is the log' "$err"
     mkdir 0
     run 0 --log 0/0 rack-lend rack 0 0 1 1 # a number is no file
+    run 0 --log 5 rack-lend --wait 5 rack 0 0 1 1
 }
 
 # The system fails the command at each step.
@@ -328,7 +330,7 @@ once_rack_faults() {
         kept 2 'mahyrei: ' rack-load rack 0 0 1 header
         [ "$fault" = read:2:5 ] || kept 2 'mahyrei: ' rack-lend rack 0 0 1 2
     done
-    for fault in write:1:28 fsync:1:5 link:1:5 link:1:1; do # where there was none
+    for fault in write:1:28 fsync:1:5 rename:1:5; do # where there was none
         prefix=(env "LD_PRELOAD=$faults" "FAULT=$fault")
         kept 2 'mahyrei: ' rack-load none 0 0 1 header
     done
@@ -353,7 +355,7 @@ once_rack_full_disk() {
         echo 'command: no small disk can be mounted here; no rack is on a full one'
         return
     fi
-    # shellcheck disable=SC2016
+    # shellcheck disable=SC2016  # the inner shell expands it
     "${space[@]}" bash -c 'mount -t tmpfs -o size=4k none directory || exit
         cp rack directory/rack
         "$@" rack-lend directory/rack 0 0 1 2; echo "status $?"
@@ -368,7 +370,7 @@ held_load() {
     local temporary=''
     : >hold
     rm -f .mahyrei.*
-    # shellcheck disable=SC2016
+    # shellcheck disable=SC2016  # the inner shell expands it
     env --default-signal env "LD_PRELOAD=$faults" FAULT=hold bash -c 'ulimit -c 0; exec "$@"' \
         bash "$mahyrei" --log /dev/null rack-load "$@" 2>/dev/null &
     held=$!
@@ -406,6 +408,24 @@ once_rack_two_at_once() {
     same 'status of the one that came late' 0 $?
     same 'both are in the new one' "4:01$first 8:03$second " "$(entries new)"
     same 'what is left beside them' '' "$(find . -name '.mahyrei*')"
+}
+
+# Who waited answers by what the first has left, and not by the file that it had opened.
+once_rack_waited_for() {
+    begin_rack
+    local other
+    held_load rack 1 1 0 "$first"
+    "$mahyrei" rack-lend rack 1 1 0 2 2>waited &
+    other=$!
+    for ((i = 0; i < 200; i++)); do
+        [ ! -s waited ] || break
+        sleep 0.02
+    done
+    rm hold
+    wait "$held"
+    wait "$other"
+    same 'status of a loan of what the first has loaded' 0 $?
+    same 'the rack then' "1:01$first 4:04$first " "$(entries rack)"
 }
 
 # Sixteen at once on a rack that is not there, and then sixteen loans.
@@ -482,4 +502,260 @@ once_rack_terminal() {
     script -qec "$mahyrei -q rack-read rack 0 0 1 -" /dev/null </dev/null >"$said/out"
     same 'status with a terminal' 2 $?
     has 'bytes for a terminal' 'this is a terminal' "$(out)"
+}
+
+# A rack that is shared keeps its owner, group and list, or nothing is done: who may not keep them
+# would lock others out of their own places.
+test_rack_shared() {
+    begin_rack
+    if [ "$(id -u)" -ne 0 ]; then
+        echo 'command: only root can give a rack away; shared ones are not tried'
+        return
+    fi
+    local owned word
+    gcc -std=c11 "$root/tests/c/access_list.c" -o list_tool
+    chmod 777 .
+    chown 1234:2345 rack
+    chmod 666 rack
+    ./list_tool set rack || echo 'command: no access lists here; a rack is shared by its mode alone'
+    owned="$(stat -c '%u %g %a' rack) $(./list_tool show rack)"
+    prefix=(chroot --userspec=65534:65534 --groups= --skip-chdir /)
+    for word in 'rack-load rack 1 1 0 5950F01BE80204000000' 'rack-drop rack 0 0 1' \
+        'rack-lend rack 0 0 1 2'; do
+        # shellcheck disable=SC2086  # several words are meant
+        kept 2 'rack: this rack is another user' $word
+        same "who has the rack after $word" "$owned" "$(stat -c '%u %g %a' rack) $(./list_tool show rack)"
+    done
+    reads "$first" 0 0 1
+    # As its owner, or as root, all of it is kept.
+    prefix=(chroot --userspec=1234:2345 --groups= --skip-chdir /)
+    run 0 rack-lend rack 0 0 1 2
+    same 'who has it after its owner' "$owned" "$(stat -c '%u %g %a' rack) $(./list_tool show rack)"
+    prefix=()
+    run 0 rack-load rack 1 1 0 "$second"
+    same 'who has it after root' "$owned" "$(stat -c '%u %g %a' rack) $(./list_tool show rack)"
+    same 'the rack after that' "1:04$first 4:01$second " "$(entries rack)"
+    # The owner has left the group: that cannot be kept either.
+    chown 1234:3456 rack
+    prefix=(chroot --userspec=1234:2345 --groups= --skip-chdir /)
+    kept 2 'rack: owner, group, mode and access list have to be kept, and cannot be' \
+        rack-lend rack 0 0 1 3
+    prefix=()
+}
+
+# Whether there is a file as yet is news of other missions: nothing that is said tells it.
+test_rack_missing() {
+    begin
+    local word
+    head -c 176 /dev/zero >there
+    for word in 'rack-read RACK 2 0 1 out' 'rack-read RACK 2 2 1 out' 'rack-drop RACK 2 2 1' \
+        'rack-lend RACK 2 2 1 3' 'rack-load RACK 2 1 0 5950F01BE80204000000' \
+        'rack-load RACK 2 2 0 00' 'rack-drop RACK 9 2 1' 'rack-read RACK 2 2 9 out'; do
+        # shellcheck disable=SC2086  # several words are meant
+        run 1 ${word/RACK/there}
+        sed -e 's/^[^ ]*Z //' -e 's/there/RACK/g' "$said/err" >empty
+        # shellcheck disable=SC2086  # several words are meant
+        run 1 ${word/RACK/missing}
+        sed -e 's/^[^ ]*Z //' -e 's/missing/RACK/g' "$said/err" >missed
+        alike "what is said of an empty and of a missing rack by $word" empty missed
+    done
+    same 'no rack was made' no "$([ -e missing ] && echo yes || echo no)"
+    # No call makes a folder, so that one that is missing tells of none.
+    for word in 'rack-read none/rack 0 0 1 out' "rack-load none/rack 0 0 1 $first" \
+        'rack-drop none/rack 0 0 1' 'rack-lend none/rack 0 0 1 2'; do
+        # shellcheck disable=SC2086  # several words are meant
+        run 2 $word
+        has "a folder that is missing, by $word" 'none/rack: its folder cannot be opened: none' "$err"
+    done
+}
+
+# The header is not taken from the rack, whose first bytes are another mission's.
+test_rack_as_header() {
+    begin_rack
+    run 0 rack-load rack 0 0 0 "$second"
+    ln rack other
+    ln -s rack link
+    : >log
+    local name
+    for name in rack ./rack other link; do
+        kept 2 "$name: this is the rack" --log log rack-load rack 3 3 3 "$name"
+        same 'nothing of it in the log' 'header=-' "$(tail -n 1 log | grep -o 'header=[^ ]*')"
+    done
+    kept 2 '-: this is the rack' --log log rack-load rack 3 3 3 - <rack
+    kept 2 '/dev/stdin: this is the rack' --log log rack-load rack 3 3 3 /dev/stdin <rack
+}
+
+# A link that leads elsewhere by the time of the replacing: the rack that was read is replaced, and
+# no other is touched.
+once_rack_link_moved() {
+    begin_rack
+    mkdir a b
+    mv rack a/rack
+    "$mahyrei" -q rack-load b/rack 3 3 3 "$second"
+    cp b/rack other
+    ln -s a/rack rack
+    ln -s b/rack next
+    prefix=(env "LD_PRELOAD=$faults" SWAP=flock:next:rack)
+    run 0 rack-load rack 1 1 0 "$second"
+    prefix=()
+    same 'the link leads elsewhere by then' b/rack "$(readlink rack)"
+    same 'the rack that was locked' "1:01$first 4:01$second " "$(entries a/rack)"
+    alike 'the rack that the link leads to by then' other b/rack
+}
+
+# A rack that somebody takes away meanwhile does not come back with what was in it.
+once_rack_taken_away() {
+    begin_rack
+    prefix=(env "LD_PRELOAD=$faults" SWAP=fsync:rack:away)
+    run 0 rack-load rack 1 1 0 "$second"
+    prefix=()
+    same 'the rack that was taken away' "1:01$first " "$(entries away)"
+    same 'the new one' "4:01$second " "$(entries rack)"
+}
+
+# A disk that says yes to a lock and locks nothing: what another program has put there meanwhile is
+# seen before it is replaced.
+once_rack_no_lock() {
+    begin_rack
+    export NOLOCK=1
+    held_load rack 1 1 0 "$first"
+    prefix=(env "LD_PRELOAD=$faults")
+    run 0 rack-load rack 2 2 0 "$second"
+    prefix=()
+    same 'the second is done while the first is held' "1:01$first 8:01$second " "$(entries rack)"
+    rm hold
+    wait "$held"
+    same 'status of the first' 0 $?
+    same 'both are there' "1:01$first 4:01$first 8:01$second " "$(entries rack)"
+    unset NOLOCK
+    same 'what is left beside it' '' "$(find . -name '.mahyrei*')"
+}
+
+# Disks without hard links, and disks without a renaming that replaces nothing.
+once_rack_without_links() {
+    begin
+    local fault name=0
+    for fault in link:1:1 link:1:95 noreplace:1:22 noreplace:1:38; do
+        prefix=(env "LD_PRELOAD=$faults" "FAULT=$fault")
+        run 0 rack-load "rack$((++name))" 0 0 1 "$first"
+        run 0 write "$header" "$marker" frames "out$name"
+        alike "slots with $fault" slots "out$name"
+        run 2 write "$header" "$marker" frames "out$name"
+    done
+    prefix=()
+    same 'what is left beside them' '' "$(find . -name '.mahyrei*')"
+}
+
+# A lock that is waited for is said so, and for as long as one likes.
+once_rack_wait() {
+    begin_rack
+    local other begun
+    held_load rack 1 1 0 "$first"
+    "$mahyrei" rack-load rack 2 2 0 "$second" 2>waited &
+    other=$!
+    for ((i = 0; i < 200; i++)); do
+        [ ! -s waited ] || break
+        sleep 0.02
+    done
+    same 'what is said while it waits' 'mahyrei: rack: another program has locked it; waiting' \
+        "$(<waited)"
+    kept 2 'rack: another program has it locked, after 0 seconds' rack-drop --wait 0 rack 0 0 1
+    begun=${EPOCHREALTIME/./}
+    kept 2 'rack: another program has it locked, after 1 seconds' rack-drop --wait 1 rack 0 0 1
+    same 'no less than that' yes \
+        "$([ $((${EPOCHREALTIME/./} - begun)) -ge 900000 ] && echo yes)"
+    kept 2 'not a number' rack-drop --wait soon rack 0 0 1
+    rm hold
+    wait "$held"
+    wait "$other"
+    same 'status of the one that waited' 0 $?
+    run 0 rack-drop --wait 5 rack 0 0 1
+    same 'the rack then' "4:01$first 8:01$second " "$(entries rack)"
+}
+
+# The first leaves a rack that another has locked already: the two waits together are no longer than
+# was said.
+once_rack_wait_twice() {
+    begin_rack
+    if ! command -v flock >"$said/out"; then
+        echo 'command: no flock(1) here; nobody waits for two locks'
+        return
+    fi
+    local behind begun
+    cp rack next
+    (flock 9 && : >one && exec sleep 20) 9<next &
+    behind=$!
+    (flock 9 && : >two && sleep 3 && mv next rack) 9<rack &
+    while [ ! -e one ] || [ ! -e two ]; do
+        sleep 0.02
+    done
+    begun=${EPOCHREALTIME/./}
+    run 2 rack-drop --wait 4 rack 0 0 1
+    same 'no more than that' yes \
+        "$([ $((${EPOCHREALTIME/./} - begun)) -lt 6500000 ] && echo yes)"
+    has 'what is said then' 'rack: another program has it locked, after 4 seconds' "$err"
+    same 'that it waits is said once' 1 "$(grep -c '; waiting$' "$said/err")"
+    kill "$behind"
+    wait
+}
+
+# One's own places and those lent to one, and no others; and loans that are ended.
+test_rack_list() {
+    begin
+    local other
+    other=$(header 1 4 5 189 500 5 2)
+    run 0 rack-list rack 0
+    same 'an empty rack' '' "$(out)"
+    logged "$said/err" 'rack-list caller=0 owner=- rack-place=- to=- header=- answer=0 place=0 status=0'
+    run 0 -q rack-load rack 0 0 1 "$header"
+    run 0 -q rack-load rack 0 0 3 "$other"
+    run 0 -q rack-load rack 2 2 0 "$other"
+    run 0 -q rack-lend rack 0 0 1 2
+    run 0 -q rack-list rack 0
+    same 'places of mission 0' "0 1 $header"$'\n'"0 3 $other" "$(out)"
+    run 0 -q rack-list rack 2
+    same 'places of mission 2' "0 1 $header"$'\n'"2 0 $other" "$(out)"
+    run 0 -q rack-list rack 1
+    same 'places of mission 1' '' "$(out)"
+    # What a mission is told is what rack-read gives it, place by place.
+    local caller owner place told
+    for caller in 0 1 2 3; do
+        told=''
+        for owner in 0 1 2 3; do
+            for place in 0 1 2 3; do
+                if "$mahyrei" -qf rack-read rack $caller $owner $place got 2>"$said/err"; then
+                    told+="$owner $place $(od -An -v -tx1 got | tr -d ' \n' | tr a-f A-F)"$'\n'
+                fi
+            done
+        done
+        run 0 -q rack-list rack "$caller"
+        same "what mission $caller is told" "$told" "$(out)${told:+$'\n'}"
+    done
+    unharmed 1 "refused, number 23, place 0: $(sentence 23)" rack-list rack 4
+    unharmed 2 'x: not a number' rack-list rack x
+    run 0 -q rack-list - 2 <rack
+    same 'a rack on standard input' 2 "$(wc -l <"$said/out")"
+}
+
+test_rack_lend_none() {
+    begin
+    run 0 -q rack-load rack 0 0 1 "$header"
+    cp rack before
+    run 0 -q rack-lend rack 0 0 1 2
+    cp rack lent
+    run 1 -q rack-lend rack 2 0 1 none # the borrower cannot
+    alike 'the rack then' lent rack
+    run 1 -q rack-lend rack 1 0 1 none
+    alike 'the rack then' lent rack
+    run 0 rack-lend rack 0 0 1 none
+    logged "$said/err" 'rack-lend caller=0 owner=0 rack-place=1 to=none header=- answer=0 place=0 status=0'
+    alike 'a rack whose loan was ended' before rack
+    run 1 -q rack-read rack 2 0 1 out
+    run 0 -q rack-lend rack 0 0 1 none # there is none to end
+    alike 'a rack without a loan' before rack
+    run 1 -q rack-lend rack 0 0 2 none
+    has 'an empty place' "refused, number 25, place 0: $(sentence 25)" "$err"
+    run 1 -q rack-lend rack 0 0 4 none
+    has 'no place' "refused, number 24, place 0: $(sentence 24)" "$err"
+    run 2 -q rack-lend rack 0 0 1 nobody
 }

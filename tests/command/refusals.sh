@@ -1,5 +1,5 @@
 # Every number, with its place and sentence.
-# shellcheck shell=bash disable=SC2034,SC2154
+# shellcheck shell=bash
 
 test_refusals() {
     begin
@@ -90,8 +90,8 @@ test_refusal_says_where() {
     damage move 3787
     says 'damaged: symbol 3787 is slots 75740 to 75759, in bytes 9467 to 9469' \
         verify "$header" "$m" damaged
-    # Word 1 is symbols 3780 to 7559 of all; by steps 9 and 10 the first at place 3780, behind two
-    # markers, the last at 7559 + 4 * 945, behind three.
+    # Word 1 is symbols 3780 to 7559 of all; by steps 9 and 10 the first at place 3780, after two
+    # markers, the last at 7559 + 4 * 945, after three.
     damage turn 1 7000
     says 'damaged: word 1 has its symbols from 3790 to 11354: slots 75800 to 227099, bytes 9475 to 28387' \
         read "$header" "$m" damaged out

@@ -1,5 +1,5 @@
 # Headers.
-# shellcheck shell=bash disable=SC2034,SC2154
+# shellcheck shell=bash
 
 test_sheet() {
     begin
@@ -24,7 +24,7 @@ test_sheet() {
         has 'what is said then' ": copies is $((16#$byte / 4))" "$err"
     done
     run 1 sheet "${example:0:12}05000000"
-    same 'a set bit behind the factor' 'no 1' "$(out)"
+    same 'a set bit after the factor' 'no 1' "$(out)"
     run 1 sheet "$(header 1 4 2 189 500 5 3)"
     same 'a sheet that is refused' 'no 5' "$(out)"
     has 'what is said then' "refused, number 5, place 0: $(sentence 5)" "$err"
@@ -55,13 +55,13 @@ once_sheet_beside_runsheet() {
     for rate in 0 1 2 3; do
         for shape in "${shapes[@]}"; do
             size="$((RANDOM % 2048 + 1)) $((RANDOM % 32 + 1)) $((RANDOM % 64 + 1))"
-            # shellcheck disable=SC2086
+            # shellcheck disable=SC2086  # several words are meant
             headers+=("$(header $rate $shape $size $((1 << RANDOM % 6)))"
                 "$(header $rate $shape ${sizes[RANDOM % ${#sizes[@]}]} $((RANDOM % 64)))")
         done
     done
     for size in "${sizes[@]}"; do
-        # shellcheck disable=SC2086
+        # shellcheck disable=SC2086  # several words are meant
         headers+=("$(header 1 8 10 21 $size)")
     done
     for m in 0 1 2 3 4 5 6 7 8 9 15; do
@@ -128,7 +128,7 @@ test_header() {
         same "the header of $copies copies" "$(header 1 6 84 120 223 16 2 "$copies")" "$(out)"
     done
     run 2 header "${fields[@]}" -n -o file
-    has 'a header that is there' 'file: File exists' "$err"
+    has 'a header that is there' 'file: this file is there already' "$err"
     for wrong in 'm=9 3 m' 'N=0 4 N' 'B=257 4 B' 'F=2049 6 F' 'W=33 7 W' 'A=65 6 A' \
         'A=18446744073709551615 6 A' 'copies=0 20 copies' 'copies=5 20 copies' \
         'copies=33 20 copies' 'copies=64 20 copies' 'copies=65 20 copies' \

@@ -1,12 +1,12 @@
 # How far one bit spreads.
-# shellcheck shell=bash disable=SC2034,SC2154
+# shellcheck shell=bash
 
 test_spread() {
     begin
     run 0 spread 1/3 0
     has 'the first places of bit 0' '52 0 1 2 4 5 6 7 8 15' "$(out)"
     same 'lines of it' 1 "$(wc -l <"$said/out")"
-    same 'places behind the count' 53 "$(wc -w <"$said/out")"
+    same 'places after the count' 53 "$(wc -w <"$said/out")"
     same 'places in ascending order' "$(cut -d ' ' -f 2- "$said/out" | tr ' ' '\n' | sort -nu | xargs)" \
         "$(cut -d ' ' -f 2- "$said/out")"
     logged "$said/err" 'spread rate=1/3 bit=0 answer=0 place=0 status=0'

@@ -1,5 +1,5 @@
 # What a terminal shows.
-# shellcheck shell=bash disable=SC2034,SC2154
+# shellcheck shell=bash
 
 once_progress() {
     begin
@@ -14,8 +14,8 @@ once_progress() {
     fi
     # A busy machine may see more of it than half a second and a second.
     local wiped=$'\r\e\\[K' form
-    form="^(${wiped}mahyrei: [a-z ]+, [0-9]+\\.[05] s)+$wiped\$"
-    script -qec "(sleep 1.2; cat frames) | $mahyrei --log log write $header $marker - out" /dev/null \
+    form="^(${wiped}mahyrei: [a-z ]+, [0-9]+\\.[05] s)+${wiped}mahyrei: 3 frames, 1,500 bytes, as 28,388 bytes of slots: out on disk.\$"
+    script -qec "(sleep 1.2; cat frames) | $mahyrei --log log write -f $header $marker - out" /dev/null \
         </dev/null >"$said/out"
     same "progress on a terminal: $(cat -v "$said/out")" yes "$([[ $(out) =~ $form ]] && echo yes)"
     has 'the beginning of it' 'mahyrei: reading the input, 0.5 s' "$(out)"

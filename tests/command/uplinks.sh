@@ -1,5 +1,5 @@
 # Command frames to slots and back.
-# shellcheck shell=bash disable=SC2034,SC2154
+# shellcheck shell=bash
 
 # commands COUNT: so many frames of eight bytes, no two alike, in `commands`
 commands() {
@@ -40,10 +40,10 @@ test_uplink_round_trip() {
     done
     # One by one the codeblocks are the same.
     commands 3
-    run 0 uplink-write commands out
+    run 0 uplink-write -f commands out
     for count in 0 1 2; do
         tail -c +$((count * 8 + 1)) commands | head -c 8 >one
-        run 0 uplink-write one codeblock
+        run 0 uplink-write -f one codeblock
         alike "codeblock $count" codeblock <(tail -c +$((count * 64 + 1)) out | head -c 64)
     done
 }
@@ -64,7 +64,7 @@ test_uplink_known() {
     local frame first last slots
     while read -r frame first last; do
         bytes "$frame" >one
-        run 0 -q uplink-write one out
+        run 0 -q uplink-write -f one out
         slots=$(od -An -v -tx1 out | tr -d ' \n' | tr a-f A-F)
         same "slots of $frame" "$first .. $last" "${slots:0:16} .. ${slots: -16}"
     done < <(known_slots)
@@ -102,7 +102,7 @@ test_uplink_refusals() {
     put 191 80 # asked of all slots before any parity
     refused 28 383 uplink-read damaged out
     commands 3
-    "$mahyrei" -q uplink-write commands sent
+    "$mahyrei" -qf uplink-write commands sent
     cat <(head -c 96 sent) <(tail -c 32 sent) <(tail -c 64 sent) >damaged # another frame's parity
     refused 29 1 uplink-read damaged out
 }
@@ -138,9 +138,9 @@ test_uplink_usage() {
     cp commands both
     "$mahyrei" -q uplink-write - - <commands | "$mahyrei" -q uplink-read - - | cmp -s - both
     same 'status of each program in a row' '0 0 0' "${PIPESTATUS[*]}"
-    run 0 uplink-write both both
+    run 0 uplink-write -f both both
     alike 'slots over their own frames' sent both
-    run 0 uplink-read both both
+    run 0 uplink-read -f both both
     alike 'frames over their own slots' commands both
 }
 
@@ -160,17 +160,17 @@ status=0" "$(tail -n 1 log)"
 slots-sha256=$(digest sent) slots-file=sent " "$(tail -n 1 log)"
     logged log "uplink-read $sound_uplink"
     put 69 80
-    run 1 --log log uplink-read damaged out
+    run 1 --log log uplink-read -f damaged out
     has 'a refusal in the log' "frames=- frames-sha256=- frames-file=out slots=192 \
 slots-sha256=$(digest damaged) slots-file=damaged answer=28 place=139 status=1" "$(tail -n 1 log)"
-    run 1 --log log uplink-write /dev/zero out
+    run 1 --log log uplink-write -f /dev/zero out
     has 'what is not read to its end' 'frames=513 frames-sha256=- frames-file=/dev/zero' \
         "$(tail -n 1 log)"
     run 2 --log log uplink-write none out
     logged log 'uplink-write frames=- slots=- answer=- place=- status=2'
-    run 0 --quiet uplink-write commands out
+    run 0 --quiet uplink-write -f commands out
     same 'what a quiet uplink says' '' "$err"
-    run 1 -q uplink-read damaged out
+    run 1 -q uplink-read -f damaged out
     has 'a quiet refusal' 'mahyrei: refused, number 28, place 139: ' "$err"
     same 'no line of the log there' 0 "$(grep -Ec "$log_line" "$said/err")"
     cp commands kept
@@ -185,16 +185,16 @@ test_uplink_outputs() {
     begin_uplink
     echo old >out
     run 2 --no-clobber uplink-write commands out
-    has 'a file that is not to be replaced' 'out: File exists' "$err"
+    has 'a file that is not to be replaced' 'out: this file is there already' "$err"
     same 'that file' old "$(<out)"
     chmod 604 out
-    run 0 uplink-write commands out
+    run 0 uplink-write -f commands out
     same 'mode of a file that is replaced' 604 "$(stat -c %a out)"
     rm out
     run 0 -n uplink-read sent out
     alike 'frames in a new file' commands out
     ln -s out link
-    run 0 uplink-write commands link
+    run 0 uplink-write -f commands link
     same 'a link stays a link' out "$(readlink link)"
     alike 'the file that a link leads to' sent out
     run 2 uplink-write commands /dev/full
@@ -205,7 +205,7 @@ test_uplink_outputs() {
 once_uplink_faults() {
     begin_uplink
     local fault
-    for fault in read:1:5 write:1:28 write:1:5 fsync:1:5 close:2:5 rename:1:5; do
+    for fault in read:1:5 write:1:28 write:1:5 fsync:1:5 close:1:5 rename:1:5; do
         prefix=(env "LD_PRELOAD=$faults" "FAULT=$fault")
         unharmed 2 'mahyrei: ' uplink-write commands out
         unharmed 2 'mahyrei: ' uplink-read sent out
@@ -226,9 +226,9 @@ once_uplink_signals() {
     for signal in INT TERM HUP SEGV KILL; do
         : >hold
         rm -f .mahyrei.*
-        # shellcheck disable=SC2016
+        # shellcheck disable=SC2016  # the inner shell expands it
         env --default-signal env "LD_PRELOAD=$faults" FAULT=hold bash -c 'ulimit -c 0; exec "$@"' \
-            bash "$mahyrei" --log /dev/null uplink-read sent out 2>/dev/null &
+            bash "$mahyrei" --log /dev/null uplink-read -f sent out 2>/dev/null &
         held=$! temporary=''
         while [ ! -s "$temporary" ] && kill -0 "$held" 2>/dev/null; do
             for temporary in .mahyrei.*; do :; done

@@ -3,20 +3,19 @@
  * alone, since no fuzzer would find a run or a word by itself. A word, a pass, a run or an uplink
  * to be read is written by the library first, then damaged as the input says: slots, symbols, coded
  * bits, input bits of the code, bits of the stream under a right check. Or it is the rest of the
- * input itself. A capture to be searched has markers put into it, whole or with a slot turned over;
- * one to be cut has a run at some slot. A list of fades keeps the rules or breaks one of them. The
- * area of a delay line or of a rack holds anything.
+ * input itself. A capture to be searched, all of it or from a slot on, has markers put into it,
+ * whole or with a slot turned over; one to be cut has a run at some slot. A list of fades keeps the
+ * rules or breaks one of them. The area of a delay line or of a rack holds anything.
  *
  * What is demanded of each call: the answer and every byte of the written slice are those of the
- * plain C version (tests/c/plain_run.c, bench/plain_word.c, plain_pass.c, plain_delay.c,
- * plain_rack.c and plain_uplink.c), which is built into the fuzzer and guides it, the library being
- * closed to it; a refused call changes no lent byte; what is accepted goes back to where it came
- * from, bit for bit but for a block's spare bits, and slots of several copies at least to the same
- * frames; a symbol that a delay line takes comes out again, and so does a header that is loaded;
- * number and place are ones that the call can give.
+ * reference (reference/reference.h), which is built into the fuzzer and guides it, the library
+ * being closed to it; a refused call changes no lent byte; what is accepted goes back to where it
+ * came from, bit for bit but for a block's spare bits, and slots of several copies at least to the
+ * same frames; a symbol that a delay line takes comes out again, and so does a header that is
+ * loaded; number and place are ones that the call can give.
  *
  * The sanitizers do not see into the library either. So each slice is lent from pages of its own,
- * right before or right behind a page that may not be touched, with a margin of bytes on its other
+ * right before or right after a page that may not be touched, with a margin of bytes on its other
  * side that is compared, and the slices that a call reads are write-protected.
  */
 #define _DEFAULT_SOURCE /* MAP_ANONYMOUS */
@@ -31,12 +30,7 @@
 #include "../c/runs.h"
 #include "calls.h"
 #include "mahyrei.h"
-#include "plain_delay.h"
-#include "plain_pass.h"
-#include "plain_rack.h"
-#include "plain_run.h"
-#include "plain_uplink.h"
-#include "plain_word.h"
+#include "reference.h"
 
 enum {
     PAGE = 4096,
@@ -52,26 +46,17 @@ enum { FIELDS = 9 };
 static const size_t WIDTHS[FIELDS] = {2, 4, 8, 9, 12, 6, 7, 6, 26};
 
 static const char *const CALL_NAMES[CALLS] = {
-    [WORD_WRITE] = "word_write",
-    [WORD_READ] = "word_read",
-    [PASS_WRITE] = "pass_write",
-    [PASS_READ] = "pass_read",
-    [BIT_SPREAD] = "bit_spread",
-    [UPLINK_WRITE] = "uplink_write",
-    [UPLINK_READ] = "uplink_read",
-    [HEADER_WIDEN] = "header_widen",
-    [HEADER_NARROW] = "header_narrow",
-    [RUN_WRITE] = "run_write",
-    [RUN_READ] = "run_read",
-    [RUN_FIND] = "run_find",
-    [RUN_CUT] = "run_cut",
-    [FADES_COUNT] = "fades_count",
-    [DELAY_WRITE] = "delay_write",
-    [DELAY_READ] = "delay_read",
-    [RACK_LOAD] = "rack_load",
-    [RACK_READ] = "rack_read",
-    [RACK_DROP] = "rack_drop",
-    [RACK_LEND] = "rack_lend",
+    [WORD_WRITE] = "mahyrei_word_write",       [WORD_READ] = "mahyrei_word_read",
+    [PASS_WRITE] = "mahyrei_pass_write",       [PASS_READ] = "mahyrei_pass_read",
+    [BIT_SPREAD] = "mahyrei_bit_spread",       [UPLINK_WRITE] = "mahyrei_uplink_write",
+    [UPLINK_READ] = "mahyrei_uplink_read",     [HEADER_WIDEN] = "mahyrei_header_widen",
+    [HEADER_NARROW] = "mahyrei_header_narrow", [RUN_WRITE] = "mahyrei_run_write",
+    [RUN_READ] = "mahyrei_run_read",           [RUN_FIND] = "mahyrei_run_find",
+    [RUN_FIND_FROM] = "mahyrei_run_find_from", [RUN_CUT] = "mahyrei_run_cut",
+    [FADES_COUNT] = "mahyrei_fades_count",     [DELAY_WRITE] = "mahyrei_delay_write",
+    [DELAY_READ] = "mahyrei_delay_read",       [RACK_LOAD] = "mahyrei_rack_load",
+    [RACK_READ] = "mahyrei_rack_read",         [RACK_DROP] = "mahyrei_rack_drop",
+    [RACK_LEND] = "mahyrei_rack_lend",
 };
 
 /* The numbers that a call can answer, a bit each. */
@@ -88,6 +73,7 @@ static const uint32_t CAN_ANSWER[CALLS] = {
     [RUN_WRITE] = 0x1FF | 1U << 20,
     [RUN_READ] = 0x1FFFF | 1U << 18 | 1U << 20,
     [RUN_FIND] = 0x1FF | 1U << 19 | 1U << 20,
+    [RUN_FIND_FROM] = 0x1FF | 1U << 19 | 1U << 20,
     [RUN_CUT] = 0x1FF | 1U << 20,
     [FADES_COUNT] = 0x1FF | 1U << 20 | 1U << 22,
     [DELAY_WRITE] = 0x1FF | 1U << 20 | 1U << 26,
@@ -118,7 +104,7 @@ struct input {
     size_t left;
 };
 
-/* The next bytes as a number; behind the end there are zeros. */
+/* The next bytes as a number; after the end there are zeros. */
 static uint64_t take(struct input *in, size_t bytes) {
     uint64_t number = 0;
     for (size_t i = 0; i < bytes; i++) {
@@ -144,16 +130,16 @@ static size_t take_few(struct input *in) {
 /* Fills bytes with a piece of the input again and again, or with random ones from a seed. */
 static void fill(struct input *in, uint8_t *bytes, size_t len) {
     uint8_t piece[32] = {0};
-    const size_t choice = take_below(in, 1, 64), period = choice < 32 ? choice + 1 : 0;
-    for (size_t i = 0; i < period; i++) {
+    const size_t choice = take_below(in, 1, 64), piece_len = choice < 32 ? choice + 1 : 0;
+    for (size_t i = 0; i < piece_len; i++) {
         piece[i] = (uint8_t)take(in, 1);
     }
-    uint64_t state = period == 0 ? take(in, 4) + 1 : 0; /* xorshift64 */
+    uint64_t state = piece_len == 0 ? take(in, 4) + 1 : 0; /* xorshift64 */
     for (size_t i = 0; i < len; i++) {
         state ^= state << 13;
         state ^= state >> 7;
         state ^= state << 17;
-        bytes[i] = period == 0 ? (uint8_t)(state >> 32) : piece[i % period];
+        bytes[i] = piece_len == 0 ? (uint8_t)(state >> 32) : piece[i % piece_len];
     }
 }
 
@@ -181,7 +167,7 @@ static size_t choose_len(struct input *in, size_t right) {
 /* ---- lent slices */
 
 struct lent {
-    uint8_t *area; /* the pages before and behind it may not be touched */
+    uint8_t *area; /* the pages before and after it may not be touched */
     uint8_t *slice;
     size_t len;
     bool low; /* the slice is at the start of the area, not at its end */
@@ -191,8 +177,8 @@ struct lent {
 enum { HEADER, MARKER, FROM, TO, SLICES };
 
 static struct lent lent[SLICES];
-static uint64_t block_bit;   /* that bit_spread is asked about */
-static uint64_t from_slot;   /* that run_cut is told */
+static uint64_t block_bit;   /* that mahyrei_bit_spread is asked about */
+static uint64_t from_slot;   /* that mahyrei_run_find_from and mahyrei_run_cut are told */
 static uint64_t step, taken; /* the number and the symbol that a delay call is told */
 static uint64_t caller, owner, rack_place, borrower; /* that a rack call is told */
 static uint8_t placement; /* a bit for each slice, and one for NULL in place of an empty slice */
@@ -219,7 +205,7 @@ static uint8_t *watched(const struct lent *slice) {
     return slice->low ? slice->area : slice->area + AREA - slice->len - MARGIN;
 }
 
-/* Lends the first bytes of what is given, and zeros behind them. */
+/* Lends the first bytes of what is given, and zeros after them. */
 static void lend(int which, size_t len, const uint8_t *given, size_t given_len) {
     struct lent *const slice = &lent[which];
     slice->len = len;
@@ -285,48 +271,53 @@ static uint64_t put_library(enum call call, uint64_t rate) {
     const struct lent *const from = &lent[FROM], *const to = &lent[TO];
     switch (call) {
     case WORD_WRITE:
-        return word_write(rate, from->slice, from->len, to->slice, to->len);
+        return mahyrei_word_write(rate, from->slice, from->len, to->slice, to->len);
     case WORD_READ:
-        return word_read(rate, from->slice, from->len, to->slice, to->len);
+        return mahyrei_word_read(rate, from->slice, from->len, to->slice, to->len);
     case PASS_WRITE:
-        return pass_write(rate, from->slice, from->len, to->slice, to->len);
+        return mahyrei_pass_write(rate, from->slice, from->len, to->slice, to->len);
     case PASS_READ:
-        return pass_read(rate, from->slice, from->len, to->slice, to->len);
+        return mahyrei_pass_read(rate, from->slice, from->len, to->slice, to->len);
     case BIT_SPREAD:
-        return bit_spread(rate, block_bit, to->slice, to->len);
+        return mahyrei_bit_spread(rate, block_bit, to->slice, to->len);
     case UPLINK_WRITE:
-        return uplink_write(from->slice, from->len, to->slice, to->len);
+        return mahyrei_uplink_write(from->slice, from->len, to->slice, to->len);
     case UPLINK_READ:
-        return uplink_read(from->slice, from->len, to->slice, to->len);
+        return mahyrei_uplink_read(from->slice, from->len, to->slice, to->len);
     case HEADER_WIDEN:
-        return header_widen(from->slice, from->len, to->slice, to->len);
+        return mahyrei_header_widen(from->slice, from->len, to->slice, to->len);
     case HEADER_NARROW:
-        return header_narrow(from->slice, from->len, to->slice, to->len);
+        return mahyrei_header_narrow(from->slice, from->len, to->slice, to->len);
     case RUN_WRITE:
-        return run_write(h->slice, h->len, m->slice, m->len, from->slice, from->len, to->slice,
-                         to->len);
+        return mahyrei_run_write(h->slice, h->len, m->slice, m->len, from->slice, from->len,
+                                 to->slice, to->len);
     case RUN_READ:
-        return run_read(h->slice, h->len, m->slice, m->len, from->slice, from->len, to->slice,
-                        to->len);
+        return mahyrei_run_read(h->slice, h->len, m->slice, m->len, from->slice, from->len,
+                                to->slice, to->len);
     case RUN_FIND:
-        return run_find(h->slice, h->len, m->slice, m->len, from->slice, from->len);
+        return mahyrei_run_find(h->slice, h->len, m->slice, m->len, from->slice, from->len);
+    case RUN_FIND_FROM:
+        return mahyrei_run_find_from(h->slice, h->len, m->slice, m->len, from->slice, from->len,
+                                     from_slot);
     case RUN_CUT:
-        return run_cut(h->slice, h->len, from->slice, from->len, from_slot, to->slice, to->len);
+        return mahyrei_run_cut(h->slice, h->len, from->slice, from->len, from_slot, to->slice,
+                               to->len);
     case FADES_COUNT:
-        return fades_count(h->slice, h->len, numbers_of(from->slice), from->len / 4,
-                           numbers_of(to->slice), to->len / 4);
+        return mahyrei_fades_count(h->slice, h->len, numbers_of(from->slice), from->len / 4,
+                                   numbers_of(to->slice), to->len / 4);
     case DELAY_WRITE:
-        return delay_write(h->slice, h->len, step, taken, to->slice, to->len);
+        return mahyrei_delay_write(h->slice, h->len, step, taken, to->slice, to->len);
     case DELAY_READ:
-        return delay_read(h->slice, h->len, step, taken, to->slice, to->len);
+        return mahyrei_delay_read(h->slice, h->len, step, taken, to->slice, to->len);
     case RACK_LOAD:
-        return rack_load(to->slice, to->len, caller, owner, rack_place, h->slice, h->len);
+        return mahyrei_rack_load(to->slice, to->len, caller, owner, rack_place, h->slice, h->len);
     case RACK_READ:
-        return rack_read(from->slice, from->len, caller, owner, rack_place, to->slice, to->len);
+        return mahyrei_rack_read(from->slice, from->len, caller, owner, rack_place, to->slice,
+                                 to->len);
     case RACK_DROP:
-        return rack_drop(to->slice, to->len, caller, owner, rack_place);
+        return mahyrei_rack_drop(to->slice, to->len, caller, owner, rack_place);
     default:
-        return rack_lend(to->slice, to->len, caller, owner, rack_place, borrower);
+        return mahyrei_rack_lend(to->slice, to->len, caller, owner, rack_place, borrower);
     }
 }
 
@@ -335,48 +326,51 @@ static uint64_t put_plain(enum call call, uint64_t rate, uint8_t *to, size_t to_
     const struct lent *const from = &lent[FROM];
     switch (call) {
     case WORD_WRITE:
-        return plain_word_write(rate, from->slice, from->len, to, to_len);
+        return reference_word_write(rate, from->slice, from->len, to, to_len);
     case WORD_READ:
-        return plain_word_read(rate, from->slice, from->len, to, to_len);
+        return reference_word_read(rate, from->slice, from->len, to, to_len);
     case PASS_WRITE:
-        return plain_pass_write(rate, from->slice, from->len, to, to_len);
+        return reference_pass_write(rate, from->slice, from->len, to, to_len);
     case PASS_READ:
-        return plain_pass_read(rate, from->slice, from->len, to, to_len);
+        return reference_pass_read(rate, from->slice, from->len, to, to_len);
     case BIT_SPREAD:
-        return plain_bit_spread(rate, block_bit, to, to_len);
+        return reference_bit_spread(rate, block_bit, to, to_len);
     case UPLINK_WRITE:
-        return plain_uplink_write(from->slice, from->len, to, to_len);
+        return reference_uplink_write(from->slice, from->len, to, to_len);
     case UPLINK_READ:
-        return plain_uplink_read(from->slice, from->len, to, to_len);
+        return reference_uplink_read(from->slice, from->len, to, to_len);
     case HEADER_WIDEN:
-        return plain_header_widen(from->slice, from->len, to, to_len);
+        return reference_header_widen(from->slice, from->len, to, to_len);
     case HEADER_NARROW:
-        return plain_header_narrow(from->slice, from->len, to, to_len);
+        return reference_header_narrow(from->slice, from->len, to, to_len);
     case RUN_WRITE:
-        return plain_run_write(h->slice, h->len, m->slice, m->len, from->slice, from->len, to,
-                               to_len);
+        return reference_run_write(h->slice, h->len, m->slice, m->len, from->slice, from->len, to,
+                                   to_len);
     case RUN_READ:
-        return plain_run_read(h->slice, h->len, m->slice, m->len, from->slice, from->len, to,
-                              to_len);
+        return reference_run_read(h->slice, h->len, m->slice, m->len, from->slice, from->len, to,
+                                  to_len);
     case RUN_FIND:
-        return plain_run_find(h->slice, h->len, m->slice, m->len, from->slice, from->len);
+        return reference_run_find(h->slice, h->len, m->slice, m->len, from->slice, from->len);
+    case RUN_FIND_FROM:
+        return reference_run_find_from(h->slice, h->len, m->slice, m->len, from->slice, from->len,
+                                       from_slot);
     case RUN_CUT:
-        return plain_run_cut(h->slice, h->len, from->slice, from->len, from_slot, to, to_len);
+        return reference_run_cut(h->slice, h->len, from->slice, from->len, from_slot, to, to_len);
     case FADES_COUNT:
-        return plain_fades_count(h->slice, h->len, numbers_of(from->slice), from->len / 4,
-                                 numbers_of(to), to_len / 4);
+        return reference_fades_count(h->slice, h->len, numbers_of(from->slice), from->len / 4,
+                                     numbers_of(to), to_len / 4);
     case DELAY_WRITE:
-        return plain_delay_write(h->slice, h->len, step, taken, to, to_len);
+        return reference_delay_write(h->slice, h->len, step, taken, to, to_len);
     case DELAY_READ:
-        return plain_delay_read(h->slice, h->len, step, taken, to, to_len);
+        return reference_delay_read(h->slice, h->len, step, taken, to, to_len);
     case RACK_LOAD:
-        return plain_rack_load(to, to_len, caller, owner, rack_place, h->slice, h->len);
+        return reference_rack_load(to, to_len, caller, owner, rack_place, h->slice, h->len);
     case RACK_READ:
-        return plain_rack_read(from->slice, from->len, caller, owner, rack_place, to, to_len);
+        return reference_rack_read(from->slice, from->len, caller, owner, rack_place, to, to_len);
     case RACK_DROP:
-        return plain_rack_drop(to, to_len, caller, owner, rack_place);
+        return reference_rack_drop(to, to_len, caller, owner, rack_place);
     default:
-        return plain_rack_lend(to, to_len, caller, owner, rack_place, borrower);
+        return reference_rack_lend(to, to_len, caller, owner, rack_place, borrower);
     }
 }
 
@@ -394,7 +388,7 @@ static uint64_t place_limit(enum call call, unsigned number) {
     if (call == UPLINK_READ && number == MAHYREI_BAD_PARITY) {
         return lent[FROM].len / MAHYREI_UPLINK_CODEBLOCK_BYTES;
     }
-    if (call == RUN_FIND && number == MAHYREI_ACCEPTED) {
+    if ((call == RUN_FIND || call == RUN_FIND_FROM) && number == MAHYREI_ACCEPTED) {
         const struct run run = lent_run();
         return 8 * lent[FROM].len + 1 - run.W * group_slots(&run);
     }
@@ -411,9 +405,10 @@ static uint64_t place_limit(enum call call, unsigned number) {
 }
 
 static void judge_answer(enum call call, uint64_t rate, uint64_t answer) {
-    const unsigned number = answer_number(answer);
+    const unsigned number = mahyrei_answer_number(answer);
     require(number < NUMBERS && CAN_ANSWER[call] >> number & 1, call, "a number it cannot give");
-    require(answer_place(answer) < place_limit(call, number), call, "a place that there is not");
+    require(mahyrei_answer_place(answer) < place_limit(call, number), call,
+            "a place that there is not");
     counts->call[call].answers[number]++;
     const uint64_t kind = !is_run(call)                              ? rate
                           : lent[HEADER].len != MAHYREI_HEADER_BYTES ? 0
@@ -438,7 +433,7 @@ static uint64_t put(enum call call, uint64_t rate) {
     }
     counts->call[call].lent += lent[TO].len;
     const uint64_t to_changed = changed(&lent[TO], call);
-    if (answer_number(answer) != MAHYREI_ACCEPTED) {
+    if (mahyrei_answer_number(answer) != MAHYREI_ACCEPTED) {
         counts->call[call].changed += read_changed + to_changed;
         require(to_changed == 0, call, "refused, and changed a lent byte");
     }
@@ -448,9 +443,9 @@ static uint64_t put(enum call call, uint64_t rate) {
     const size_t start = lent[TO].low ? 0 : MARGIN;
     memcpy(expected, lent[TO].before + start, lent[TO].len);
     require(answer == put_plain(call, rate, expected, lent[TO].len), call,
-            "another answer than plain C");
+            "another answer than the reference");
     require(lent[TO].len == 0 || memcmp(lent[TO].slice, expected, lent[TO].len) == 0, call,
-            "wrote other bytes than plain C");
+            "wrote other bytes than the reference");
     return answer;
 }
 
@@ -480,7 +475,7 @@ static void put_and_back(enum call call, uint64_t rate) {
     memcpy(came, lent[FROM].slice, from_len);
     memcpy(went, lent[TO].slice, to_len);
     if (call == WORD_WRITE || call == PASS_WRITE) { /* the spare bits do not come back */
-        const size_t each = word_block_bytes(rate);
+        const size_t each = mahyrei_word_block_bytes(rate);
         for (size_t last = each - 1; last < from_len; last += each) {
             came[last] &= 0xFC;
         }
@@ -530,8 +525,9 @@ static void make_word(struct input *in, uint64_t rate) {
         fill_raw(in, given, MAHYREI_WORD_BYTES);
         return;
     }
-    fill(in, block, word_block_bytes(rate)); /* its spare bits too */
-    require(word_write(rate, block, word_block_bytes(rate), given, MAHYREI_WORD_BYTES) == 0,
+    fill(in, block, mahyrei_word_block_bytes(rate)); /* its spare bits too */
+    require(mahyrei_word_write(rate, block, mahyrei_word_block_bytes(rate), given,
+                               MAHYREI_WORD_BYTES) == 0,
             WORD_WRITE, "refused a block");
     damage_word(in, rate, given);
 }
@@ -546,11 +542,11 @@ static uint64_t take_rate(struct input *in, uint64_t *known) {
 static void put_word(struct input *in, enum call call) {
     uint64_t known;
     const uint64_t rate = take_rate(in, &known);
-    const size_t block_len = choose_len(in, word_block_bytes(known));
+    const size_t block_len = choose_len(in, mahyrei_word_block_bytes(known));
     const size_t word_len = choose_len(in, MAHYREI_WORD_BYTES);
     if (call == WORD_WRITE) {
-        fill(in, given, word_block_bytes(known));
-        lend(FROM, block_len, given, word_block_bytes(known));
+        fill(in, given, mahyrei_word_block_bytes(known));
+        lend(FROM, block_len, given, mahyrei_word_block_bytes(known));
         lend_to(word_len);
     } else {
         make_word(in, known);
@@ -571,11 +567,11 @@ static size_t take_count(struct input *in) {
 /* The words of n blocks, and a few of them damaged; in most passes one. */
 static void make_words(struct input *in, uint64_t rate, size_t n) {
     static uint8_t blocks[AREA];
-    const size_t len = word_block_bytes(rate);
+    const size_t len = mahyrei_word_block_bytes(rate);
     fill(in, blocks, n * len);
     for (size_t i = 0; i < n; i++) {
-        require(word_write(rate, blocks + i * len, len, given + i * MAHYREI_WORD_BYTES,
-                           MAHYREI_WORD_BYTES) == 0,
+        require(mahyrei_word_write(rate, blocks + i * len, len, given + i * MAHYREI_WORD_BYTES,
+                                   MAHYREI_WORD_BYTES) == 0,
                 WORD_WRITE, "refused a block");
     }
     for (size_t left = n > 0 ? take_few(in) : 0; left > 0; left--) {
@@ -587,7 +583,7 @@ static void put_pass(struct input *in, enum call call) {
     uint64_t known;
     const uint64_t rate = take_rate(in, &known);
     const size_t n = take_count(in), other = take_below(in, 1, 16) == 15 ? take_count(in) : n;
-    const size_t blocks_len = choose_len(in, n * word_block_bytes(known));
+    const size_t blocks_len = choose_len(in, n * mahyrei_word_block_bytes(known));
     const size_t words_len = choose_len(in, other * MAHYREI_WORD_BYTES);
     if (call == PASS_WRITE) {
         fill(in, given, blocks_len);
@@ -606,7 +602,7 @@ static void put_pass(struct input *in, enum call call) {
 static void put_spread(struct input *in) {
     static const unsigned LIMITS[3] = {110, 73, 56};
     uint64_t known;
-    const uint64_t rate = take_rate(in, &known), bits = word_block_bytes(known) * 8 - 2;
+    const uint64_t rate = take_rate(in, &known), bits = mahyrei_word_block_bytes(known) * 8 - 2;
     const size_t choice = take_below(in, 1, 8);
     block_bit = choice < 6    ? take(in, 2) % bits
                 : choice == 6 ? bits + take(in, 1) % 4
@@ -663,7 +659,7 @@ static void make_codeblocks(struct input *in, size_t n) {
         }
     } else if (n > 0 && n <= MAHYREI_UPLINK_MAX) {
         fill(in, frames, n * MAHYREI_UPLINK_FRAME_BYTES);
-        require(uplink_write(frames, n * MAHYREI_UPLINK_FRAME_BYTES, given, slots_len) == 0,
+        require(mahyrei_uplink_write(frames, n * MAHYREI_UPLINK_FRAME_BYTES, given, slots_len) == 0,
                 UPLINK_WRITE, "refused frames");
         damage_codeblocks(in, given, n);
     } else {
@@ -690,7 +686,12 @@ static void put_uplink(struct input *in, enum call call) {
 /* ---- runs */
 
 static size_t gcd(size_t a, size_t b) {
-    return b == 0 ? a : gcd(b, a % b);
+    while (b != 0) {
+        const size_t rest = a % b;
+        a = b;
+        b = rest;
+    }
+    return a;
 }
 
 /* Makes N and B fit: the steps that do are the multiples of one, if it is in range. */
@@ -788,10 +789,10 @@ static void put_word_back(const struct run *run, uint8_t *slots, size_t c, const
 /* Changes a bit of a word's block and makes the check right again. */
 static void flip_stream(uint8_t *word, uint64_t rate, size_t bit) {
     uint8_t block[MAHYREI_BLOCK_BYTES_MAX];
-    const size_t len = word_block_bytes(rate);
-    if (word_read(rate, word, MAHYREI_WORD_BYTES, block, len) == MAHYREI_ACCEPTED) {
+    const size_t len = mahyrei_word_block_bytes(rate);
+    if (mahyrei_word_read(rate, word, MAHYREI_WORD_BYTES, block, len) == MAHYREI_ACCEPTED) {
         flip(block, bit);
-        require(word_write(rate, block, len, word, MAHYREI_WORD_BYTES) == 0, WORD_WRITE,
+        require(mahyrei_word_write(rate, block, len, word, MAHYREI_WORD_BYTES) == 0, WORD_WRITE,
                 "refused a block");
     }
 }
@@ -909,7 +910,7 @@ static void put_header(struct input *in, enum call call) {
         pack_header(&run, header);
     }
     const size_t choice = take_below(in, 1, 32);
-    if (choice < FIELDS - 1) { /* behind A, the old form has zeros alone */
+    if (choice < FIELDS - 1) { /* after A, the old form has zeros alone */
         set_field(header, choice, choice == 0 ? 3 : take(in, 4));
     } else if (choice == FIELDS) {
         flip(header, take_below(in, 1, 8 * bytes));
@@ -941,8 +942,9 @@ static void make_slots(struct input *in, const struct run *run, const uint8_t *m
     fill(in, frames, frame_bytes(run));
     pack_header(run, header);
     memset(given, 0, slot_bytes(run)); /* an input says all that it does */
-    if (run_write(header, sizeof header, marker, run->W, frames, frame_bytes(run), given,
-                  slot_bytes(run)) == MAHYREI_ACCEPTED) { /* not where a marker symbol is M */
+    if (mahyrei_run_write(header, sizeof header, marker, run->W, frames, frame_bytes(run), given,
+                          slot_bytes(run)) ==
+        MAHYREI_ACCEPTED) { /* not where a marker symbol is M */
         damage_run(in, run, given);
     }
 }
@@ -983,7 +985,7 @@ static void put_marker(const struct run *run, const uint8_t *marker, size_t at, 
 static size_t make_capture(struct input *in, const struct run *run, const uint8_t *marker) {
     static const uint8_t AROUND[2] = {0, 0xFF};
     const size_t len = take_below(in, 2, 6000), how = take_below(in, 1, 8);
-    const size_t taken = run->W * group_slots(run);
+    const size_t marker_slots = run->W * group_slots(run);
     if (how == 7) {
         fill_raw(in, given, len);
         return len;
@@ -995,10 +997,10 @@ static size_t make_capture(struct input *in, const struct run *run, const uint8_
     }
     for (size_t left = len > 0 ? take_few(in) : 0; left > 0; left--) {
         const size_t choice = take_below(in, 1, 8);
-        const size_t at =
-            choice == 0 && 8 * len >= taken ? 8 * len - taken : take_below(in, 3, 8 * len);
+        const size_t at = choice == 0 && 8 * len >= marker_slots ? 8 * len - marker_slots
+                                                                 : take_below(in, 3, 8 * len);
         put_marker(run, marker, at, 8 * len);
-        const size_t wrong = at + take_below(in, 2, taken);
+        const size_t wrong = at + take_below(in, 2, marker_slots);
         if (choice > 4 && wrong < 8 * len) {
             flip(given, wrong);
         }
@@ -1006,7 +1008,17 @@ static size_t make_capture(struct input *in, const struct run *run, const uint8_
     return len;
 }
 
-static void put_find(struct input *in) {
+/* The slot to search from: any, one about the last that has room for a marker, or any number. */
+static uint64_t take_slot(struct input *in, const struct run *run, size_t len) {
+    const size_t choice = take_below(in, 1, 8), end = 8 * len;
+    const size_t marker_slots = run->W * group_slots(run);
+    if (choice < 5 || end < marker_slots) {
+        return take_below(in, 3, end + 1);
+    }
+    return choice < 7 ? end - marker_slots + choice - 5 : take(in, 8);
+}
+
+static void put_find(struct input *in, enum call call) {
     uint8_t marker[MARKER_ROOM];
     const struct run run = make_run(in);
     lend_header(in, &run);
@@ -1015,7 +1027,17 @@ static void put_find(struct input *in) {
     const size_t len = make_capture(in, &run, marker);
     lend(FROM, len, given, len);
     lend_to(0); /* it writes nothing */
-    put(RUN_FIND, 0);
+    if (call == RUN_FIND) {
+        put(RUN_FIND, 0);
+        return;
+    }
+    from_slot = take_slot(in, &run, len);
+    const uint64_t answer = put(RUN_FIND_FROM, 0), found = mahyrei_answer_place(answer);
+    if (mahyrei_answer_number(answer) == MAHYREI_ACCEPTED) {
+        require(found >= from_slot, RUN_FIND_FROM, "found a slot below the given one");
+        from_slot = found;
+        require(put(RUN_FIND_FROM, 0) == answer, RUN_FIND_FROM, "missed the slot that it found");
+    }
 }
 
 /* A run at some slot of a capture: what is cut out is the run, and reads as its frames. */
@@ -1028,8 +1050,8 @@ static void put_cut(struct input *in) {
     make_marker(in, &run, marker);
     fill(in, frames, frame_bytes(&run));
     pack_header(&run, header);
-    const bool sound = run_write(header, sizeof header, marker, run.W, frames, frame_bytes(&run),
-                                 written, bytes) == MAHYREI_ACCEPTED;
+    const bool sound = mahyrei_run_write(header, sizeof header, marker, run.W, frames,
+                                         frame_bytes(&run), written, bytes) == MAHYREI_ACCEPTED;
     const size_t at = take_below(in, 1, 256), len = (at + count + 7) / 8 + take_below(in, 1, 32);
     fill(in, given, len);
     for (size_t x = 0; sound && x < count; x++) {
@@ -1051,8 +1073,9 @@ static void put_cut(struct input *in) {
     lend(MARKER, run.W, marker, run.W);
     lend_to(0);
     const uint64_t found = put(RUN_FIND, 0);
-    require(run.copies > 1 || (answer_number(found) == 0 && answer_place(found) <= at), RUN_FIND,
-            "missed a run");
+    require(run.copies > 1 ||
+                (mahyrei_answer_number(found) == 0 && mahyrei_answer_place(found) <= at),
+            RUN_FIND, "missed a run");
     lend(FROM, bytes, written, bytes);
     lend_to(frame_bytes(&run));
     require(put(RUN_READ, 0) == MAHYREI_ACCEPTED, RUN_READ, "refused what was cut out");
@@ -1151,7 +1174,7 @@ static void put_delay(struct input *in, enum call call) {
                           : take(in, 8);
     fill(in, given, len);
     lend(TO, choose_len(in, len), given, len);
-    if (answer_number(put(call, 0)) != MAHYREI_ACCEPTED) {
+    if (mahyrei_answer_number(put(call, 0)) != MAHYREI_ACCEPTED) {
         return;
     }
     const struct run lent_as = lent_run();
@@ -1164,7 +1187,7 @@ static void put_delay(struct input *in, enum call call) {
     lend(TO, lent[TO].len, given, lent[TO].len);
     step += turns * lent_as.N;
     taken = 0;
-    require(delay_symbol(put(call, 0)) == symbol, call, "gave another symbol than it took");
+    require(mahyrei_delay_symbol(put(call, 0)) == symbol, call, "gave another symbol than it took");
 }
 
 /* ---- racks */
@@ -1241,6 +1264,7 @@ static struct counts *map_counts(void) {
     return mapped;
 }
 
+/* NOLINTNEXTLINE(readability-non-const-parameter): libFuzzer gives the signature. */
 int LLVMFuzzerInitialize(int *argc, char ***argv) {
     (void)argc, (void)argv;
     counts = map_counts();
@@ -1255,8 +1279,8 @@ int LLVMFuzzerTestOneInput(const uint8_t *data, size_t size) {
     const enum call call = (enum call)take_below(&in, 1, CALLS);
     placement = (uint8_t)take(&in, 1);
     counts->inputs++;
-    if (call == RUN_FIND) {
-        put_find(&in);
+    if (call == RUN_FIND || call == RUN_FIND_FROM) {
+        put_find(&in, call);
     } else if (call == RUN_CUT) {
         put_cut(&in);
     } else if (call == FADES_COUNT) {

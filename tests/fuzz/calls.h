@@ -21,6 +21,7 @@ enum call {
     RUN_WRITE,
     RUN_READ,
     RUN_FIND,
+    RUN_FIND_FROM,
     RUN_CUT,
     FADES_COUNT,
     DELAY_WRITE,

@@ -11,12 +11,14 @@
 #include <stdlib.h>
 #include <string.h>
 
+#include "../c/check.h"
 #include "../c/runs.h"
 #include "calls.h"
 
 enum {
     /* of call and number, as calls.c has them */
-    PAIRS = 3 + 6 + 3 + 6 + 4 + 2 + 4 + 9 + 11 + 10 + 19 + 11 + 10 + 11 + 11 + 11 + 13 + 5 + 5 + 5,
+    PAIRS =
+        3 + 6 + 3 + 6 + 4 + 2 + 4 + 9 + 11 + 10 + 19 + 11 + 11 + 10 + 11 + 11 + 11 + 13 + 5 + 5 + 5,
     LEAST_INPUTS = 1500,
     MOST_INPUTS = 20000,
     RANDOM_LEN = 96,
@@ -25,14 +27,6 @@ enum {
 
 static const char *directory;
 static unsigned kept;
-
-static uint64_t random_number(void) { /* xorshift64* */
-    static uint64_t state = UINT64_C(0x9E3779B97F4A7C15);
-    state ^= state >> 12;
-    state ^= state << 25;
-    state ^= state >> 27;
-    return state * UINT64_C(0x2545F4914F6CDD1D) >> 16;
-}
 
 static void keep(const uint8_t *input, size_t len) {
     char name[4096];
@@ -60,9 +54,7 @@ static unsigned numbers_met(void) {
 
 static void put_random(void) {
     uint8_t input[RANDOM_LEN];
-    for (size_t i = 0; i < sizeof input; i++) {
-        input[i] = (uint8_t)random_number();
-    }
+    fill_random(input, sizeof input);
     const unsigned met = numbers_met();
     LLVMFuzzerTestOneInput(input, sizeof input);
     if (numbers_met() > met) {
@@ -84,7 +76,7 @@ static void put_sound(enum call call, const uint8_t *input, size_t len) {
 static void put_sound_word(uint8_t rate) {
     static const uint8_t block[MAHYREI_BLOCK_BYTES_MAX];
     uint8_t input[6 + MAHYREI_WORD_BYTES] = {WORD_READ, 0, rate, 0, 0, 3};
-    word_write(rate, block, word_block_bytes(rate), input + 6, MAHYREI_WORD_BYTES);
+    mahyrei_word_write(rate, block, mahyrei_word_block_bytes(rate), input + 6, MAHYREI_WORD_BYTES);
     put_sound(WORD_READ, input, sizeof input);
 }
 
@@ -100,8 +92,8 @@ static void put_sound_run(uint8_t rate, uint8_t m) {
     uint8_t header[MAHYREI_HEADER_BYTES];
     pack_header(&run, header);
     memcpy(input, before, sizeof before);
-    run_write(header, sizeof header, marker, sizeof marker, frames, sizeof frames,
-              input + sizeof before, slot_bytes(&run));
+    mahyrei_run_write(header, sizeof header, marker, sizeof marker, frames, sizeof frames,
+                      input + sizeof before, slot_bytes(&run));
     put_sound(RUN_READ, input, sizeof before + slot_bytes(&run));
 }
 

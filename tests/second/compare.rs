@@ -98,6 +98,7 @@ pub enum Call {
     RunWrite,
     RunRead,
     RunFind,
+    RunFindFrom,
     RunCut,
     HeaderWiden,
     HeaderNarrow,
@@ -113,7 +114,7 @@ pub enum Call {
 }
 
 impl Call {
-    pub const ALL: [Call; 20] = [
+    pub const ALL: [Call; 21] = [
         Call::WordWrite,
         Call::WordRead,
         Call::PassWrite,
@@ -122,6 +123,7 @@ impl Call {
         Call::RunWrite,
         Call::RunRead,
         Call::RunFind,
+        Call::RunFindFrom,
         Call::RunCut,
         Call::HeaderWiden,
         Call::HeaderNarrow,
@@ -146,6 +148,7 @@ impl Call {
             Call::RunWrite => "run_write",
             Call::RunRead => "run_read",
             Call::RunFind => "run_find",
+            Call::RunFindFrom => "run_find_from",
             Call::RunCut => "run_cut",
             Call::HeaderWiden => "header_widen",
             Call::HeaderNarrow => "header_narrow",
@@ -171,7 +174,7 @@ impl Call {
             Call::RunRead => &[
                 0, 1, 2, 3, 4, 5, 6, 7, 8, 9, 10, 11, 12, 13, 14, 15, 16, 18, 20,
             ],
-            Call::RunFind => &[0, 1, 2, 3, 4, 5, 6, 7, 8, 19, 20],
+            Call::RunFind | Call::RunFindFrom => &[0, 1, 2, 3, 4, 5, 6, 7, 8, 19, 20],
             Call::RunCut => &[0, 1, 2, 3, 4, 5, 6, 7, 8, 20],
             Call::HeaderWiden => &[0, 1, 2, 3, 4, 5, 6, 7, 8],
             Call::HeaderNarrow => &[0, 1, 2, 3, 4, 5, 6, 7, 8, 20, 21],

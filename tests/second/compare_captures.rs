@@ -1,6 +1,6 @@
-//! Compares `run_find` and `run_cut` with the second implementation: `compare_captures [CAPTURES
-//! [SEED]]`. Compared are the answer and every lent byte, with a margin around each slice. The
-//! specification's example in a capture comes last.
+//! Compares `mahyrei_run_find`, `mahyrei_run_find_from` and `mahyrei_run_cut` with the second
+//! implementation: `compare_captures [CAPTURES [SEED]]`. Compared are the answer and every lent
+//! byte, with a margin around each slice. The specification's example in a capture comes last.
 
 use second::compare::{argument, verdict, Call, Rng, Tally, MANY_DIFFERENCES};
 use second::run_cases::{compare_capture, example_capture, Sizes, LEAST_CAPTURES};
@@ -25,7 +25,7 @@ fn run() -> Result<(), String> {
         }
     }
     example_capture(&mut tally, &mut Rng::of_index(seed, captures));
-    tally.report(&[Call::RunFind, Call::RunCut], seed)
+    tally.report(&[Call::RunFind, Call::RunFindFrom, Call::RunCut], seed)
 }
 
 fn main() -> ExitCode {

@@ -1,6 +1,6 @@
-//! Compares `fades_count` with the second implementation: `compare_fades [FADES [SEED]]`. Compared
-//! are the answer and every lent number, with a margin around each slice. The edges come first, and
-//! with them the run that has the most symbols.
+//! Compares `mahyrei_fades_count` with the second implementation: `compare_fades [FADES [SEED]]`.
+//! Compared are the answer and every lent number, with a margin around each slice. The edges come
+//! first, and with them the run that has the most symbols.
 
 use second::compare::{argument, verdict, Call, Rng, Tally, MANY_DIFFERENCES};
 use second::run_cases::{compare_fades, fade_edges, Sizes, LEAST_FADES};

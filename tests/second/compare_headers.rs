@@ -1,6 +1,6 @@
-//! Compares `header_widen` and `header_narrow` with the second implementation: `compare_headers
-//! [HEADERS [SEED]]`. Compared are the answer and every lent byte, with a margin around each slice.
-//! The edges of the factor come first, for every call that is lent a header.
+//! Compares `mahyrei_header_widen` and `mahyrei_header_narrow` with the second implementation:
+//! `compare_headers [HEADERS [SEED]]`. Compared are the answer and every lent byte, with a margin
+//! around each slice. The edges of the factor come first, for every call that is lent a header.
 
 use second::compare::{argument, verdict, Call, Rng, Tally, MANY_DIFFERENCES};
 use second::run_cases::{compare_header, header_edges, Sizes, LEAST_HEADERS};

@@ -1,4 +1,4 @@
-//! Compares `bit_spread` with the second implementation, on every bit of every rate:
+//! Compares `mahyrei_bit_spread` with the second implementation, on every bit of every rate:
 //! `compare_spreads [SEED]`. Compared are the answer and every lent byte, with a margin around the
 //! slice; and the fewest and the most places that change are what they are known to be.
 

@@ -77,7 +77,7 @@ fn fields(header: &[u8]) -> Result<Header, Refusal> {
     Header::of(header)
 }
 
-/// One step by its number: the symbol given and the area behind it, or the first question whose
+/// One step by its number: the symbol given and the area after it, or the first question whose
 /// answer is no.
 pub fn step(
     side: Side,

@@ -1,4 +1,4 @@
-//! Finding the start of a capture, and cutting the run out of it, a second time: one loop over the
+//! Finding a start in a capture, and cutting the run out of it, a second time: one loop over the
 //! starting slots, one over the marker's slots.
 
 use crate::run::{accept, accept_header, Run};
@@ -26,9 +26,14 @@ pub fn marker_slots(run: &Run, marker: &[u8]) -> Vec<bool> {
     slots
 }
 
-/// Question 19: the earliest slot at which the whole marker stands, or the first question whose
-/// answer is no.
-pub fn find(header: &[u8], marker: &[u8], capture: &[u8]) -> Result<usize, Refusal> {
+/// Question 19: the earliest slot, not below a given one, at which the whole marker stands, or the
+/// first question whose answer is no.
+pub fn find_from(
+    header: &[u8],
+    marker: &[u8],
+    capture: &[u8],
+    from: u64,
+) -> Result<usize, Refusal> {
     let run = accept(header, marker)?;
     if marker.len() != run.marker_len() || capture.len() as u64 > CAPTURE_MOST {
         return refuse(8, 0);
@@ -36,10 +41,14 @@ pub fn find(header: &[u8], marker: &[u8], capture: &[u8]) -> Result<usize, Refus
     let wanted = marker_slots(&run, marker);
     let starts = (8 * capture.len() + 1).saturating_sub(wanted.len());
     let fits = |x: &usize| (0..wanted.len()).all(|i| slot(capture, x + i) == wanted[i]);
-    match (0..starts).find(fits) {
+    match (0..starts).skip(from as usize).find(fits) {
         Some(x) => Ok(x),
         None => refuse(19, 0),
     }
+}
+
+pub fn find(header: &[u8], marker: &[u8], capture: &[u8]) -> Result<usize, Refusal> {
+    find_from(header, marker, capture, 0)
 }
 
 /// The slots of the run that begins at this slot of the capture, packed anew, or the first question
@@ -97,6 +106,21 @@ mod tests {
         assert_eq!(find(&header, &[2], &[]), refuse(19, 0));
         assert_eq!(find(&header, &[2], &[0xFF; 9]), refuse(19, 0));
         assert_eq!(find(&header, &[2], &[0x02, 0x00]), Ok(4));
+    }
+
+    #[test]
+    fn symbol_2_of_4_from_a_slot() {
+        let header = SHORT.pack();
+        // 0010 0001 0000 0100
+        let capture = [0x21, 0x04];
+        for (from, slot) in [(0, 0), (1, 5), (5, 5), (6, 11), (11, 11)] {
+            assert_eq!(find_from(&header, &[2], &capture, from), Ok(slot));
+        }
+        for from in [12, 15, 16, 17, 1 << 61, u64::MAX] {
+            assert_eq!(find_from(&header, &[2], &capture, from), refuse(19, 0));
+            assert_eq!(find_from(&header, &[4], &capture, from), refuse(7, 0));
+            assert_eq!(find_from(&header, &[], &capture, from), refuse(8, 0));
+        }
     }
 
     #[test]

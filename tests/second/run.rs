@@ -761,7 +761,7 @@ mod tests {
         }
     }
 
-    /// Each value of the factor's six bits, after 7 and before 8, and of the two bits behind it.
+    /// Each value of the factor's six bits, after 7 and before 8, and of the two bits after it.
     #[test]
     fn factors() {
         for byte in 0..=255 {

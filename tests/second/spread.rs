@@ -46,7 +46,7 @@ mod tests {
         (0..bits.len()).filter(|&j| bits[j]).collect()
     }
 
-    /// The bit itself and the two steps behind it, then the check's.
+    /// The bit itself and the two steps after it, then the check's.
     #[test]
     fn first_places() {
         assert_eq!(places(0, 0)[..9], [0, 1, 2, 4, 5, 6, 7, 8, 15018]);

@@ -1,4 +1,4 @@
-//! Cases for `bit_spread`: every bit of every rate, blocks of any content, and refusals.
+//! Cases for `mahyrei_bit_spread`: every bit of every rate, blocks of any content, and refusals.
 
 use crate::compare::{Call, Case, Rng, Tally};
 use crate::library;

@@ -216,7 +216,7 @@ pub fn write(rate: u64, block: &[u8], word_len: usize) -> Result<Vec<u8>, Refusa
     if block.len() != rate.block_bytes() || word_len != WORD_BYTES {
         return refuse(8, 0);
     }
-    // the two bits behind the block's are spare, and not looked at
+    // the two bits after the block's are spare, and not looked at
     let block = &unpack(block)[..rate.block_bits];
     Ok(word_of_inputs(rate, &terminated(block)))
 }

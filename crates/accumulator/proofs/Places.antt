@@ -8,14 +8,16 @@ use native.Mathlib.Nat.{add-zero, add-suc}
 use lib.Bits.{bitXor, xor-zero-r}
 use lib.ListN.{length, getD, set, length-set}
 use lib.Seq.{getD-set-other}
-use Rattle.bits.specs.Choice.{lt-or-le}
-use Rattle.bits.specs.Sum.{xor-bit}
-use Rattle.bits.specs.Table.{fill}
+use Rattle.bits.proofs.Laws.Choice.{lt-or-le}
+use Rattle.bits.proofs.Laws.Sum.{xor-bit}
+use Rattle.bits.proofs.Laws.Table.{fill}
 use Rattle.bits.specs.Pack as packed
-use Rattle.bits.specs.Pack.{val, val-same, bit-val, bitAt, bit-lt, bit-of-lt, Bits}
-use Rattle.bits.specs.Stretch.{Laid}
-use Rattle.accumulator.specs.Accumulator.{accumulate, differentiate, accumulate-bits}
-use Rattle.accumulator.specs.Bytes.{bitOf, behind, accumulateFrom, differentiateFrom, Made, outputs, SoFar}
+use Rattle.bits.specs.Pack.{val, bitAt, Bits}
+use Rattle.bits.proofs.Laws.Pack.{val-same, bit-val, bit-lt, bit-of-lt}
+use Rattle.bits.specs.Inner.{Laid}
+use Rattle.accumulator.specs.Accumulator.{accumulate, differentiate}
+use Rattle.accumulator.proofs.Laws.Accumulator.{accumulate-bits}
+use Rattle.accumulator.specs.Inner.{bitOf, behind, accumulateFrom, differentiateFrom, Made, outputs, SoFar}
 
 accumulate-here : (f : ℕ → ℕ) (m : ℕ) → accumulate f m ≡ bitXor (f m) (behind 0 (accumulate f) m)
 unfolding accumulate behind

@@ -1,2 +1,2 @@
 pub mod Accumulator
-pub mod Bytes
+pub mod Inner

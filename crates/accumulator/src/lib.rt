@@ -1,11 +1,11 @@
-// Step 6, the accumulator, on packed bits: in place, and its way back into another slice.
+// Step 6, the accumulator, on packed bits: in place, and back into another slice.
 ghost use mathlib.Core.Path.{_≡_};
 ghost use Prim.Native.Nat.{_*_, _≤_, _<_};
 ghost use lib.ListN.{length};
 ghost use Rattle.bits.specs.Pack as packed;
 ghost use Rattle.bits.specs.Pack.{val, bitAt, bytesOf};
 ghost use Rattle.accumulator.specs.Accumulator as step;
-ghost use Rattle.accumulator.specs.Bytes.{bitOf, accumulateFrom, differentiateFrom, SoFar};
+ghost use Rattle.accumulator.specs.Inner.{bitOf, accumulateFrom, differentiateFrom, SoFar};
 use bits::packing;
 
 // The eight outputs for the inputs in `b`, where `last` is the output before them: the sums of the bits up to each, by doubling,

@@ -10,7 +10,9 @@ use denote.Enum.Declared.{tagOf}
 use Rattle.answers.proofs.Answer as Tag
 use Rattle.answers.specs.declared.Answer.{Answer}
 use Rattle.answers.specs.declared.Answer.the-variants.{Done, No}
-use Rattle.answers.specs.Answer.{after, then, isDone, movedTo, numberOf, no-done}
+use Rattle.answers.specs.Answer.{after, then, isDone, numberOf}
+use Rattle.answers.specs.Inner.{movedTo}
+use Rattle.answers.proofs.Laws.Answer.{no-done}
 
 -- the tag of a refusal
 abbrev pub Refusal : Answer → Type 0

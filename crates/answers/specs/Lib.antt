@@ -1,3 +1,2 @@
 pub mod Answer
-pub mod InOrder
-pub mod Numbers
+pub mod Inner

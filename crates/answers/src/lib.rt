@@ -1,8 +1,9 @@
-// What every call answers: done, or the number of the first question that is answered no, and the place where.
+// What every call answers: done, or the number of the first question answered no, with its place.
 ghost use mathlib.Core.Path.{_≡_};
 ghost use Prim.Native.Nat.{_^_, _<_};
 ghost use Rattle.answers.specs.declared.Answer.the-variants.{Done};
-ghost use Rattle.answers.specs.Answer.{numberOf, codeOf, codeWith, movedTo, Fits};
+ghost use Rattle.answers.specs.Answer.{numberOf, codeOf, codeWith};
+ghost use Rattle.answers.specs.Inner.{movedTo, Fits};
 
 pub enum Answer {
     Done,
@@ -10,7 +11,7 @@ pub enum Answer {
     No(u64, usize),
 }
 
-// The number alone, 0 where all is done.
+// The number alone, 0 for done.
 pub fn number(answer: Answer) -> u64
     ensures { λ r. ⌜ r ≡ numberOf answer ⌝ }
 {
@@ -41,7 +42,7 @@ pub fn code(answer: Answer) -> u64
     }
 }
 
-// The same of an answer whose acceptance gives a number: given × 256.
+// The same where an acceptance gives a number: given × 256.
 pub fn code_with(answer: Answer, given: usize) -> u64
     requires { ⌜ Fits answer × (answer ≡ Done → given < 2 ^ 56) ⌝ }
     ensures { λ r. ⌜ r ≡ codeWith answer given ⌝ }

@@ -1,22 +1,18 @@
--- The bench table: for each of its fourteen rows what the definitions compute, and what the table lists. One theorem says that they are the same.
+-- The bench table: for each of its fourteen rows what the definitions compute, and what the table lists. One statement says that they are the same.
 -- Bits are written as binary numbers, the first highest; bits and places count from 0.
-use mathlib.Core.Path.{_≡_, refl}
+use mathlib.Core.Path.{_≡_}
 use mathlib.Core.List.{List, [], _∷_, map}
 use Prim.Native.Nat.{ℕ, _+_, _/_, _^_}
 use lib.ListN.{getD, length, replicate}
-use Rattle.bits.specs.Pack.{val, bitAt}
-use Rattle.bits.specs.Pieces.{piece}
+use Rattle.bits.specs.Pack.{val, piece}
 use Rattle.sizes.specs.Sizes.{wordBytes}
-use Rattle.sizes.specs.Rate.{inputsPer, codedPer}
-use Rattle.crc.specs.Check.{register, advance}
-use Rattle.convolution.specs.Code.{encode, stepOf, first, second, delay}
-use Rattle.interleaver.specs.Interleaver.{place}
+use Rattle.crc.specs.Check.{register}
+use Rattle.convolution.specs.Code.{encode}
+use Rattle.interleaver.specs.Interleaver.{sourceBit}
 use Rattle.accumulator.specs.Accumulator.{accumulate}
-use Rattle.randomizer.specs.Randomizer.{sequence, window, next}
+use Rattle.randomizer.specs.Randomizer.{sequence}
 use Rattle.plan.specs.declared.Plan.{Plan}
-use Rattle.channel.specs.Channel as channel
-use Rattle.pulses.specs.Pulses as pulses
-use Rattle.slots.specs.Slots.{dataAt, slotBit}
+use Rattle.slots.specs.Writing.{dataAt, slotBit}
 
 pub record Row : Type 0 where
   pub computed : ℕ
@@ -25,7 +21,7 @@ pub record Row : Type 0 where
 abbrev row : ℕ → ℕ → Row
 row a b = record { computed = a; listed = b }
 
--- the bits of a list, and zeros behind them
+-- the bits of a list, followed by zeros
 abbrev these : List ℕ → ℕ → ℕ
 these xs i = getD xs i 0
 
@@ -36,16 +32,11 @@ plan copies m mark = record {
   bits = m;
   order = 2 ^ m;
   group = 2 ^ m + 2 ^ m / 4;
-  symbols = 15120 / m;
-  words = 1;
-  rows = 1;
-  step = 1;
-  lines = 1;
-  markers = 1;
+  layout = record { rows = 1; step = 1; symbols = 15120 / m; words = 1; markers = 1; lines = 1 };
   marks = mark ∷ replicate 31 0;
 }
 
--- its word: this byte, and zeros behind it
+-- its word: this byte, followed by zeros
 abbrev pub packed : ℕ → List ℕ
 packed b = b ∷ replicate 1889 0
 
@@ -55,10 +46,10 @@ table =
     row (val sequence 40) 0b1111_1111_0100_1000_0000_1110_1100_0000_1001_1010
     ∷ row (sequence 255) 1
     -- step 5: the coded bit that output place j takes
-    ∷ row (place 1) 221
-    ∷ row (place 2) 862
-    ∷ row (place 36) 396
-    ∷ row (place 15119) 199
+    ∷ row (sourceBit 1) 221
+    ∷ row (sourceBit 2) 862
+    ∷ row (sourceBit 36) 396
+    ∷ row (sourceBit 15119) 199
     -- step 2: the check register after a single 0, and after a single 1
     ∷ row (register (these (0 ∷ [])) 1) 0xDFFBBFF7
     ∷ row (register (these (1 ∷ [])) 1) 0xFFFFFFFE
@@ -74,14 +65,20 @@ table =
     ∷ row (val (slotBit (plan 1 2 2) (piece wordBytes (packed 0))) (plan 1 2 2 .group)) 0b0010_0
     ∷ []
 
-pub rows : length table ≡ 14
-rows = refl
+-- fourteen rows
+abbrev pub Rows : Type 0
+Rows = length table ≡ 14
 
-pub bench : map (λ r. r .computed) table ≡ map (λ r. r .listed) table
-unfolding val sequence window next place register advance encode stepOf first second delay inputsPer codedPer accumulate bitAt channel.dataAt channel.marked pulses.slotBit
-bench = refl
+-- and in each what the definitions compute is what the table lists
+abbrev pub Bench : Type 0
+Bench = map (λ r. r .computed) table ≡ map (λ r. r .listed) table
 
 -- beside the table: the same symbol, sent twice
-pub sent-twice : val (slotBit (plan 2 2 2) (piece wordBytes (packed 0))) 10 ≡ 0b0010_0_0010_0
-unfolding val bitAt channel.dataAt channel.marked pulses.slotBit
-sent-twice = refl
+abbrev pub SentTwice : Type 0
+SentTwice = val (slotBit (plan 2 2 2) (piece wordBytes (packed 0))) 10 ≡ 0b0010_0_0010_0
+
+-- ---- all of it: the contract of `bench_table`
+pub record BenchTable : Type 0 where
+  pub rows : Rows
+  pub bench : Bench
+  pub sent-twice : SentTwice

@@ -10,11 +10,12 @@ use lib.Pow.{high}
 use lib.Dec.{eqb, eqb→eq}
 use lib.ListN.{length, getD, set, length-set}
 use lib.Seq.{getD-set-same, getD-set-other}
-use Rattle.bits.specs.Choice.{lt-or-le, eq-or-ne}
-use Rattle.bits.specs.Table.{below-all}
-use Rattle.bits.specs.Pack.{val, bitAt, Bytes, cut, val-lt, bit-val, bit-lt, cut-in, cut-past, cut-bits}
-use Rattle.bits.specs.Parts.{val-split, val-cut, byte-val}
-use Rattle.bits.specs.Change.{Copied, Ends}
+use Rattle.bits.proofs.Laws.Choice.{lt-or-le, eq-or-ne}
+use Rattle.bits.proofs.Laws.Table.{below-all}
+use Rattle.bits.specs.Pack.{val, bitAt, Bytes, cut}
+use Rattle.bits.proofs.Laws.Pack.{val-lt, bit-val, bit-lt, cut-in, cut-past, cut-bits}
+use Rattle.bits.proofs.Laws.Parts.{val-split, val-cut, byte-val}
+use Rattle.bits.specs.Inner.{Copied, Ends}
 
 -- the byte 128 shifted down fits a byte
 pub one-byte : (r : ℕ) → r < 8 → bitAnd (128 / 2 ^ r) 255 ≡ 128 / 2 ^ r

@@ -8,9 +8,10 @@ use native.Mathlib.Nat.{mod-eq-of-lt, one-mul}
 use lib.Bits.{bitOr, bitAnd, or-shifted, and-mask}
 use lib.Pow.{pow-mono, shr-shr, high, low}
 use lib.ListN.{getD}
-use Rattle.bits.specs.Choice.{lt-or-le}
-use Rattle.bits.specs.Pack.{val, bitAt, Bytes, val-same}
-use Rattle.bits.specs.Field.{digit, cut-out}
+use Rattle.bits.proofs.Laws.Choice.{lt-or-le}
+use Rattle.bits.specs.Pack.{val, bitAt, Bytes}
+use Rattle.bits.proofs.Laws.Pack.{val-same}
+use Rattle.bits.proofs.Laws.Field.{digit, cut-out}
 
 -- a digit of two bytes joined
 first-byte : (a b q : ℕ) → b < 256 → q < 8 → (a * 256 + b) / 2 ^ (15 - q) % 2 ≡ a / 2 ^ (7 - q) % 2

@@ -7,8 +7,9 @@ use native.Mathlib.Nat.{add-mul, mul-assoc}
 use lib.Bits.{bitOr, or-shifted}
 use lib.Pow.{pow-add, shl-lt, shl-exact}
 use lib.ListN.{getD}
-use Rattle.bits.specs.Pack.{val, bitAt, Bytes, val-same, bit-lt}
-use Rattle.bits.specs.Parts.{val-split, byte-val, push-eight}
+use Rattle.bits.specs.Pack.{val, bitAt, Bytes}
+use Rattle.bits.proofs.Laws.Pack.{val-same, bit-lt}
+use Rattle.bits.proofs.Laws.Parts.{val-split, byte-val, push-eight}
 
 -- a byte of packed bytes more
 pub push-byte : (xs : List ℕ) → Bytes xs → (at i : ℕ) → i < 8

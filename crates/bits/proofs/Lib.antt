@@ -3,3 +3,4 @@ pub mod Fields
 pub mod Joining
 pub mod Stretches
 pub mod Windows
+pub mod Laws

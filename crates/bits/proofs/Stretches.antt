@@ -5,9 +5,10 @@ use Prim.Native.Nat.{ℕ, _+_, _-_, _*_, _/_, _%_, _^_, _<_}
 use native.Mathlib.Omega.{arith}
 use lib.Arith.{digits-div, digits-mod}
 use lib.ListN.{getD}
-use Rattle.bits.specs.Pack.{Bits, Bytes, val, bitAt, bit-lt, val-same, val-lt}
-use Rattle.bits.specs.Parts.{val-split, byte-val}
-use Rattle.bits.specs.Stretch.{eightOf}
+use Rattle.bits.specs.Pack.{Bits, Bytes, val, bitAt}
+use Rattle.bits.proofs.Laws.Pack.{bit-lt, val-same, val-lt}
+use Rattle.bits.proofs.Laws.Parts.{val-split, byte-val}
+use Rattle.bits.specs.Inner.{eightOf}
 
 -- the eight bits from bit y + 8 t on lie in bytes t and t + 1, counted from the byte of bit y on
 pub eight-of : (bs : List ℕ) (y t : ℕ) → Bytes bs → eightOf (getD bs (y / 8 + t) 0) (getD bs (y / 8 + t + 1) 0) (y % 8) ≡ val (λ u. bitAt bs (y + (8 * t + u))) 8

@@ -7,10 +7,12 @@ use Prim.Native.Nat.{ℕ, _+_, _-_, _*_, _/_, _%_, _^_, _≤_, _<_}
 use native.Mathlib.Omega.{arith}
 use lib.Dec.{leb}
 use lib.ListN.{getD}
-use Rattle.bits.specs.Choice.{pick, lt-or-le}
-use Rattle.bits.specs.Pack.{val, bitAt, cut, Bits, Bytes, bit-lt, val-same, cut-in, cut-past, cut-bits}
-use Rattle.bits.specs.Parts.{byte-val, val-cut, val-shift}
-use Rattle.bits.specs.Window.{shown, reach, bitsFrom}
+use Rattle.bits.specs.Basics.{pick}
+use Rattle.bits.proofs.Laws.Choice.{lt-or-le}
+use Rattle.bits.specs.Pack.{val, bitAt, cut, Bits, Bytes}
+use Rattle.bits.proofs.Laws.Pack.{bit-lt, val-same, cut-in, cut-past, cut-bits}
+use Rattle.bits.proofs.Laws.Parts.{byte-val, val-cut, val-shift}
+use Rattle.bits.specs.Inner.{shown, reach, bitsFrom}
 
 pub shown-is : (n i : ℕ) → (8 ≤ shown n i) × (shown n i ≤ 64)
 unfolding shown

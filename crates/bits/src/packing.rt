@@ -1,10 +1,9 @@
-// Bits of packed bytes, fields and numbers of them, and bits one to a place packed.
+// Bits of packed bytes, fields and numbers made of them, and unpacked bits, one to a place, packed.
 ghost use mathlib.Core.Path.{_≡_};
 ghost use Prim.Native.Nat.{ℕ, _+_, _*_, _^_, _≤_, _<_};
 ghost use lib.ListN.{length, getD};
 ghost use Rattle.bits.specs.Pack.{val, bitAt, bitOf, bytesOf};
-ghost use Rattle.bits.specs.Put.{putBit};
-ghost use Rattle.bits.specs.Stretch.{Laid};
+ghost use Rattle.bits.specs.Inner.{putBit, Laid};
 
 // Bit j of packed bytes.
 pub fn bit_at(packed: &[u8], j: usize) -> u8
@@ -14,7 +13,7 @@ pub fn bit_at(packed: &[u8], j: usize) -> u8
     (packed[j / 8] >> (7 - j % 8)) & 1
 }
 
-// Bit x set.
+// Sets bit x.
 pub fn put_bit(packed: &mut [u8], x: usize)
     requires { ⌜ x < 8 * length (now packed) ⌝ }
     ensures { λ _. ⌜ now (packed .exit) ≡ putBit (now (packed .entry)) x ⌝ }
@@ -22,7 +21,7 @@ pub fn put_bit(packed: &mut [u8], x: usize)
     packed[x / 8] = packed[x / 8] | (128u8 >> (x % 8));
 }
 
-// The number that n bits make, from bit `at` on: they lie in one byte or in two.
+// The number of n bits from bit `at` on, which are in one byte or in two.
 pub fn field(packed: &[u8], at: usize, n: usize) -> usize
     requires { ⌜ (at + n ≤ 8 * length (now packed)) × (at < 2 ^ 32) × (1 ≤ n) × (n ≤ 8) ⌝ }
     ensures { λ r. ⌜ r ≡ val (λ i. bitAt (now (packed .entry)) (at + i)) n ⌝ }
@@ -59,7 +58,7 @@ pub fn put_eight(out: &mut [u8], at: usize, v: u64)
     }
 }
 
-// The number that n bits make, from `at` on.
+// The number of n bits from `at` on.
 fn number(bits: &[u8], at: usize, n: usize) -> u64
     requires { ⌜ (at + n ≤ length (now bits)) × (n ≤ 32) × ((i : ℕ) → getD (now bits) i 0 < 2) ⌝ }
     ensures { λ r. ⌜ r ≡ val (λ t. getD (now (bits .entry)) (at + t) 0) n ⌝ }
@@ -83,7 +82,7 @@ fn bit_or_zero(bits: &[u8], i: usize) -> u64
     0
 }
 
-// The byte of the eight bits from `at` on, of which some may lie past the end.
+// The byte of the eight bits from `at` on, some of which may be past the end.
 fn last_byte(bits: &[u8], at: usize) -> u64
     requires { ⌜ (at + 8 < 2 ^ 64) × ((i : ℕ) → getD (now bits) i 0 < 2) ⌝ }
     ensures { λ r. ⌜ r ≡ val (λ t. getD (now (bits .entry)) (at + t) 0) 8 ⌝ }
@@ -109,7 +108,7 @@ fn byte_of(bits: &[u8], i: usize) -> u8
     (last_byte(bits, at) & 255) as u8
 }
 
-// Packs bits, with zeros behind them, into all of `out`.
+// Packs bits, followed by zeros, into all of `out`.
 pub fn pack(bits: &[u8], out: &mut [u8])
     requires { ⌜ (length (now out) < 2 ^ 32) × ((i : ℕ) → getD (now bits) i 0 < 2) ⌝ }
     ensures { λ _. ⌜ now (out .exit) ≡ bytesOf (length (now (out .entry))) (λ i. getD (now (bits .entry)) i 0) ⌝ }

@@ -2,10 +2,8 @@
 ghost use mathlib.Core.Path.{_≡_};
 ghost use Prim.Native.Nat.{_*_, _/_, _≤_, _<_, max};
 ghost use lib.ListN.{length};
-ghost use Rattle.bits.specs.Leading.{Leads};
-ghost use Rattle.bits.specs.Needs.{Within};
-ghost use Rattle.bits.specs.Pack.{val, cut};
-ghost use Rattle.bits.specs.Window.{lesser, shown, reach, bitsFrom, firstOne};
+ghost use Rattle.bits.specs.Inner.{Leads, Within, lesser, shown, reach, bitsFrom};
+ghost use Rattle.bits.specs.Pack.{val, cut, firstOne};
 
 // The smaller of two numbers.
 pub fn least(x: usize, y: usize) -> usize
@@ -14,14 +12,14 @@ pub fn least(x: usize, y: usize) -> usize
     if x < y { x } else { y }
 }
 
-// And the greater.
+// The greater of two numbers.
 pub fn most(x: usize, y: usize) -> usize
     ensures { λ r. ⌜ r ≡ max x y ⌝ }
 {
     if x < y { y } else { x }
 }
 
-// The zeros in front of the first one of 64 bits.
+// How many zeros come before the first one of 64 bits.
 pub fn leading(v: u64) -> usize
     requires { ⌜ 1 ≤ v ⌝ }
     ensures { λ r. ⌜ Leads 64 v r ⌝ }
@@ -29,7 +27,7 @@ pub fn leading(v: u64) -> usize
     u64::leading_zeros(v) as usize
 }
 
-// The bits from byte i on as the first bits of a number: those of eight bytes, or of one near the end.
+// The bits from byte i on as the first bits of a number: those of eight bytes, or of a single byte near the end.
 fn window(b: &[u8], i: usize) -> u64
     requires { ⌜ i < length (now b) ⌝ }
     ensures { λ r. ⌜ r ≡ val (cut (shown (length (now (b .entry))) i) (bitsFrom (now (b .entry)) (8 * i))) 64 ⌝ }
@@ -48,7 +46,7 @@ pub fn ahead(b: &[u8], x: usize) -> u64
     window(b, x / 8) << (x % 8)
 }
 
-// How many bits it shows.
+// How many bits that number holds.
 pub fn reach_of(b: &[u8], x: usize) -> usize
     requires { ⌜ x < 8 * length (now b) ⌝ }
     ensures { λ r. ⌜ r ≡ reach (length (now (b .entry))) x ⌝ }

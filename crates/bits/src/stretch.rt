@@ -1,9 +1,9 @@
-// Bits that follow one another, from any bit of packed bytes on, as whole bytes.
+// Consecutive bits, from any bit of packed bytes on, as whole bytes.
 ghost use mathlib.Core.Path.{_≡_};
 ghost use Prim.Native.Nat.{_+_, _/_, _≤_, _<_};
 ghost use lib.ListN.{length};
 ghost use Rattle.bits.specs.Pack.{val, bitAt};
-ghost use Rattle.bits.specs.Stretch.{Laid, eightOf};
+ghost use Rattle.bits.specs.Inner.{Laid, eightOf};
 
 // The eight bits from bit r of two bytes on.
 fn eight_of(hi: u8, lo: u8, r: usize) -> u8
@@ -23,7 +23,7 @@ pub fn byte_from(packed: &[u8], y: usize) -> u8
     eight_of(packed[i], packed[i + 1], y % 8)
 }
 
-// The bits from bit y on as n bytes, which go to `out` from byte `at` on.
+// Writes the bits from bit y on as n bytes to `out`, from byte `at` on.
 pub fn bytes_from(packed: &[u8], y: usize, n: usize, out: &mut [u8], at: usize)
     requires { ⌜ (y / 8 + n < length (now packed)) × (at + n ≤ length (now out)) ⌝ }
     ensures { λ _. ⌜ Laid (now (out .entry)) at n (λ t. bitAt (now (packed .entry)) (y + t)) (now (out .exit)) ⌝ }

@@ -12,11 +12,13 @@ use lib.ListN.{length, getD, set, length-set}
 use lib.Pow.{high, low}
 use lib.Seq.{getD-set-same, getD-set-other}
 use borrow.Author.Tests.{lt-ltb, le-ltb}
-use Rattle.bits.specs.Choice.{pick, lt-or-le, eq-or-ne}
-use Rattle.bits.specs.Pack.{val, bitAt, Bits, cut, val-lt, val-same, val-bits, bit-val, cut-in, cut-past, cut-bits}
-use Rattle.bits.specs.Parts.{val-split, val-none, val-cut}
-use Rattle.bits.specs.Sum.{xor-digit}
-use Rattle.channel.specs.Putting.{Puts, Put}
+use Rattle.bits.specs.Basics.{pick}
+use Rattle.bits.proofs.Laws.Choice.{lt-or-le, eq-or-ne}
+use Rattle.bits.specs.Pack.{val, bitAt, Bits, cut}
+use Rattle.bits.proofs.Laws.Pack.{val-lt, val-same, val-bits, bit-val, cut-in, cut-past, cut-bits}
+use Rattle.bits.proofs.Laws.Parts.{val-split, val-none, val-cut}
+use Rattle.bits.proofs.Laws.Sum.{xor-digit}
+use Rattle.channel.specs.Inner.{Puts, Put}
 
 -- ---- bytes i and i + 1 with a and b added
 

@@ -1,15 +1,34 @@
-// Step 9, the channel interleaver: which symbol goes to a place, and ways through the places that
-// need no division. Step 8 undone: symbols laid into words.
+// Where the symbols of a run are. Step 8 and its inverse: symbols read from words and written into
+// them. Step 9, the channel interleaver: which symbol goes to a place, and how to walk the places
+// without a division.
 ghost use mathlib.Core.Path.{_≡_};
-ghost use Prim.Native.Nat.{_+_, _^_, _%_, _≤_, _<_};
-ghost use Rattle.channel.specs.Channel.{hitBy};
-ghost use Rattle.channel.specs.Needs.{Placing};
-ghost use Rattle.channel.specs.Putting.{Puts, Put};
+ghost use Prim.Native.Nat.{_+_, _*_, _^_, _%_, _≤_, _<_};
+ghost use Rattle.bits.specs.Pack.{piece};
+ghost use Rattle.sizes.specs.Sizes.{wordBytes, wordBits};
+ghost use Rattle.channel.specs.declared.Layout as layouts;
+ghost use Rattle.channel.specs.Channel.{dataAt, hitBy};
+ghost use Rattle.channel.specs.Inner.{Placing, Numbers, Takes, Puts, Put};
+
+// What steps 8 to 10 go by.
+pub struct Layout {
+    // N, the rows of the channel interleaver
+    pub rows: usize,
+    // B, by which each row is longer than the one before
+    pub step: usize,
+    // S, the symbols of a word
+    pub symbols: usize,
+    // C, the words
+    pub words: usize,
+    // W, the marker symbols before each line
+    pub markers: usize,
+    // R, the lines of S places that those of step 9 make
+    pub lines: usize,
+}
 
 // The symbol, of `total`, that goes to place x, which is r modulo N; `total` where none does.
 pub fn hit_by(rows: usize, step: usize, total: usize, x: usize, r: usize) -> usize
     requires { ⌜ Placing rows step total x r ⌝ }
-    ensures { λ t. ⌜ t ≡ hitBy rows step total x ⌝ }
+    ensures { λ t. ⌜ ((g : layouts.Layout) → Numbers g rows step total → t ≡ hitBy g x) ⌝ }
 {
     let delay = r * (step * rows);
     if x < delay {
@@ -21,7 +40,15 @@ pub fn hit_by(rows: usize, step: usize, total: usize, x: usize, r: usize) -> usi
     total
 }
 
-// Step 8 undone: symbol t, of m bits, laid into packed words in which its bits are 0. They lie in
+// Step 8: symbol t, of m bits, of words that lie back to back.
+pub fn data_at(words: &[u8], t: usize, m: usize) -> usize
+    requires { ⌜ Takes t m (now words) ⌝ }
+    ensures { λ q. ⌜ ((g : layouts.Layout) → g .symbols * m ≡ wordBits → q ≡ dataAt m g (piece wordBytes (now (words .entry))) t) ⌝ }
+{
+    bits::packing::field(words, m * t, m)
+}
+
+// Step 8 undone: writes symbol t, of m bits, into packed words in which its bits are 0. They are in
 // two bytes.
 pub fn put_symbol(words: &mut [u8], t: usize, m: usize, q: usize)
     requires { ⌜ Puts t m q (now words) ⌝ }

@@ -9,11 +9,13 @@ use lib.Dec.{ltb}
 use lib.ListN.{length, getD}
 use lib.Pow.{high, low}
 use borrow.Author.Tests.{lt-ltb, le-ltb}
-use Rattle.bits.specs.Choice.{pick, lt-or-le}
-use Rattle.bits.specs.Pack.{Bits, val, bitAt, bitOf, cut, val-lt, val-same, val-bits, bit-val, bit-lt, cut-in, cut-past, cut-bits}
-use Rattle.bits.specs.Parts.{val-split, val-cut, join}
-use Rattle.bits.specs.Stretch.{Laid}
-use Rattle.convolution.specs.Ends.{Ended}
+use Rattle.bits.specs.Basics.{pick}
+use Rattle.bits.proofs.Laws.Choice.{lt-or-le}
+use Rattle.bits.specs.Pack.{Bits, val, bitAt, bitOf, cut}
+use Rattle.bits.proofs.Laws.Pack.{val-lt, val-same, val-bits, bit-val, bit-lt, cut-in, cut-past, cut-bits}
+use Rattle.bits.proofs.Laws.Parts.{val-split, val-cut, join}
+use Rattle.bits.specs.Inner.{Laid}
+use Rattle.convolution.specs.Inner.{Ended}
 
 -- the bits of bytes that were laid, and of those before them
 laid-bit : (before after : List ℕ) (at n : ℕ) (f : ℕ → ℕ) → Bits f → Laid before at n f after → (u : ℕ) → u < 8 * n → bitAt after (8 * at + u) ≡ f u

@@ -6,29 +6,31 @@ use Prim.Native.Nat.{ℕ, _+_, _-_, _≤_, _<_}
 use native.Mathlib.Omega.{arith}
 use lib.ListN.{length, getD, set, length-set}
 use lib.Seq.{getD-set-same, getD-set-other}
-use Rattle.bits.specs.Choice.{lt-or-le, eq-or-ne}
-use Rattle.bits.specs.Table.{tab, tab-made, fill}
-use Rattle.convolution.specs.Turns.{Put}
+use Rattle.bits.proofs.Laws.Choice.{lt-or-le, eq-or-ne}
+use Rattle.bits.specs.Inner.{Filled}
+use Rattle.bits.specs.Basics.{tab}
+use Rattle.bits.proofs.Laws.Table.{tab-made, fill}
+use Rattle.convolution.specs.Inner.{Put}
 
 -- of n places, those below i hold f's values
-pub record Filled (f : ℕ → ℕ) (n : ℕ) (xs : List ℕ) (i : ℕ) : Type 0 where
+pub record Filling (f : ℕ → ℕ) (xs : List ℕ) (n i : ℕ) : Type 0 where
   pub size : length xs ≡ n
-  pub below : (k : ℕ) → k < i → getD xs k 0 ≡ f k
+  pub below : Filled f xs i
 
-pub filled-none : (f : ℕ → ℕ) (n : ℕ) (xs : List ℕ) → length xs ≡ n → Filled f n xs 0
+pub filled-none : (f : ℕ → ℕ) (n : ℕ) (xs : List ℕ) → length xs ≡ n → Filling f xs n 0
 filled-none f n xs e = record { size = e; below = λ k h. absurd (omega arith) }
 
-pub filled-all : (f : ℕ → ℕ) (n : ℕ) (xs : List ℕ) (i : ℕ) → n ≤ i → Filled f n xs i → xs ≡ tab n f
+pub filled-all : (f : ℕ → ℕ) (n : ℕ) (xs : List ℕ) (i : ℕ) → n ≤ i → Filling f xs n i → xs ≡ tab n f
 filled-all f n xs i l h = tab-made n f xs (h .size) (λ k b. h .below k (omega arith))
 
 module _ (f : ℕ → ℕ) (n : ℕ) (xs ys : List ℕ) where
-  pub fill-one : (i v : ℕ) → i < n → v ≡ f i → ys ≡ set xs i v → Filled f n xs i → Filled f n ys (i + 1)
+  pub fill-one : (i v : ℕ) → i < n → v ≡ f i → ys ≡ set xs i v → Filling f xs n i → Filling f ys n (i + 1)
   fill-one i v l e m h =
       let b : i < length xs = omega (arith, h .size) in
       rw m (record { size = length-set xs i v ∙ h .size; below = fill xs f i v b e (h .below) })
 
   -- the places that were put behind those that are filled
-  pub fill-put : (i m : ℕ) (g : ℕ → ℕ) → Put xs i m g ys → ((t : ℕ) → t < m → g t ≡ f (i + t)) → Filled f n xs i → Filled f n ys (i + m)
+  pub fill-put : (i m : ℕ) (g : ℕ → ℕ) → Put xs i m g ys → ((t : ℕ) → t < m → g t ≡ f (i + t)) → Filling f xs n i → Filling f ys n (i + m)
   fill-put i m g p same h =
       record {
         size = p .long ∙ h .size;

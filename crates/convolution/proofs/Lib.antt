@@ -2,3 +2,4 @@ pub mod Filling
 pub mod Turning
 pub mod Rates
 pub mod Ending
+pub mod Laws

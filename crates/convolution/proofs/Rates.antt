@@ -3,8 +3,9 @@ use mathlib.Core.Path.{_≡_, ap, _∙_}
 use mathlib.Core.List.{List}
 use Prim.Native.Nat.{ℕ}
 use native.Mathlib.Omega.{arith}
-use Rattle.sizes.specs.Rate.{infoBits, inputBits}
-use Rattle.convolution.specs.Needs.{Encodes, Codes}
+use Rattle.sizes.specs.Sizes.{infoBits}
+use Rattle.sizes.specs.Inner.{inputBits}
+use Rattle.convolution.specs.Inner.{Encodes, Codes}
 
 module _ (rate : ℕ) (input coded : List ℕ) (h : Encodes rate input coded) where
   pub encodes-third : rate ≡ 0 → Codes 630 input coded

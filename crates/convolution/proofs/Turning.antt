@@ -1,34 +1,54 @@
 -- A turn of the coder's loop: its coded bits are those of the definition, and the tables have them.
 use mathlib.Core.Path.{_≡_, refl, sym, ap, ap₂, _∙_}
-use mathlib.Core.List.{List}
-use Prim.Native.Nat.{ℕ, suc, _+_, _-_, _*_, _/_, _%_, _^_, _≤_, _<_}
+use mathlib.Core.Bool.{Bool, true, false}
+use mathlib.Core.List.{List, [], _∷_}
+use Prim.Native.Nat.{ℕ, zero, suc, _+_, _-_, _*_, _/_, _%_, _^_, _≤_, _<_}
 use native.Mathlib.Omega.{arith}
-use native.Mathlib.Nat.{mod-lt}
+use native.Mathlib.Nat.{add-zero, zero-add, mod-lt}
 use lib.Bits.{bitXor, bitAnd, and-mask}
 use lib.Dec.{T, eqb, eqb→eq}
-use lib.ListN.{length, getD}
+use lib.ListN.{length, getD, drop}
+use lib.Seq.{getD-drop}
 use lib.Pow.{pow-pos, field, mod-mod-pow, shr-shr, low}
-use Rattle.bits.specs.Choice.{pick}
-use Rattle.bits.specs.Table.{tab, allBelow, below-all}
-use Rattle.bits.specs.Pack.{Bits, Bytes, val, bitAt, val-lt, val-same, bit-val}
-use Rattle.bits.specs.Parts.{val-split, byte-val}
-use Rattle.sizes.specs.Rate.{inputsPer, codedPer}
-use Rattle.sizes.specs.Sizes.{wordBits}
-use Rattle.convolution.specs.Code.{delay, first, second, stepOf, encode, delay-bits}
-use Rattle.convolution.specs.Turns.{bitIn, byteOf, Put, turnBit, Entries}
-use Rattle.convolution.proofs.Filling.{Filled, filled-none, filled-all, fill-put}
+use Rattle.bits.specs.Basics.{both, pick, tab}
+use Rattle.bits.proofs.Laws.Table.{both-left, both-right, allBelow, below-all}
+use Rattle.bits.specs.Pack.{Bits, Bytes, val, bitAt}
+use Rattle.bits.proofs.Laws.Pack.{val-lt, val-same, bit-val}
+use Rattle.bits.proofs.Laws.Parts.{val-split, byte-val}
+use Rattle.sizes.specs.Sizes.{inputsPer, codedPer, wordBits}
+use Rattle.convolution.specs.Code.{delay, first, second, stepOf, encode}
+use Rattle.convolution.proofs.Laws.Code.{delay-bits}
+use Rattle.convolution.specs.Inner.{bitIn, byteOf, Put, turnBit, Entries}
+use Rattle.convolution.proofs.Filling.{Filling, filled-none, filled-all, fill-put}
 
 -- ---- what the tables have
 
+-- the test f passes at the first n entries of a list and their places, counted from i: one walk along the list
+abbrev pub passesAlong : (ℕ → ℕ → Bool) → ℕ → ℕ → List ℕ → Bool
+passesAlong f i zero xs = true
+passesAlong f i (suc n) [] = false
+passesAlong f i (suc n) (x ∷ xs) = both (f i x) (passesAlong f (suc i) n xs)
+
+passed-along : (f : ℕ → ℕ → Bool) (i n : ℕ) (xs : List ℕ) → T (passesAlong f i n xs) → (k : ℕ) → k < n → T (f (i + k) (getD xs k 0))
+passed-along f i zero xs t k h = absurd (omega arith)
+passed-along f i (suc n) [] t k h = absurd t
+passed-along f i (suc n) (x ∷ xs) t zero h = rw (add-zero i) (both-left (f i x) (passesAlong f (suc i) n xs) t)
+passed-along f i (suc n) (x ∷ xs) t (suc k) h =
+    let e : i + suc k ≡ suc i + k = omega arith in
+    let l : k < n = omega arith in
+    rw e (passed-along f (suc i) n xs (both-right (f i x) (passesAlong f (suc i) n xs) t) k l)
+
 -- a part of a table is right where this test passes, which antt computes
 pub entries-right : (rate u o m base : ℕ) (table : List ℕ)
-    → T (allBelow (2 ^ m) (λ w. allBelow 8 (λ t. eqb (byteOf (getD table (base + w) 0) t) (turnBit rate (λ k. bitIn m w (k - o)) (u + t)))))
+    → T (passesAlong (λ w v. allBelow 8 (λ t. eqb (byteOf v t) (turnBit rate (λ k. bitIn m w (k - o)) (u + t)))) 0 (2 ^ m) (drop base table))
     → Entries rate u o m base table
 entries-right rate u o m base table h = record {
   entry = λ w t hw ht.
-      eqb→eq (byteOf (getD table (base + w) 0) t) (turnBit rate (λ k. bitIn m w (k - o)) (u + t))
-      (below-all 8 (λ t. eqb (byteOf (getD table (base + w) 0) t) (turnBit rate (λ k. bitIn m w (k - o)) (u + t)))
-      (below-all (2 ^ m) (λ w. allBelow 8 (λ t. eqb (byteOf (getD table (base + w) 0) t) (turnBit rate (λ k. bitIn m w (k - o)) (u + t)))) h w hw) t ht);
+      let p : T (allBelow 8 (λ t. eqb (byteOf (getD (drop base table) w 0) t) (turnBit rate (λ k. bitIn m w (k - o)) (u + t)))) =
+      rw (zero-add w) at (passed-along (λ w v. allBelow 8 (λ t. eqb (byteOf v t) (turnBit rate (λ k. bitIn m w (k - o)) (u + t)))) 0 (2 ^ m) (drop base table) h w hw) in
+      ap (λ (v : ℕ). byteOf v t) (sym (getD-drop base table w 0))
+      ∙ eqb→eq (byteOf (getD (drop base table) w 0) t) (turnBit rate (λ k. bitIn m w (k - o)) (u + t))
+      (below-all 8 (λ t. eqb (byteOf (getD (drop base table) w 0) t) (turnBit rate (λ k. bitIn m w (k - o)) (u + t))) p t ht);
 }
 
 -- three bits make a coded bit
@@ -116,7 +136,7 @@ turn-encode rate ins outs h x i u =
 -- the bits before turn i, and the places that the turns so far have filled
 pub record Coding (rate ins outs : ℕ) (x : ℕ → ℕ) (coded : List ℕ) (before i : ℕ) : Type 0 where
   pub carried : before ≡ val (turnBits x ins i) 2
-  pub filled : Filled (encode rate x) wordBits coded (outs * i)
+  pub filled : Filling (encode rate x) coded wordBits (outs * i)
 
 -- before the first turn there are zeros
 pub coding-none : (rate ins outs : ℕ) (x : ℕ → ℕ) (coded : List ℕ) → length coded ≡ wordBits → Coding rate ins outs x coded 0 0

@@ -1,6 +1,2 @@
 pub mod Code
-pub mod Distance
-pub mod Near
-pub mod Needs
-pub mod Ends
-pub mod Turns
+pub mod Inner

@@ -3,7 +3,7 @@ ghost use mathlib.Core.Path.{_≡_};
 ghost use Prim.Native.Nat.{_+_, _-_, _*_, _≤_};
 ghost use lib.ListN.{length};
 ghost use Rattle.bits.specs.Pack.{val, bitAt};
-ghost use Rattle.convolution.specs.Ends.{Ended};
+ghost use Rattle.convolution.specs.Inner.{Ended};
 
 // The 32 bits of the check, the highest first, and two zeros, in the place of the last 34 bits.
 pub fn put_end(input: &mut [u8], check: u32)

@@ -1,14 +1,14 @@
-// Step 4, the convolutional code. Input bits are packed; coded bits stand one to a place.
+// Step 4, the convolutional code. Input bits are packed; coded bits are one to a byte.
 pub mod ends;
 mod tables;
 mod turns;
 
 ghost use mathlib.Core.Path.{_≡_};
 ghost use Rattle.bits.specs.Pack.{bitAt};
-ghost use Rattle.bits.specs.Table.{tab};
+ghost use Rattle.bits.specs.Basics.{tab};
 ghost use Rattle.sizes.specs.Sizes.{wordBits};
 ghost use Rattle.convolution.specs.Code.{encode as encoded};
-ghost use Rattle.convolution.specs.Needs.{Encodes};
+ghost use Rattle.convolution.specs.Inner.{Encodes};
 
 // Step 4: the coded bits of the input bits.
 pub fn encode(rate: u64, input: &[u8], coded: &mut [u8])

@@ -1,11 +1,11 @@
-// Eight coded bits by the input bits that make them, with the two before these, as a number: its bytes, from the lowest, are the coded bits.
+// Eight coded bits, indexed by the input bits that make them and the two before these, as one number: its bytes, from the lowest, are the coded bits.
 use crate::turns;
 ghost use mathlib.Core.Path.{_≡_};
 ghost use Rattle.bits.specs.Pack.{bitAt};
-ghost use Rattle.bits.specs.Table.{tab};
+ghost use Rattle.bits.specs.Basics.{tab};
 ghost use Rattle.sizes.specs.Sizes.{wordBits};
 ghost use Rattle.convolution.specs.Code.{encode};
-ghost use Rattle.convolution.specs.Needs.{Codes};
+ghost use Rattle.convolution.specs.Inner.{Codes};
 
 // The coded bits at each rate, by its table.
 pub fn thirds(input: &[u8], coded: &mut [u8])

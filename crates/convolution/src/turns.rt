@@ -1,13 +1,12 @@
-// The coded bits, a turn at a time: those of one input byte, or of two at the rate 2/3, eight at once by a table.
+// The coded bits, a turn at a time: those of one input byte, or of two at rate 2/3, eight at once from a table.
 ghost use mathlib.Core.Path.{_≡_};
 ghost use Prim.Native.Nat.{_+_, _*_, _^_, _≤_, _<_};
 ghost use lib.ListN.{length};
 ghost use Rattle.bits.specs.Pack.{bitAt};
-ghost use Rattle.bits.specs.Table.{tab};
+ghost use Rattle.bits.specs.Basics.{tab};
 ghost use Rattle.sizes.specs.Sizes.{wordBits};
 ghost use Rattle.convolution.specs.Code.{encode};
-ghost use Rattle.convolution.specs.Needs.{Codes};
-ghost use Rattle.convolution.specs.Turns.{Put, byteOf, bitIn, turnBit, Thirds, Halves, TwoThirds};
+ghost use Rattle.convolution.specs.Inner.{Codes, Put, byteOf, bitIn, turnBit, Thirds, Halves, TwoThirds};
 
 // The eight bytes of a number, the lowest first, from place `at` on.
 fn put_low_eight(out: &mut [u8], at: usize, v: u64)
@@ -21,7 +20,7 @@ fn put_low_eight(out: &mut [u8], at: usize, v: u64)
     }
 }
 
-// The bits of a byte behind those of w.
+// w with the bits of a byte appended.
 fn pushed(w: usize, byte: u8) -> usize
     requires { ⌜ w < 2 ^ 10 ⌝ }
     ensures { λ r. ⌜ r ≡ w * 2 ^ 8 + byte ⌝ }

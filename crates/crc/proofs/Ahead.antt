@@ -4,12 +4,15 @@ use mathlib.Core.List.{List}
 use Prim.Native.Nat.{ℕ, _+_, _-_, _*_, _/_, _%_, _^_, _≤_, _<_}
 use native.Mathlib.Omega.{arith}
 use lib.Bits.{bitXor, xor-zero-l, xor-self}
-use Rattle.bits.specs.Sum.{xor-digit}
-use Rattle.bits.specs.Pack.{Bits, val, bitAt, bitOf, bit-lt, bit-of-lt, bit-val}
-use Rattle.bits.specs.Field.{shifted-digit, shifted-below}
-use Rattle.crc.specs.Check.{register, checkBit, register-lt}
-use Rattle.crc.specs.Bytes.{advances, advances-same, advances-plus, advances-on, register-on}
-use Rattle.crc.specs.Found.{zeros-stay, field-meets}
+use Rattle.bits.proofs.Laws.Sum.{xor-digit}
+use Rattle.bits.specs.Pack.{Bits, val, bitAt, bitOf}
+use Rattle.bits.proofs.Laws.Pack.{bit-lt, bit-of-lt, bit-val}
+use Rattle.bits.proofs.Laws.Field.{shifted-digit, shifted-below}
+use Rattle.crc.specs.Check.{register, checkBit}
+use Rattle.crc.proofs.Laws.Check.{register-lt}
+use Rattle.crc.specs.Inner.{advances}
+use Rattle.crc.proofs.Laws.Bytes.{advances-same, advances-plus, advances-on, register-on}
+use Rattle.crc.proofs.Laws.Found.{zeros-stay, field-meets}
 
 -- the bits of a register in front of zeros
 ahead : ℕ → ℕ → ℕ

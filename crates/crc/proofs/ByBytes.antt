@@ -7,11 +7,14 @@ use native.Mathlib.Omega.{arith}
 use lib.Bits.{bitXor, xor-zero-r, xor-lt, xor-shifted, xor-comm}
 use lib.Dec.{eqb, eqb→eq}
 use lib.ListN.{getD}
-use Rattle.bits.specs.Sum.{xor-cancel, xor-digit}
-use Rattle.bits.specs.Table.{below-all}
-use Rattle.bits.specs.Pack.{Bits, bitAt, bit-lt}
-use Rattle.crc.specs.Check.{advance, register, register-lt}
-use Rattle.crc.specs.Bytes.{advances, byteBit, change, advances-same, advances-plus, register-on}
+use Rattle.bits.proofs.Laws.Sum.{xor-cancel, xor-digit}
+use Rattle.bits.proofs.Laws.Table.{below-all}
+use Rattle.bits.specs.Pack.{Bits, bitAt}
+use Rattle.bits.proofs.Laws.Pack.{bit-lt}
+use Rattle.crc.specs.Check.{advance, register}
+use Rattle.crc.proofs.Laws.Check.{register-lt}
+use Rattle.crc.specs.Inner.{advances, byteBit, change}
+use Rattle.crc.proofs.Laws.Bytes.{advances-same, advances-plus, register-on}
 
 byte-bits : (v : ℕ) → Bits (byteBit v)
 byte-bits v t = omega arith

@@ -7,9 +7,10 @@ use Prim.Native.Nat.{ℕ, zero, suc, _+_, _*_, _<_}
 use native.Mathlib.Omega.{arith}
 use lib.Dec.{T, eqb, eqb→eq}
 use lib.ListN.{length, getD}
-use Rattle.bits.specs.Table.{both, both-left, both-right, allBelow, below-all}
-use Rattle.crc.specs.Bytes.{advances, advances-on}
-use Rattle.crc.specs.Tables.{none, sixBits, changeOf, Tables}
+use Rattle.bits.specs.Basics.{both}
+use Rattle.bits.proofs.Laws.Table.{both-left, both-right, allBelow, below-all}
+use Rattle.crc.specs.Inner.{advances, none, sixBits, changeOf, Tables}
+use Rattle.crc.proofs.Laws.Bytes.{advances-on}
 
 change-first : (n : ℕ) → sixBits n ≡ changeOf 0 n
 unfolding changeOf advances

@@ -6,11 +6,11 @@ use native.Mathlib.Nat.{div-eq-of-lt, zero-div}
 use lib.Bits.{bitXor, xor-zero-r}
 use lib.Pow.{shr-shr}
 use Rattle.bits.specs.Pack.{Bits}
-use Rattle.bits.specs.Field.{digit}
-use Rattle.bits.specs.XorSum.{xorSum}
-use Rattle.crc.specs.Bytes.{advances, change, advances-lt, advances-same, advances-plus, advances-on}
-use Rattle.crc.specs.Found.{zeros-stay}
-use Rattle.crc.specs.Tables.{none, sixBits, changeOf}
+use Rattle.bits.proofs.Laws.Field.{digit}
+use Rattle.bits.specs.Count.{xorSum}
+use Rattle.crc.specs.Inner.{advances, change, none, sixBits, changeOf}
+use Rattle.crc.proofs.Laws.Bytes.{advances-lt, advances-same, advances-plus, advances-on}
+use Rattle.crc.proofs.Laws.Found.{zeros-stay}
 
 -- the six bits from bit 6 k on, counted from below
 abbrev pub sixAt : ℕ → ℕ → ℕ

@@ -1,5 +1,2 @@
 pub mod Check
-pub mod Bytes
-pub mod Difference
-pub mod Found
-pub mod Tables
+pub mod Inner

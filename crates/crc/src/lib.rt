@@ -4,8 +4,7 @@ ghost use Prim.Native.Nat.{_*_, _≤_, _<_};
 ghost use lib.ListN.{length};
 ghost use Rattle.bits.specs.Pack.{bitAt, bitOf};
 ghost use Rattle.crc.specs.Check.{advance, register};
-ghost use Rattle.crc.specs.Bytes.{advances, change};
-ghost use Rattle.crc.specs.Tables.{Tables};
+ghost use Rattle.crc.specs.Inner.{advances, change, Tables};
 
 mod table;
 
@@ -28,7 +27,7 @@ fn eleven(table: &[u32], v: u64) -> u32
     let mut r: u32 = 0;
     let mut k = 0usize;
     while k < 11 {
-        r = r ^ table[64 * k + ((v >> (6 * k)) % 64) as usize];
+        r = r ^ table[64 * k + ((v >> (6 * k)) & 63) as usize];
         k += 1;
     }
     r
@@ -39,7 +38,7 @@ fn two(table: &[u32], b: u32) -> u32
     requires { ⌜ Tables (now table) × (b < 256) ⌝ }
     ensures { λ r. ⌜ r ≡ change b ⌝ }
 {
-    table[(b % 64) as usize] ^ table[(64 + b / 64) as usize]
+    table[(b & 63) as usize] ^ table[(64 + (b >> 6)) as usize]
 }
 
 // The register after the first 8 n bytes: it acts as if it were added to the first 32 bits that come.

@@ -5,14 +5,15 @@ use Prim.Native.Nat.{ℕ, _<_}
 use lib.Dec.{eqb}
 use lib.ListN.{getD}
 use borrow.Author.Tests.{eq-eqb}
-use Rattle.bits.specs.First.{upTo, first-same, all-pass}
+use Rattle.bits.specs.Basics.{upTo, tab}
+use Rattle.bits.proofs.Laws.First.{first-same, all-pass}
 use Rattle.bits.specs.Pack.{bitAt}
-use Rattle.bits.specs.Table.{tab, getD-tab}
-use Rattle.sizes.specs.Rate.{inputBits}
+use Rattle.bits.proofs.Laws.Table.{getD-tab}
+use Rattle.sizes.specs.Inner.{inputBits}
 use Rattle.sizes.specs.Sizes.{wordBits}
-use Rattle.convolution.specs.Code.{encode, decode, encode-same, decode-same, decode-encode}
-use Rattle.decoder.specs.Compare.{sameAt}
-use Rattle.decoder.specs.Quick.{Made}
+use Rattle.convolution.specs.Code.{encode, decode}
+use Rattle.convolution.proofs.Laws.Code.{encode-same, decode-same, decode-encode}
+use Rattle.decoder.specs.Inner.{sameAt, Made}
 
 -- where one list is made by a function, the comparison is with its values
 pub same-made : (f : ℕ → ℕ) (made coded : List ℕ) → made ≡ tab wordBits f → upTo (sameAt made coded) 0 wordBits ≡ upTo (λ j. eqb (getD coded j 0) (f j)) 0 wordBits

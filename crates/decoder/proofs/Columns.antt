@@ -6,14 +6,15 @@ use Prim.Native.Nat.{ℕ, _+_, _-_, _*_, _/_, _^_, _≤_, _<_}
 use native.Mathlib.Omega.{arith}
 use lib.Bits.{bitXor}
 use lib.ListN.{length, getD, set, length-set, List·getD-eq-default}
-use Rattle.bits.specs.Choice.{lt-or-le}
-use Rattle.bits.specs.Table.{fill}
-use Rattle.bits.specs.Pack.{Bits, val, val-same}
-use Rattle.bits.specs.Parts.{val-split, val-plus, none-val}
+use Rattle.bits.proofs.Laws.Choice.{lt-or-le}
+use Rattle.bits.proofs.Laws.Table.{fill}
+use Rattle.bits.specs.Pack.{Bits, val}
+use Rattle.bits.proofs.Laws.Pack.{val-same}
+use Rattle.bits.proofs.Laws.Parts.{val-split, val-plus, none-val}
 use Rattle.sizes.specs.Sizes.{wordBits}
-use Rattle.convolution.specs.Turns.{Put}
-use Rattle.sevens.specs.Sevens.{column, Coded}
-use Rattle.decoder.specs.Rows.{bitsOf, Row, Held}
+use Rattle.convolution.specs.Inner.{Put}
+use Rattle.word_columns.specs.Inner.{column, Coded}
+use Rattle.decoder.specs.Inner.{bitsOf, Row, Held}
 
 -- the bits of a column, from the last row's on
 abbrev pub rowBit : (ℕ → ℕ) → ℕ → ℕ → ℕ
@@ -56,17 +57,17 @@ coded-past coded h j l = List·getD-eq-default coded 0 (let e = h .size in omega
 
 -- ---- a row that is filled
 
-pub held-none : (g : ℕ → ℕ) (xs : List ℕ) → Row xs → Held g 0 xs
+pub held-none : (g : ℕ → ℕ) (xs : List ℕ) → Row xs → Held g xs 0
 held-none g xs e = record { size = e; below = λ x l. absurd (omega arith) }
 
-pub held-more : (g : ℕ → ℕ) (xs : List ℕ) (x v : ℕ) → x < 2168 → v ≡ g x → Held g x xs → Held g (x + 1) (set xs x v)
+pub held-more : (g : ℕ → ℕ) (xs : List ℕ) (x v : ℕ) → x < 2168 → v ≡ g x → Held g xs x → Held g (set xs x v) (x + 1)
 held-more g xs x v l e h =
     let n : length xs ≡ 2168 = h .size in
     record { size = length-set xs x v ∙ h .size; below = fill xs g x v (omega arith) e (h .below) }
 
 -- all columns
-pub held-next : (f : ℕ → ℕ) → Bits f → ((j : ℕ) → wordBits ≤ j → f j ≡ 0) → (xs ys : List ℕ) → Held (column f) 2160 xs → Put xs 2160 8 (λ e. getD xs e 0 / 2) ys
-    → Held (column f) 2168 ys
+pub held-next : (f : ℕ → ℕ) → Bits f → ((j : ℕ) → wordBits ≤ j → f j ≡ 0) → (xs ys : List ℕ) → Held (column f) xs 2160 → Put xs 2160 8 (λ e. getD xs e 0 / 2) ys
+    → Held (column f) ys 2168
 held-next f b past xs ys h p =
     record {
       size = p .long ∙ h .size;

@@ -7,12 +7,11 @@ use native.Mathlib.Omega.{arith}
 use native.Mathlib.Numerals.{add-one}
 use lib.Bits.{bitXor, xor-zero-r, xor-comm}
 use lib.ListN.{set}
-use Rattle.bits.specs.Choice.{lt-or-le}
-use Rattle.bits.specs.Sum.{xor-assoc}
-use Rattle.sizes.specs.Rate.{inputsPer, codedPer}
-use Rattle.sizes.specs.Sizes.{wordBits}
+use Rattle.bits.proofs.Laws.Choice.{lt-or-le}
+use Rattle.bits.proofs.Laws.Sum.{xor-assoc}
+use Rattle.sizes.specs.Sizes.{inputsPer, codedPer, wordBits}
 use Rattle.convolution.specs.Code.{delay, secondPlace, recover, decode}
-use Rattle.convolution.proofs.Filling.{Filled, fill-one}
+use Rattle.convolution.proofs.Filling.{Filling, fill-one}
 
 recover-next : (s : ℕ → ℕ) (i : ℕ) → recover s i ≡ bitXor (bitXor (s i) (delay (recover s) i)) (delay (delay (recover s)) i)
 unfolding recover delay
@@ -51,7 +50,7 @@ decode-next rate c i j newer older h e =
 
 -- so far n places are filled up to i, and the last two bits carried
 abbrev pub Decoded : ℕ → (ℕ → ℕ) → ℕ → List ℕ → ℕ → ℕ → ℕ → Type 0
-Decoded rate c n xs i newer older = Filled (decode rate c) n xs i × Carried (decode rate c) i newer older
+Decoded rate c n xs i newer older = Filling (decode rate c) xs n i × Carried (decode rate c) i newer older
 
 pub decoded-on : (rate : ℕ) (c : ℕ → ℕ) (n : ℕ) (xs : List ℕ) (i j newer older : ℕ) → i < n → secondPlace rate i ≡ j → Decoded rate c n xs i newer older
     → Decoded rate c n (set xs i (bitXor (bitXor (c j) older) newer)) (i + 1) (bitXor (bitXor (c j) older) newer) newer

@@ -7,9 +7,9 @@ use native.Mathlib.Omega.{arith}
 use lib.Bits.{bitOr}
 use lib.ListN.{length, getD, set, length-set}
 use lib.Seq.{getD-set-same, getD-set-other}
-use Rattle.bits.specs.Choice.{eq-or-ne, lt-or-le}
-use Rattle.bits.specs.Sum.{or-zero}
-use Rattle.decoder.specs.Apart.{sumAt, Joined}
+use Rattle.bits.proofs.Laws.Choice.{eq-or-ne, lt-or-le}
+use Rattle.bits.proofs.Laws.Sum.{or-zero}
+use Rattle.decoder.specs.Inner.{sumAt, Joined}
 
 module _ (a b c : List ℕ) (p q at : ℕ) where
   pub joined-none : (before : List ℕ) → Joined a b c p q at 0 before before

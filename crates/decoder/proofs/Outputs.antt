@@ -6,10 +6,11 @@ use Prim.Native.Nat.{ℕ, zero, suc, _+_, _*_, _/_, _%_, _≤_, _<_}
 use native.Mathlib.Omega.{arith}
 use native.Mathlib.Numerals.{add-one}
 use lib.Bits.{bitXor, xor-zero-r, xor-comm}
-use Rattle.bits.specs.Choice.{lt-or-le}
-use Rattle.bits.specs.Sum.{xor-assoc, xor-cancel, xor-cancel-r, same-xor}
+use Rattle.bits.proofs.Laws.Choice.{lt-or-le}
+use Rattle.bits.proofs.Laws.Sum.{xor-assoc, xor-cancel, xor-cancel-r, same-xor}
 use Rattle.sizes.specs.Sizes.{wordBits}
-use Rattle.convolution.specs.Code.{delay, first, second, encode, third-first, third-second, third-third, half-first, half-second, two-first, two-second, two-odd}
+use Rattle.convolution.specs.Code.{delay, first, second, encode}
+use Rattle.convolution.proofs.Laws.Code.{third-first, third-second, third-third, half-first, half-second, two-first, two-second, two-odd}
 
 -- three that sum to 0: each is the sum of the others
 xor-last : (a b c : ℕ) → bitXor (bitXor a b) c ≡ 0 → bitXor c a ≡ b

@@ -3,8 +3,9 @@ use mathlib.Core.Path.{_≡_, ap, _∙_}
 use mathlib.Core.List.{List}
 use Prim.Native.Nat.{ℕ}
 use native.Mathlib.Omega.{arith}
-use Rattle.sizes.specs.Rate.{infoBits, inputBits}
-use Rattle.decoder.specs.Needs.{Unpacks, Steps, Pairs}
+use Rattle.sizes.specs.Sizes.{infoBits}
+use Rattle.sizes.specs.Inner.{inputBits}
+use Rattle.decoder.specs.Inner.{Unpacks, Steps, Pairs}
 
 module _ (rate : ℕ) (coded bits : List ℕ) (h : Unpacks rate coded bits) where
   pub unpacks-third : rate ≡ 0 → Steps 3 5040 coded bits

@@ -7,14 +7,12 @@ use native.Mathlib.Omega.{arith}
 use lib.Bits.{bitXor, xor-comm, xor-self}
 use lib.ListN.{getD}
 use borrow.Author.Tests.{eq-eqb, ne-eqb}
-use Rattle.bits.specs.Choice.{bit-cases}
-use Rattle.bits.specs.Sum.{xor-bit, xor-cancel-r, same-xor}
+use Rattle.bits.proofs.Laws.Choice.{bit-cases}
+use Rattle.bits.proofs.Laws.Sum.{xor-bit, xor-cancel-r, same-xor}
 use Rattle.bits.specs.Pack.{Bits, bitAt}
-use Rattle.sevens.specs.Sevens.{column, column-bit, Coded}
-use Rattle.decoder.specs.Rows.{bitsOf, Held, sumTwo, sumFive}
-use Rattle.decoder.specs.Apart.{NoSum}
-use Rattle.decoder.specs.Turned.{source, Taken}
-use Rattle.decoder.specs.Quick.{Made, pairOf, Summed, StartsRight}
+use Rattle.word_columns.specs.Inner.{column, Coded}
+use Rattle.word_columns.proofs.Laws.Bits.{column-bit}
+use Rattle.decoder.specs.Inner.{bitsOf, Held, sumTwo, sumFive, NoSum, source, Taken, Made, pairOf, Summed, StartsRight}
 use Rattle.decoder.proofs.Columns.{column-none, column-plus, column-on}
 use Rattle.decoder.proofs.Outputs as out
 
@@ -37,7 +35,7 @@ five-bits coded h j =
 column-add : (f g : ℕ → ℕ) → Bits f → Bits g → (x p : ℕ) → bitXor (column f x) (column g (x + p)) ≡ column (λ j. bitXor (f j) (g (j + p))) x
 column-add f g hf hg x p = ap (bitXor (column f x)) (column-on g x p) ∙ column-plus f (λ j. g (j + p)) hf (λ j. hg (j + p)) x
 
-pub pairs-held : (coded v d : List ℕ) → Coded coded → Held (column (bitsOf coded)) 2168 v → Held (sumTwo v) 2167 d → Held (column (pairOf coded)) 2167 d
+pub pairs-held : (coded v d : List ℕ) → Coded coded → Held (column (bitsOf coded)) v 2168 → Held (sumTwo v) d 2167 → Held (column (pairOf coded)) d 2167
 pairs-held coded v d h hv hd =
     record {
       size = hd .size;
@@ -46,7 +44,7 @@ pairs-held coded v d h hv hd =
           ∙ column-add (bitsOf coded) (bitsOf coded) (h .bits) (h .bits) x 1;
     }
 
-pub fives-held : (coded v e : List ℕ) → Coded coded → Held (column (bitsOf coded)) 2168 v → Held (sumFive v) 2164 e → Held (column (fiveOf coded)) 2164 e
+pub fives-held : (coded v e : List ℕ) → Coded coded → Held (column (bitsOf coded)) v 2168 → Held (sumFive v) e 2164 → Held (column (fiveOf coded)) e 2164
 fives-held coded v e h hv he =
     let c : ℕ → ℕ = bitsOf coded in
     let three : ℕ → ℕ = λ j. bitXor (pairOf coded j) (c (j + 2)) in
@@ -66,7 +64,7 @@ fives-held coded v e h hv he =
 -- ---- sums that are zero
 
 pub no-sum : (f g h : ℕ → ℕ) → Bits f → Bits g → Bits h → (a b c : List ℕ) (na nb nc p q step n : ℕ)
-    → Held (column f) na a → Held (column g) nb b → Held (column h) nc c → 2160 ≤ na → 2160 + p ≤ nb → 2160 + q ≤ nc → NoSum a b c p q step n
+    → Held (column f) a na → Held (column g) b nb → Held (column h) c nc → 2160 ≤ na → 2160 + p ≤ nb → 2160 + q ≤ nc → NoSum a b c p q step n
     → (u m r : ℕ) → u < 45 → m < n → step * m < 48 → r < 7
     → bitXor (bitXor (f (48 * u + step * m + 2160 * r)) (g (48 * u + step * m + 2160 * r + p))) (h (48 * u + step * m + 2160 * r + q)) ≡ 0
 no-sum f g h bf bg bh a b c na nb nc p q step n ha hb hc la lb lc none u m r hu hm hs hr =
@@ -94,7 +92,7 @@ source-odd : (a b : List ℕ) (x y s u : ℕ) → u % 2 ≡ 1 → source a b x y
 unfolding source
 source-odd a b x y s u e = let ne : u % 2 ≡ 0 → ⊥ = λ z. omega arith in rw (ne-eqb (u % 2) 0 ne) refl
 
-module _ (coded d input : List ℕ) (h : Coded coded) (hd : Held (column (pairOf coded)) 2167 d) where
+module _ (coded d input : List ℕ) (h : Coded coded) (hd : Held (column (pairOf coded)) d 2167) where
   third-bits : Taken d d 3 6 6 90 input → (i : ℕ) → i < 5040 → bitAt input i ≡ pairOf coded (3 * (i + 1))
   third-bits t i l =
       let g : ℕ = i / 8 % 90 in
@@ -133,7 +131,7 @@ module _ (coded d input : List ℕ) (h : Coded coded) (hd : Held (column (pairOf
       ∙ hd .below place (omega arith))
       ∙ ap (pairOf coded) there
 
-  module _ (e : List ℕ) (he : Held (column (fiveOf coded)) 2164 e) (t : Taken e d 0 3 3 180 input) where
+  module _ (e : List ℕ) (he : Held (column (fiveOf coded)) e 2164) (t : Taken e d 0 3 3 180 input) where
     two-even : (i : ℕ) → i < 5040 → bitAt input (2 * i) ≡ fiveOf coded (3 * i)
     two-even i l =
         let k : ℕ = 2 * i in
@@ -166,7 +164,7 @@ module _ (coded d input : List ℕ) (h : Coded coded) (hd : Held (column (pairOf
 
 -- the place of turn m, in rows of 2,160 and there in stretches of 48
 module _ (f g h : ℕ → ℕ) (bf : Bits f) (bg : Bits g) (bh : Bits h) (a b c : List ℕ) (na nb nc p q : ℕ)
-    (ha : Held (column f) na a) (hb : Held (column g) nb b) (hc : Held (column h) nc c) (la : 2160 ≤ na) (lb : 2160 + p ≤ nb) (lc : 2160 + q ≤ nc) where
+    (ha : Held (column f) a na) (hb : Held (column g) b nb) (hc : Held (column h) c nc) (la : 2160 ≤ na) (lb : 2160 + p ≤ nb) (lc : 2160 + q ≤ nc) where
   sums-three : NoSum a b c p q 3 16 → (m : ℕ) → m < 5040 → bitXor (bitXor (f (3 * m)) (g (3 * m + p))) (h (3 * m + q)) ≡ 0
   sums-three none m l =
       let x : ℕ = 3 * (m % 720) in
@@ -229,7 +227,7 @@ module _ (coded v d input : List ℕ) (sp : Summed coded v d) where
       ∙ sums-two (pairOf coded) c (pairOf coded) b (h .bits) b d v d 2167 2168 2167 2 4 (sp .pairs) (sp .columns) (sp .pairs) (omega arith) (omega arith) (omega arith) firsts m (omega arith) in
       out.half-made c z (out.step-first c z 2 7560 none behind start sums) (out.step-second c z 2 7560 none behind start sums)
 
-  pub two-read : (e : List ℕ) → Held (column (fiveOf coded)) 2164 e → StartsRight coded (getD e 0 0) → NoSum e v e 3 3 3 16 → Taken e d 0 3 3 180 input → Made 2 coded input
+  pub two-read : (e : List ℕ) → Held (column (fiveOf coded)) e 2164 → StartsRight coded (getD e 0 0) → NoSum e v e 3 3 3 16 → Taken e d 0 3 3 180 input → Made 2 coded input
   unfolding c
   two-read e he s firsts t =
       let h = sp .coded-is in

@@ -8,11 +8,11 @@ use native.Mathlib.Nat.{mul-assoc, mul-le-mul, le-refl}
 use lib.ListN.{length, getD, set, length-set}
 use lib.Seq.{getD-set-same, getD-set-other}
 use borrow.Author.Tests.{eq-eqb, ne-eqb}
-use Rattle.bits.specs.Choice.{lt-or-le, eq-or-ne}
-use Rattle.bits.specs.Change.{Copied}
+use Rattle.bits.proofs.Laws.Choice.{lt-or-le, eq-or-ne}
+use Rattle.bits.specs.Inner.{Copied}
 use Rattle.bits.specs.Pack.{bitAt}
-use Rattle.sevens.specs.Planes.{Transposed}
-use Rattle.decoder.specs.Turned.{source, Takes, Dealt, Stacked, Taken}
+use Rattle.transpose.specs.Inner.{Transposed}
+use Rattle.decoder.specs.Inner.{source, Takes, Dealt, Stacked, Taken}
 
 -- ---- a row that is dealt
 

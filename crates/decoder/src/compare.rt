@@ -1,8 +1,8 @@
 // The first place at which two lists of coded bits differ.
 ghost use mathlib.Core.Path.{_≡_};
-ghost use Rattle.bits.specs.First.{upTo};
+ghost use Rattle.bits.specs.Basics.{upTo};
 ghost use Rattle.sizes.specs.Sizes.{wordBits};
-ghost use Rattle.decoder.specs.Compare.{Both, sameAt};
+ghost use Rattle.decoder.specs.Inner.{Both, sameAt};
 
 // The first difference; 15120 where there is none.
 pub fn first_apart(made: &[u8], coded: &[u8]) -> usize

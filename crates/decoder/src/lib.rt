@@ -1,4 +1,9 @@
-// Step 4 undone, and question 13. Input bits are packed; coded bits stand one to a place.
+// Step 4 undone, and question 13. In go 15,120 coded bits, one to a place; out come the input bits, packed, and the first coded bit that
+// they do not make, or 15,120. The fast way (`quick`) says of a word that nothing is wrong with it; of any other the slow one says what.
+//
+//     coded  --quick-->  input, and nothing wrong
+//        |
+//        +--back-->  input  --encode-->  made  --compare with coded-->  the first that differs
 mod apart;
 mod back;
 mod compare;
@@ -10,14 +15,20 @@ ghost use mathlib.Core.Path.{_≡_};
 ghost use Prim.Native.Nat.{ℕ, _<_};
 ghost use lib.Dec.{eqb};
 ghost use lib.ListN.{length, getD};
-ghost use Rattle.bits.specs.First.{upTo};
+ghost use Rattle.bits.specs.Basics.{upTo, tab};
 ghost use Rattle.bits.specs.Pack.{bitAt};
-ghost use Rattle.bits.specs.Table.{tab};
-ghost use Rattle.sizes.specs.Rate.{inputBits};
+ghost use Rattle.sizes.specs.Inner.{inputBits};
 ghost use Rattle.sizes.specs.Sizes.{wordBits};
 ghost use Rattle.convolution.specs.Code.{encode as encoded, decode as decoded};
-ghost use Rattle.convolution.specs.Needs.{Encodes};
-ghost use Rattle.decoder.specs.Needs.{Decodes, Unpacks, Packs};
+ghost use Rattle.convolution.specs.Inner.{Encodes};
+ghost use Rattle.decoder.specs.Inner.{Decodes, Unpacks, Packs};
+
+// The input bits of a word at each rate.
+const THIRD: usize = sizes::WORD_BITS / 3;
+
+const HALF: usize = sizes::WORD_BITS / 2;
+
+const TWO_THIRDS: usize = 2 * THIRD;
 
 // The input bits from the second output alone, one to a place.
 fn unpacked(rate: u64, coded: &[u8], bits: &mut [u8])
@@ -25,8 +36,8 @@ fn unpacked(rate: u64, coded: &[u8], bits: &mut [u8])
     ensures { λ _. ⌜ now (bits .exit) ≡ tab (inputBits rate) (decoded rate (λ j. getD (now (coded .entry)) j 0)) ⌝ }
 {
     match rate {
-        0 => back::steps(3, 5040, coded, bits),
-        1 => back::steps(2, 7560, coded, bits),
+        0 => back::steps(3, THIRD, coded, bits),
+        1 => back::steps(2, HALF, coded, bits),
         _ => back::pairs(coded, bits),
     }
 }
@@ -46,7 +57,7 @@ fn decode(rate: u64, coded: &[u8], input: &mut [u8])
     requires { ⌜ Decodes rate (now coded) (now input) ⌝ }
     ensures { λ _. ⌜ ((i : ℕ) → i < inputBits rate → bitAt (now (input .exit)) i ≡ decoded rate (λ j. getD (now (coded .entry)) j 0) i) ⌝ }
 {
-    let mut room = [0u8; 10080];
+    let mut room = [0u8; TWO_THIRDS];
     packed(rate, coded, &mut room, input);
 }
 
@@ -55,7 +66,7 @@ fn first_wrong(rate: u64, input: &[u8], coded: &[u8]) -> usize
     requires { ⌜ Encodes rate (now input) (now coded) ⌝ }
     ensures { λ r. ⌜ r ≡ upTo (λ j. eqb (getD (now (coded .entry)) j 0) (encoded rate (bitAt (now (input .entry))) j)) 0 wordBits ⌝ }
 {
-    let mut made = [0u8; 15120];
+    let mut made = [0u8; sizes::WORD_BITS];
     remade(rate, input, coded, &mut made)
 }
 

@@ -1,18 +1,18 @@
-// Step 9 a symbol at a time, and back: delay lines, one a row, over a lent area in which each row writes over its oldest byte.
+// Step 9 a symbol at a time, and back: delay lines, one a row, over an area in which each row overwrites its oldest byte.
 use answers::Answer;
-use header::layout;
+use header::form;
 ghost use mathlib.Core.Path.{_≡_};
 ghost use Prim.Native.Nat.{_+_, _%_, _≤_};
 ghost use lib.Dec.{eqb};
 ghost use lib.ListN.{length, getD, set};
 ghost use Rattle.answers.specs.Answer.{after};
 ghost use Rattle.answers.specs.declared.Answer.the-variants.{Done};
-ghost use Rattle.bits.specs.Choice.{pick};
+ghost use Rattle.bits.specs.Basics.{pick};
 ghost use Rattle.header.specs.Header.{fieldsOf};
 ghost use Rattle.delay.specs.Delay.{stepSays, gives, leaves};
-ghost use Rattle.delay.specs.Needs.{Rows, RowOf};
+ghost use Rattle.delay.specs.Inner.{Rows, RowOf};
 
-// Writing holds row i back by i·B turns, reading by (N - 1 - i)·B.
+// The writing side delays row i by i·B turns, the reading side by (N - 1 - i)·B.
 pub enum Side {
     Writing,
     Reading,
@@ -24,13 +24,13 @@ struct Row {
     lag: usize,
 }
 
-// What a step comes to: the symbol counts where the answer is done.
+// The result of a step: the symbol is valid where the answer is done.
 pub struct Given {
     pub answer: Answer,
     pub symbol: u8,
 }
 
-// Row i of N: the rows before it summed up. What is halved is even.
+// Row i of N, from the sum of the rows before it. What is halved is even.
 fn row_of(side: Side, rows: usize, step: usize, i: usize) -> Row
     requires { ⌜ Rows rows step i ⌝ }
     ensures { λ r. ⌜ RowOf side rows step i (r .begin) (r .lag) ⌝ }
@@ -47,8 +47,8 @@ fn row_of(side: Side, rows: usize, step: usize, i: usize) -> Row
     }
 }
 
-// A turn of a row: gives its oldest byte, and takes the symbol in its place.
-fn pass(area: &mut [u8], begin: usize, lag: usize, turn: usize, symbol: u8) -> u8
+// A turn of a row: gives its oldest byte, and stores the symbol in its place.
+fn exchange(area: &mut [u8], begin: usize, lag: usize, turn: usize, symbol: u8) -> u8
     requires { ⌜ begin + lag ≤ length (now area) ⌝ }
     ensures { λ r. ⌜ r ≡ pick (eqb lag 0) symbol (getD (now (area .entry)) (begin + turn % lag) 0) ⌝ }
     ensures { λ _. ⌜ now (area .exit) ≡ pick (eqb lag 0) (now (area .entry)) (set (now (area .entry)) (begin + turn % lag) symbol) ⌝ }
@@ -66,15 +66,15 @@ fn pass(area: &mut [u8], begin: usize, lag: usize, turn: usize, symbol: u8) -> u
 fn says(header: &[u8], symbol: u64, length: usize) -> Answer
     ensures { λ r. ⌜ r ≡ stepSays (now (header .entry)) symbol «length» ⌝ }
 {
-    let answer = questions::header_says(header);
+    let answer = header_questions::header_says(header);
     let Answer::Done = answer else {
         return answer;
     };
-    let f = layout::read(header);
-    if length != quantities::spread(f) / 2 {
+    let f = form::read(header);
+    if length != header_sizes::interleaver_delay(f) / 2 {
         return Answer::No(8, 0);
     }
-    if symbol as usize >= quantities::pulse_order(f) {
+    if symbol as usize >= header_sizes::pulse_order(f) {
         return Answer::No(26, 0);
     }
     Answer::Done
@@ -90,11 +90,11 @@ pub fn step(side: Side, header: &[u8], n: u64, symbol: u64, area: &mut [u8]) -> 
     let Answer::Done = answer else {
         return Given { answer, symbol: 0 };
     };
-    let f = layout::read(header);
+    let f = form::read(header);
     let rows = f.rows;
     let at = n as usize;
     let row = row_of(side, rows, f.step, at % rows);
-    let oldest = pass(area, row.begin, row.lag, at / rows, symbol as u8);
+    let oldest = exchange(area, row.begin, row.lag, at / rows, symbol as u8);
     Given {
         answer,
         symbol: oldest,

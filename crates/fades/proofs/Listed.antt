@@ -10,11 +10,11 @@ use lib.Dec.{ltb, leb, eqb}
 use lib.ListN.{length, getD, drop}
 use lib.Seq.{drop-cons, drop-length}
 use borrow.Author.Tests.{lt-ltb, le-ltb, lt-leb, eq-eqb, ne-eqb}
-use Rattle.bits.specs.Choice.{lt-or-le, eq-or-ne}
-use Rattle.bits.specs.Table.{both}
+use Rattle.bits.proofs.Laws.Choice.{lt-or-le, eq-or-ne}
+use Rattle.bits.specs.Basics.{both}
 use Rattle.fades.specs.Fades.{covered, fadesGood, listGood}
-use Rattle.fades.specs.Laws.{Front, front-good}
-use Rattle.fades.specs.Needs.{Left}
+use Rattle.fades.proofs.Laws.Fades.{Front, front-good}
+use Rattle.fades.specs.Inner.{Left}
 
 -- no fade covers what lies before the first
 before-none : (n end : ℕ) (fades : List ℕ) (s : ℕ) → fadesGood n end fades ≡ true → s < end → covered fades s ≡ false

@@ -12,89 +12,88 @@ use lib.Dec.{eqb}
 use lib.ListN.{length, getD, set, length-set, List·getD-eq-default}
 use lib.Seq.{getD-set-same, getD-set-other}
 use borrow.Author.Tests.{lt-ltb, le-ltb, le-leb, lt-leb, eq-eqb, ne-eqb}
-use Rattle.bits.specs.Choice.{pick, bool, bool-lt, lt-or-le, eq-or-ne}
-use Rattle.bits.specs.Table.{both, tab-made}
-use Rattle.bits.specs.Weight.{weight, weight-most}
-use Rattle.channel.specs.Channel.{placeAt}
-use Rattle.channel.specs.Places.{hit-le, remainder-on}
-use Rattle.fades.specs.declared.Grid.{Grid}
+use Rattle.bits.specs.Basics.{pick, bool, both}
+use Rattle.bits.proofs.Laws.Choice.{bool-lt, lt-or-le, eq-or-ne}
+use Rattle.bits.proofs.Laws.Table.{tab-made}
+use Rattle.bits.specs.Count.{weight}
+use Rattle.bits.proofs.Laws.Weight.{weight-most}
+use Rattle.channel.specs.Channel.{total, unit, symbolCount, placeAt}
+use Rattle.channel.proofs.Laws.Places.{hit-le, remainder-on}
+use Rattle.channel.specs.declared.Layout.{Layout}
 use Rattle.fades.specs.declared.walk.Spot.{Spot}
 use Rattle.fades.specs.Fades.{covered, isMarker, isFiller, sourceOf, carries, ofWord, isHit, hits, countsOf}
-use Rattle.fades.specs.Needs.{Small, Stands, wordAt, Open, Plus, Added}
+use Rattle.fades.specs.Inner.{Small, Stands, wordAt, Open, Plus, Added}
 
 -- ---- the next symbol
 
-module _ (symbols markers s : ℕ) (least : 1 ≤ symbols) where
-  abbrev unit : ℕ
-  unit = symbols + markers
-
+module _ (g : Layout) (s : ℕ) (least : 1 ≤ g .symbols) where
   -- a place is no further on than its symbol
-  pub place-le : placeAt symbols markers s ≤ s
+  pub place-le : placeAt g s ≤ s
   unfolding placeAt
   place-le =
-      let d = div-add-mod' s unit in
-      let l : symbols ≤ unit = omega arith in
-      omega (arith, mul-le-mul (le-refl (s / unit)) l)
+      let d = div-add-mod' s (unit g) in
+      let l : g .symbols ≤ unit g = omega arith in
+      omega (arith, mul-le-mul (le-refl (s / unit g)) l)
 
-  pub column-lt : s % unit < unit
+  pub column-lt : s % unit g < unit g
   column-lt = mod-lt s (omega arith)
 
   -- in the same line
-  module _ (h : s % unit + 1 < unit) where
-    at : s + 1 ≡ s / unit * unit + (s % unit + 1)
-    at = let d = div-add-mod' s unit in omega arith
+  module _ (h : s % unit g + 1 < unit g) where
+    at : s + 1 ≡ s / unit g * unit g + (s % unit g + 1)
+    at = let d = div-add-mod' s (unit g) in omega arith
 
-    pub column-on : (s + 1) % unit ≡ s % unit + 1
-    column-on = ap (λ (x : ℕ). x % unit) at ∙ digits-mod (s / unit) h
+    pub column-on : (s + 1) % unit g ≡ s % unit g + 1
+    column-on = ap (λ (x : ℕ). x % unit g) at ∙ digits-mod (s / unit g) h
 
-    place-on : placeAt symbols markers (s + 1) ≡ s / unit * symbols + (s % unit + 1 - markers)
+    place-on : placeAt g (s + 1) ≡ s / unit g * g .symbols + (s % unit g + 1 - g .markers)
     unfolding placeAt
-    place-on = ap₂ (λ (a b : ℕ). a * symbols + (b - markers)) (ap (λ (x : ℕ). x / unit) at ∙ digits-div (s / unit) h) column-on
+    place-on = ap₂ (λ (a b : ℕ). a * g .symbols + (b - g .markers)) (ap (λ (x : ℕ). x / unit g) at ∙ digits-div (s / unit g) h) column-on
 
     -- behind a marker symbol, and behind another
-    pub place-stays : s % unit + 1 ≤ markers → placeAt symbols markers (s + 1) ≡ placeAt symbols markers s
+    pub place-stays : s % unit g + 1 ≤ g .markers → placeAt g (s + 1) ≡ placeAt g s
     unfolding placeAt
     place-stays l = place-on ∙ omega arith
 
-    pub place-more : markers ≤ s % unit → placeAt symbols markers (s + 1) ≡ placeAt symbols markers s + 1
+    pub place-more : g .markers ≤ s % unit g → placeAt g (s + 1) ≡ placeAt g s + 1
     unfolding placeAt
     place-more l = place-on ∙ omega arith
 
   -- behind the last of a line
-  module _ (h : s % unit + 1 ≡ unit) where
-    turned : s + 1 ≡ (s / unit + 1) * unit + 0
-    turned = let d = div-add-mod' s unit in omega arith
+  module _ (h : s % unit g + 1 ≡ unit g) where
+    turned : s + 1 ≡ (s / unit g + 1) * unit g + 0
+    turned = let d = div-add-mod' s (unit g) in omega arith
 
-    some : 0 < unit
+    some : 0 < unit g
     some = omega arith
 
-    pub column-first : (s + 1) % unit ≡ 0
-    column-first = ap (λ (x : ℕ). x % unit) turned ∙ digits-mod (s / unit + 1) some
+    pub column-first : (s + 1) % unit g ≡ 0
+    column-first = ap (λ (x : ℕ). x % unit g) turned ∙ digits-mod (s / unit g + 1) some
 
-    pub place-first : placeAt symbols markers (s + 1) ≡ placeAt symbols markers s + 1
+    pub place-first : placeAt g (s + 1) ≡ placeAt g s + 1
     unfolding placeAt
     place-first =
-        let e : (s / unit + 1) * symbols ≡ s / unit * symbols + symbols = omega arith in
-        ap₂ (λ (a b : ℕ). a * symbols + (b - markers)) (ap (λ (x : ℕ). x / unit) turned ∙ digits-div (s / unit + 1) some) column-first
+        let e : (s / unit g + 1) * g .symbols ≡ s / unit g * g .symbols + g .symbols = omega arith in
+        ap₂ (λ (a b : ℕ). a * g .symbols + (b - g .markers)) (ap (λ (x : ℕ). x / unit g) turned ∙ digits-div (s / unit g + 1) some) column-first
         ∙ omega arith
 
 -- symbol 0
-pub stands-first : (g : Grid) → Stands g (record { symbol = 0; column = 0; place = 0; residue = 0 })
+pub stands-first : (g : Layout) → Stands g (record { symbol = 0; column = 0; place = 0; residue = 0 })
 unfolding placeAt
 stands-first g =
-    let u : ℕ = g .symbols + g .markers in
+    let u : ℕ = unit g in
     record {
       column-is = sym (zero-mod u);
       place-is = let d = zero-div u in let m = zero-mod u in sym (rw (d, m) (omega arith));
       residue-is = sym (zero-mod (g .rows));
     }
 
-module _ (g : Grid) (small : Small g) (a : Spot) (stands : Stands g a) where
-  pub column-small : a .column < g .symbols + g .markers
-  column-small = let e = stands .column-is in let l = column-lt (g .symbols) (g .markers) (a .symbol) (small .symbols-least) in omega arith
+module _ (g : Layout) (small : Small g) (a : Spot) (stands : Stands g a) where
+  pub column-small : a .column < unit g
+  column-small = let e = stands .column-is in let l = column-lt g (a .symbol) (small .symbols-least) in omega arith
 
   pub place-small : a .place ≤ a .symbol
-  place-small = let e = stands .place-is in let l = place-le (g .symbols) (g .markers) (a .symbol) (small .symbols-least) in omega arith
+  place-small = let e = stands .place-is in let l = place-le g (a .symbol) (small .symbols-least) in omega arith
 
   pub residue-small : a .residue < g .rows
   residue-small = let e = stands .residue-is in let l = mod-lt (a .place) (small .rows-least) in omega arith
@@ -104,60 +103,60 @@ module _ (g : Grid) (small : Small g) (a : Spot) (stands : Stands g a) where
   stands-marker l =
       let e = stands .column-is in
       let least = small .symbols-least in
-      let h : a .symbol % (g .symbols + g .markers) + 1 < g .symbols + g .markers = omega arith in
+      let h : a .symbol % unit g + 1 < unit g = omega arith in
       record {
-        column-is = ap (λ (c : ℕ). c + 1) e ∙ sym (column-on (g .symbols) (g .markers) (a .symbol) least h);
-        place-is = stands .place-is ∙ sym (place-stays (g .symbols) (g .markers) (a .symbol) least h (omega arith));
+        column-is = ap (λ (c : ℕ). c + 1) e ∙ sym (column-on g (a .symbol) least h);
+        place-is = stands .place-is ∙ sym (place-stays g (a .symbol) least h (omega arith));
         residue-is = stands .residue-is;
       }
 
   module _ (behind : g .markers < a .column + 1) (r : ℕ) (er : r ≡ (a .residue + 1) % g .rows) where
-    pub stands-place : a .column + 1 < g .symbols + g .markers
+    pub stands-place : a .column + 1 < unit g
         → Stands g (record { symbol = a .symbol + 1; column = a .column + 1; place = a .place + 1; residue = r })
     stands-place l =
         let e = stands .column-is in
         let least = small .symbols-least in
-        let h : a .symbol % (g .symbols + g .markers) + 1 < g .symbols + g .markers = omega arith in
+        let h : a .symbol % unit g + 1 < unit g = omega arith in
         record {
-          column-is = ap (λ (c : ℕ). c + 1) e ∙ sym (column-on (g .symbols) (g .markers) (a .symbol) least h);
-          place-is = ap (λ (x : ℕ). x + 1) (stands .place-is) ∙ sym (place-more (g .symbols) (g .markers) (a .symbol) least h (omega arith));
+          column-is = ap (λ (c : ℕ). c + 1) e ∙ sym (column-on g (a .symbol) least h);
+          place-is = ap (λ (x : ℕ). x + 1) (stands .place-is) ∙ sym (place-more g (a .symbol) least h (omega arith));
           residue-is = remainder-on (a .place) (g .rows) (a .residue) r (stands .residue-is) er;
         }
 
-    pub stands-line : g .symbols + g .markers ≤ a .column + 1
+    pub stands-line : unit g ≤ a .column + 1
         → Stands g (record { symbol = a .symbol + 1; column = 0; place = a .place + 1; residue = r })
     stands-line l =
         let e = stands .column-is in
         let least = small .symbols-least in
         let m = column-small in
-        let h : a .symbol % (g .symbols + g .markers) + 1 ≡ g .symbols + g .markers = omega arith in
+        let h : a .symbol % unit g + 1 ≡ unit g = omega arith in
         record {
-          column-is = sym (column-first (g .symbols) (g .markers) (a .symbol) least h);
-          place-is = ap (λ (x : ℕ). x + 1) (stands .place-is) ∙ sym (place-first (g .symbols) (g .markers) (a .symbol) least h);
+          column-is = sym (column-first g (a .symbol) least h);
+          place-is = ap (λ (x : ℕ). x + 1) (stands .place-is) ∙ sym (place-first g (a .symbol) least h);
           residue-is = remainder-on (a .place) (g .rows) (a .residue) r (stands .residue-is) er;
         }
 
 -- ---- the word of a symbol
 
-module _ (g : Grid) (least : 1 ≤ g .symbols) (s : ℕ) where
-  pub marker-word : s % (g .symbols + g .markers) < g .markers → g .words ≡ wordAt g s
+module _ (g : Layout) (least : 1 ≤ g .symbols) (s : ℕ) where
+  pub marker-word : s % unit g < g .markers → g .words ≡ wordAt g s
   unfolding wordAt carries isMarker
-  marker-word h = sym (rw (lt-ltb (s % (g .symbols + g .markers)) (g .markers) h) refl)
+  marker-word h = sym (rw (lt-ltb (s % unit g) (g .markers) h) refl)
 
-  source-le : sourceOf g s ≤ g .words * g .symbols
+  source-le : sourceOf g s ≤ total g
   unfolding sourceOf
-  source-le = hit-le (g .rows) (g .step) (g .words * g .symbols) (placeAt (g .symbols) (g .markers) s)
+  source-le = hit-le g (placeAt g s)
 
   -- a filler comes from C·S, and that would be one of word C
-  pub source-word : g .markers ≤ s % (g .symbols + g .markers) → sourceOf g s / g .symbols ≡ wordAt g s
+  pub source-word : g .markers ≤ s % unit g → sourceOf g s / g .symbols ≡ wordAt g s
   unfolding wordAt carries isMarker isFiller
   source-word h =
       ⊎-elim
-      (λ (l : sourceOf g s < g .words * g .symbols). sym (rw (le-ltb (s % (g .symbols + g .markers)) (g .markers) h, lt-leb (g .words * g .symbols) (sourceOf g s) l) refl))
-      (λ (l : g .words * g .symbols ≤ sourceOf g s).
-      let e : sourceOf g s ≡ g .words * g .symbols = let m = source-le in omega arith in
-      sym (rw (le-ltb (s % (g .symbols + g .markers)) (g .markers) h, le-leb (g .words * g .symbols) (sourceOf g s) l) (sym (ap (λ (t : ℕ). t / g .symbols) e ∙ mul-div-cancel (g .words) least))))
-      (lt-or-le (sourceOf g s) (g .words * g .symbols))
+      (λ (l : sourceOf g s < total g). sym (rw (le-ltb (s % unit g) (g .markers) h, lt-leb (total g) (sourceOf g s) l) refl))
+      (λ (l : total g ≤ sourceOf g s).
+      let e : sourceOf g s ≡ total g = let m = source-le in omega arith in
+      sym (rw (le-ltb (s % unit g) (g .markers) h, le-leb (total g) (sourceOf g s) l) (sym (ap (λ (t : ℕ). t / g .symbols) e ∙ mul-div-cancel (g .words) least))))
+      (lt-or-le (sourceOf g s) (total g))
 
   -- and no word has number C
   pub word-is : (j : ℕ) → j < g .words → eqb (wordAt g s) j ≡ ofWord g j s
@@ -195,7 +194,7 @@ plus-none j counts l =
     record { long = refl; each = λ k h. sym (add-zero (getD counts k 0)) ∙ ap (λ (b : ℕ). getD counts k 0 + b) (sym (ap bool (ne-eqb j k (λ z. omega arith)))) }
 
 -- symbol s is covered, or not
-module _ (g : Grid) (least : 1 ≤ g .symbols) (fades : List ℕ) (s : ℕ) (before after : List ℕ) (long : length before ≡ g .words) where
+module _ (g : Layout) (least : 1 ≤ g .symbols) (fades : List ℕ) (s : ℕ) (before after : List ℕ) (long : length before ≡ g .words) where
   pub added-one : covered fades s ≡ true → Plus (wordAt g s) before after → Added g fades s before after
   added-one e p =
       record {
@@ -214,11 +213,11 @@ module _ (g : Grid) (least : 1 ≤ g .symbols) (fades : List ℕ) (s : ℕ) (bef
       }
 
 -- what stands in the counts after s symbols
-pub record Counted (g : Grid) (fades : List ℕ) (s : ℕ) (counts : List ℕ) : Type 0 where
+pub record Counted (g : Layout) (fades : List ℕ) (s : ℕ) (counts : List ℕ) : Type 0 where
   pub long : length counts ≡ g .words
   pub each : (j : ℕ) → j < g .words → getD counts j 0 ≡ weight (λ u. bool (isHit g fades j u)) s
 
-module _ (g : Grid) (fades : List ℕ) where
+module _ (g : Layout) (fades : List ℕ) where
   pub counted-none : (counts : List ℕ) → length counts ≡ g .words → ((j : ℕ) → j < g .words → getD counts j 0 ≡ 0) → Counted g fades 0 counts
   unfolding weight
   counted-none counts long zeros = record { long = long; each = zeros }
@@ -249,7 +248,7 @@ module _ (g : Grid) (fades : List ℕ) where
             (lt-or-le j (g .words));
       }
 
-  pub counted-all : (s : ℕ) (counts : List ℕ) → s ≡ g .count → Counted g fades s counts → counts ≡ countsOf g fades
+  pub counted-all : (s : ℕ) (counts : List ℕ) → s ≡ symbolCount g → Counted g fades s counts → counts ≡ countsOf g fades
   unfolding countsOf hits
   counted-all s counts e c =
       tab-made (g .words) (hits g fades) counts (c .long) (λ j l. c .each j l ∙ ap (weight (λ u. bool (isHit g fades j u))) e)

@@ -3,17 +3,17 @@ use mathlib.Core.Bool.{Bool, true, false, not, _||_}
 use mathlib.Core.List.{List, [], _∷_}
 use Prim.Native.Nat.{ℕ, _+_, _*_, _/_, _%_}
 use lib.Dec.{ltb, leb, eqb}
-use Rattle.bits.specs.Choice.{bool}
-use Rattle.bits.specs.Table.{tab, both}
-use Rattle.bits.specs.Weight.{weight}
+use lib.ListN.{length, getD}
+use Rattle.bits.specs.Basics.{bool, tab, both}
+use Rattle.bits.specs.Count.{weight}
 use Rattle.answers.specs.declared.Answer.{Answer}
-use Rattle.answers.specs.Answer.{ask, then}
+use Rattle.answers.specs.Answer.{after, ask, then}
 use Rattle.header.specs.Header.{fieldsOf}
-use Rattle.header.specs.declared.Fields.{Fields}
-use Rattle.quantities.specs.Quantities.{symbolsPerWord, blockCount, symbolCount}
-use Rattle.questions.specs.Questions.{headerSays}
-use Rattle.channel.specs.Channel.{hitBy, placeAt}
-use Rattle.fades.specs.declared.Grid.{Grid}
+use Rattle.header_sizes.specs.Quantities.{blockCount, symbolCount, layoutOf}
+use Rattle.header_questions.specs.Questions.{headerSays}
+use Rattle.channel.specs.Channel as channel
+use Rattle.channel.specs.Channel.{total, unit, hitBy, placeAt}
+use Rattle.channel.specs.declared.Layout.{Layout}
 
 -- ---- a list of fades
 
@@ -36,40 +36,36 @@ listGood n fades = fadesGood n 0 fades
 -- ---- the symbols of a run
 
 -- symbol s is a marker symbol (step 10)
-unfoldable pub isMarker : Grid → ℕ → Bool
-isMarker g s = ltb (s % (g .symbols + g .markers)) (g .markers)
+unfoldable pub isMarker : Layout → ℕ → Bool
+isMarker g s = ltb (s % unit g) (g .markers)
 
 -- the symbol of step 8 that goes to its place; C·S where none does, and then it is a filler (step 9)
-unfoldable pub sourceOf : Grid → ℕ → ℕ
-sourceOf g s = hitBy (g .rows) (g .step) (g .words * g .symbols) (placeAt (g .symbols) (g .markers) s)
+unfoldable pub sourceOf : Layout → ℕ → ℕ
+sourceOf g s = hitBy g (placeAt g s)
 
-unfoldable pub isFiller : Grid → ℕ → Bool
-isFiller g s = leb (g .words * g .symbols) (sourceOf g s)
+unfoldable pub isFiller : Layout → ℕ → Bool
+isFiller g s = leb (total g) (sourceOf g s)
 
 -- each other symbol is one of a word's, and t is one of word t div S
-unfoldable pub carries : Grid → ℕ → Bool
+unfoldable pub carries : Layout → ℕ → Bool
 carries g s = both (not (isMarker g s)) (not (isFiller g s))
 
-unfoldable pub ofWord : Grid → ℕ → ℕ → Bool
+unfoldable pub ofWord : Layout → ℕ → ℕ → Bool
 ofWord g j s = both (carries g s) (eqb (sourceOf g s / g .symbols) j)
 
 -- ---- the counts
 
 -- symbol s is covered and one of word j's, and how many such symbols the run has
-abbrev pub isHit : Grid → List ℕ → ℕ → ℕ → Bool
+abbrev pub isHit : Layout → List ℕ → ℕ → ℕ → Bool
 isHit g fades j s = both (covered fades s) (ofWord g j s)
 
-unfoldable pub hits : Grid → List ℕ → ℕ → ℕ
-hits g fades j = weight (λ s. bool (isHit g fades j s)) (g .count)
+unfoldable pub hits : Layout → List ℕ → ℕ → ℕ
+hits g fades j = weight (λ s. bool (isHit g fades j s)) (channel.symbolCount g)
 
-unfoldable pub countsOf : Grid → List ℕ → List ℕ
+unfoldable pub countsOf : Layout → List ℕ → List ℕ
 countsOf g fades = tab (g .words) (hits g fades)
 
 -- ---- the call
-
--- N, B, S, W, C and the number of symbols of the run that a header describes
-unfoldable pub gridOf : Fields → Grid
-gridOf f = record { rows = f .rows; step = f .step; symbols = symbolsPerWord f; markers = f .markers; words = blockCount f; count = symbolCount f }
 
 -- the questions: those of the header alone, 1 to 7 and 20; 8, is there a number for the count of each word? And 22
 unfoldable pub fadesSay : List ℕ → List ℕ → ℕ → Answer
@@ -79,4 +75,18 @@ fadesSay header fades countsLength =
     (ask (listGood (symbolCount (fieldsOf header)) fades) 22 0))
 
 abbrev pub countsIn : List ℕ → List ℕ → List ℕ
-countsIn header fades = countsOf (gridOf (fieldsOf header)) fades
+countsIn header fades = countsOf (layoutOf (fieldsOf header)) fades
+
+-- what the slice lent for the result holds afterwards: the result on acceptance, otherwise what it held
+abbrev pub countsAfter : List ℕ → List ℕ → List ℕ → List ℕ
+countsAfter header fades old = after (fadesSay header fades (length old)) (countsIn header fades) old
+
+-- Laws of a list of fades: what its rules say of each fade, and which symbols it covers.
+
+-- ---- by index: fade i of a list
+
+abbrev pub firstOf : List ℕ → ℕ → ℕ
+firstOf fades i = getD fades (2 * i) 0
+
+abbrev pub endOf : List ℕ → ℕ → ℕ
+endOf fades i = getD fades (2 * i) 0 + getD fades (2 * i + 1) 0

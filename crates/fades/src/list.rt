@@ -2,9 +2,9 @@
 ghost use mathlib.Core.Path.{_≡_};
 ghost use Prim.Native.Nat.{_+_, _^_, _<_};
 ghost use lib.Dec.{leb};
-ghost use Rattle.bits.specs.Table.{both};
+ghost use Rattle.bits.specs.Basics.{both};
 ghost use Rattle.fades.specs.Fades.{covered, listGood};
-ghost use Rattle.fades.specs.Needs.{Left};
+ghost use Rattle.fades.specs.Inner.{Left};
 
 fn wide(x: u32) -> usize
     ensures { λ r. ⌜ (r ≡ x) × (r < 2 ^ 32) ⌝ }

@@ -1,10 +1,10 @@
 // The walk over a run, symbol by symbol. A symbol that no fade covers costs no division.
-use crate::Grid;
+use channel::Layout;
 ghost use mathlib.Core.Path.{_≡_};
 ghost use Prim.Native.Nat.{_+_, _^_, _<_};
 ghost use lib.ListN.{getD};
 ghost use Rattle.fades.specs.Fades.{countsOf};
-ghost use Rattle.fades.specs.Needs.{Small, Stands, Left, wordAt, Open, Plus, Added, Walks};
+ghost use Rattle.fades.specs.Inner.{Small, Stands, Left, wordAt, Open, Plus, Added, Walks};
 
 // A symbol of the run, with its number in its line, its place of step 9, and that modulo N.
 pub struct Spot {
@@ -15,7 +15,7 @@ pub struct Spot {
 }
 
 // The next symbol. A marker symbol has the place of the first symbol behind it.
-fn next(g: Grid, a: Spot) -> Spot
+fn next(g: Layout, a: Spot) -> Spot
     requires { ⌜ Small g × Stands g a × (a .symbol < 2 ^ 23) ⌝ }
     ensures { λ r. ⌜ Stands g r × (r .symbol ≡ a .symbol + 1) ⌝ }
 {
@@ -49,7 +49,7 @@ fn next(g: Grid, a: Spot) -> Spot
 }
 
 // The word that a symbol is one of; C for a marker symbol, and for a filler, which comes from "symbol" C·S.
-fn word_at(g: Grid, a: Spot) -> usize
+fn word_at(g: Layout, a: Spot) -> usize
     requires { ⌜ Small g × Stands g a ⌝ }
     ensures { λ w. ⌜ w ≡ wordAt g (a .symbol) ⌝ }
 {
@@ -71,7 +71,7 @@ fn add_one(counts: &mut [u32], j: usize)
 }
 
 // One more for the word of a symbol that is covered.
-fn count_one(g: Grid, fades: &[u32], i: usize, a: Spot, counts: &mut [u32])
+fn count_one(g: Layout, fades: &[u32], i: usize, a: Spot, counts: &mut [u32])
     requires { ⌜ Small g × Stands g a × Left (now fades) i (a .symbol) × Open g (now counts) ⌝ }
     ensures { λ _. ⌜ Added g (now (fades .entry)) (a .symbol) (now (counts .entry)) (now (counts .exit)) ⌝ }
 {
@@ -82,11 +82,11 @@ fn count_one(g: Grid, fades: &[u32], i: usize, a: Spot, counts: &mut [u32])
 }
 
 // The counts, which are 0 at first.
-pub fn walk(g: Grid, fades: &[u32], counts: &mut [u32])
+pub fn walk(g: Layout, fades: &[u32], counts: &mut [u32])
     requires { ⌜ Walks g (now fades) (now counts) ⌝ }
     ensures { λ _. ⌜ now (counts .exit) ≡ countsOf g (now (fades .entry)) ⌝ }
 {
-    let n = g.count;
+    let n = g.lines * (g.symbols + g.markers);
     let mut a = Spot {
         symbol: 0,
         column: 0,

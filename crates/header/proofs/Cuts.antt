@@ -5,10 +5,11 @@ use Prim.Native.Nat.{ℕ, _+_, _-_, _*_, _/_, _^_}
 use native.Mathlib.Omega.{arith}
 use native.Mathlib.Nat.{div-one}
 use lib.Bits.{bitAnd}
-use Rattle.bits.specs.Pack.{val, bitAt, Bits, val-same, bit-lt}
-use Rattle.bits.specs.Parts.{cut-part}
+use Rattle.bits.specs.Pack.{val, bitAt, Bits}
+use Rattle.bits.proofs.Laws.Pack.{val-same, bit-lt}
+use Rattle.bits.proofs.Laws.Parts.{cut-part}
 use Rattle.header.specs.Header.{field, fieldsOf, spareOf, oldSpareOf}
-use Rattle.header.specs.Layout.{fields-same}
+use Rattle.header.proofs.Laws.Form.{fields-same}
 use Rattle.header.specs.declared.Fields.{Fields}
 
 -- what is cut out of the first eight bytes as a number

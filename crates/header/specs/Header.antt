@@ -12,7 +12,7 @@ use Rattle.header.specs.declared.Fields.{Fields}
 unfoldable pub field : List ℕ → ℕ → ℕ → ℕ
 field header at n = val (λ t. bitAt header (at + t)) n
 
--- the fields of a header; eight bytes have no factor, and it is not asked for
+-- the fields of a header; one of eight bytes has no factor, and none is asked for
 unfoldable pub fieldsOf : List ℕ → Fields
 fieldsOf header = record {
   rate = field header 0 2;
@@ -25,11 +25,11 @@ fieldsOf header = record {
   copies = field header 48 6;
 }
 
--- the 26 bits that are to be zero
+-- the 26 bits that must be zero
 unfoldable pub spareOf : List ℕ → ℕ
 spareOf header = field header 54 26
 
--- and the 16 of eight bytes
+-- the 16 of an archived header
 unfoldable pub oldSpareOf : List ℕ → ℕ
 oldSpareOf header = field header 48 16
 

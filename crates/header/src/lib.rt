@@ -1,5 +1,5 @@
-// The run header: ten bytes, and the fields in them. `layout` reads the bytes, those of archived headers too.
-pub mod layout;
+// The run header: ten bytes, and the fields in them. `form` reads the bytes, those of archived headers too.
+pub mod form;
 
 // The header's fields, with their letters in the comments.
 pub struct Fields {

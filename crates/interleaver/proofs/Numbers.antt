@@ -8,13 +8,17 @@ use native.Mathlib.Nat.{mod-lt}
 use lib.Dec.{eqb, eqb→eq}
 use lib.ListN.{length, getD}
 use borrow.Author.Tests.{eq-eqb, ne-eqb}
-use Rattle.bits.specs.Choice.{pick, lt-or-le, eq-or-ne}
-use Rattle.bits.specs.Table.{below-all, tab, length-tab, getD-tab}
-use Rattle.bits.specs.Pack.{val, Bits, val-lt, val-same, val-bits}
+use Rattle.bits.specs.Basics.{pick, tab}
+use Rattle.bits.proofs.Laws.Choice.{lt-or-le, eq-or-ne}
+use Rattle.bits.proofs.Laws.Table.{below-all, length-tab, getD-tab}
+use Rattle.bits.specs.Pack.{val, Bits}
+use Rattle.bits.proofs.Laws.Pack.{val-lt, val-same, val-bits}
 use Rattle.sizes.specs.Sizes.{wordBits}
-use Rattle.interleaver.specs.Interleaver.{place, placeBack}
-use Rattle.sevens.specs.Sevens.{column, column-bit, turnOf, roll, Rolled, Light, mixSum, mixedAt, Filled}
-use Rattle.interleaver.specs.Columns.{seven, Each, takenBy, columnOf, First, upOut, numberOut}
+use Rattle.interleaver.specs.Interleaver.{sourceBit, outputPlace}
+use Rattle.interleaver.specs.Inner.{seven, Each, takenBy, columnOf, First, upOut, numberOut}
+use Rattle.bits.specs.Inner.{Filled}
+use Rattle.word_columns.specs.Inner.{column, turnOf, roll, Rolled, Light, mixSum, mixedAt}
+use Rattle.word_columns.proofs.Laws.Bits.{column-bit}
 
 -- ---- seven bits
 
@@ -83,38 +87,38 @@ mix-same h w w' (suc n) e = ap₂ (λ (a b : ℕ). a + h n * b) (mix-same h w w'
 
 pub column-lt : (b : ℕ) → columnOf b < 72
 unfolding columnOf
-column-lt b = mod-lt (placeBack b) (omega arith)
+column-lt b = mod-lt (outputPlace b) (omega arith)
 
-pub column-place : (c : ℕ) → c < 72 → columnOf (place c % 72) ≡ c
-unfolding columnOf place placeBack
-column-place c h = eqb→eq (columnOf (place c % 72)) c (below-all 72 (λ c. eqb (columnOf (place c % 72)) c) tt c h)
+pub column-place : (c : ℕ) → c < 72 → columnOf (sourceBit c % 72) ≡ c
+unfolding columnOf sourceBit outputPlace
+column-place c h = eqb→eq (columnOf (sourceBit c % 72)) c (below-all 72 (λ c. eqb (columnOf (sourceBit c % 72)) c) tt c h)
 
-pub place-column : (b : ℕ) → b < 72 → place (columnOf b) % 72 ≡ b
-unfolding columnOf place placeBack
-place-column b h = eqb→eq (place (columnOf b) % 72) b (below-all 72 (λ b. eqb (place (columnOf b) % 72) b) tt b h)
+pub place-column : (b : ℕ) → b < 72 → sourceBit (columnOf b) % 72 ≡ b
+unfolding columnOf sourceBit outputPlace
+place-column b h = eqb→eq (sourceBit (columnOf b) % 72) b (below-all 72 (λ b. eqb (sourceBit (columnOf b) % 72) b) tt b h)
 
--- the row that `first_row` makes
-pub row-made : (off : List ℕ) → off ≡ tab 72 place → Each place off
-row-made off e = rw e (length-tab 72 place, getD-tab 72 place)
+-- the line that `first_line` makes
+pub row-made : (off : List ℕ) → off ≡ tab 72 sourceBit → Each sourceBit off
+row-made off e = rw e (length-tab 72 sourceBit, getD-tab 72 sourceBit)
 
 -- ---- masks
 
 -- one column more of the first two rows of a table by columns
-pub columns-more : (f : ℕ → ℕ) (c y v old new : ℕ) → c < 72 → v ≡ f (place c % 72) → new ≡ pick (eqb (y % 72) (place c % 72)) v old
+pub columns-more : (f : ℕ → ℕ) (c y v old new : ℕ) → c < 72 → v ≡ f (sourceBit c % 72) → new ≡ pick (eqb (y % 72) (sourceBit c % 72)) v old
     → (columnOf (y % 72) < c → old ≡ f (y % 72)) → columnOf (y % 72) < c + 1 → new ≡ f (y % 72)
 columns-more f c y v old new h e n so-far l =
     ⊎-elim
-    (λ (q : y % 72 ≡ place c % 72). n ∙ rw (eq-eqb (y % 72) (place c % 72) q) (e ∙ ap f (sym q)))
-    (λ (q : y % 72 ≡ place c % 72 → ⊥). n ∙ rw (ne-eqb (y % 72) (place c % 72) q) (so-far (earlier q)))
-    (eq-or-ne (y % 72) (place c % 72))
+    (λ (q : y % 72 ≡ sourceBit c % 72). n ∙ rw (eq-eqb (y % 72) (sourceBit c % 72) q) (e ∙ ap f (sym q)))
+    (λ (q : y % 72 ≡ sourceBit c % 72 → ⊥). n ∙ rw (ne-eqb (y % 72) (sourceBit c % 72) q) (so-far (earlier q)))
+    (eq-or-ne (y % 72) (sourceBit c % 72))
   where
-    earlier : (y % 72 ≡ place c % 72 → ⊥) → columnOf (y % 72) < c
+    earlier : (y % 72 ≡ sourceBit c % 72 → ⊥) → columnOf (y % 72) < c
     earlier q =
         ⊎-elim
         (λ (z : columnOf (y % 72) < c). z)
         (λ (z : c ≤ columnOf (y % 72)).
         let w : columnOf (y % 72) ≡ c = omega arith in
-        absurd (q (sym (place-column (y % 72) (omega arith)) ∙ ap (λ (j : ℕ). place j % 72) w)))
+        absurd (q (sym (place-column (y % 72) (omega arith)) ∙ ap (λ (j : ℕ). sourceBit j % 72) w)))
         (lt-or-le (columnOf (y % 72)) c)
 
 -- by what the word's columns take, the masks are those of the columns taken
@@ -128,7 +132,7 @@ first-same f up mask e m =
 rolled-power : (a : ℕ) → a < 7 → roll (2 ^ a) ≡ 2 ^ ((a + 1) % 7)
 rolled-power a h = eqb→eq (roll (2 ^ a)) (2 ^ ((a + 1) % 7)) (below-all 7 (λ a. eqb (roll (2 ^ a)) (2 ^ ((a + 1) % 7))) tt a h)
 
--- the masks by which the bits of column b go up by `up` b rows, for two rows of 72
+-- the masks by which the bits of column b go up by `up` b rows, for two lines
 pub record Masks (up : ℕ → ℕ) (mask : List ℕ) : Type 0 where
   pub size : length mask ≡ 1008
   pub entry : (i y : ℕ) → i < 7 → y < 144 → getD mask (144 * i + y) 0 ≡ 2 ^ ((i + up (y % 72)) % 7)
@@ -154,11 +158,11 @@ masks-rolled up small before after first r = record { size = r .long ∙ first .
 
 pub out-lt : (b : ℕ) → upOut b < 7
 unfolding upOut
-out-lt b = mod-lt (7 - place (columnOf b) / 2160) (omega arith)
+out-lt b = mod-lt (7 - sourceBit (columnOf b) / 2160) (omega arith)
 
-pub out-place : (c : ℕ) → c < 72 → upOut (place c % 72) ≡ (7 - place c / 2160) % 7
+pub out-place : (c : ℕ) → c < 72 → upOut (sourceBit c % 72) ≡ (7 - sourceBit c / 2160) % 7
 unfolding upOut
-out-place c h = ap (λ (j : ℕ). (7 - place j / 2160) % 7) (column-place c h)
+out-place c h = ap (λ (j : ℕ). (7 - sourceBit j / 2160) % 7) (column-place c h)
 
 -- masks of different bits fit a byte
 pub masks-light : (up : ℕ → ℕ) → ((b : ℕ) → up b < 7) → (mask : List ℕ) → Masks up mask → Light mask

@@ -11,14 +11,18 @@ use lib.ListN.{length, getD, set, replicate, length-replicate, getD-replicate, L
 use lib.Pow.{pow-pos}
 use lib.Seq.{getD-set-same, getD-set-other}
 use borrow.Author.Tests.{lt-ltb, le-ltb, eq-eqb, ne-eqb}
-use Rattle.bits.specs.Choice.{pick, bit-cases, lt-or-le, eq-or-ne}
-use Rattle.bits.specs.Table.{below-all}
-use Rattle.bits.specs.Pack.{Bits, bitAt, bit-lt}
+use Rattle.bits.specs.Basics.{pick}
+use Rattle.bits.proofs.Laws.Choice.{bit-cases, lt-or-le, eq-or-ne}
+use Rattle.bits.proofs.Laws.Table.{below-all}
+use Rattle.bits.specs.Pack.{Bits, bitAt}
+use Rattle.bits.proofs.Laws.Pack.{bit-lt}
 use Rattle.sizes.specs.Sizes.{wordBits, wordBytes}
-use Rattle.interleaver.specs.Interleaver.{place, placeBack, place-lt, back-place, deinterleave}
-use Rattle.sevens.specs.Planes.{Transposed}
-use Rattle.sevens.specs.Sevens.{turnOf, Filled, doubledAt, nineOf, Starts, pickedAt, hasBit, splitAt}
-use Rattle.interleaver.specs.Columns.{seven, columnOf, backRow, startIn, upIn, bitBack}
+use Rattle.interleaver.specs.Interleaver.{sourceBit, outputPlace, deinterleave}
+use Rattle.interleaver.proofs.Laws.Interleaver.{source-lt, output-source}
+use Rattle.interleaver.specs.Inner.{seven, columnOf, backRow, startIn, upIn, bitBack}
+use Rattle.bits.specs.Inner.{Filled}
+use Rattle.transpose.specs.Inner.{Transposed}
+use Rattle.word_columns.specs.Inner.{turnOf, doubledAt, nineOf, Starts, pickedAt, hasBit, splitAt}
 use Rattle.interleaver.proofs.Numbers.{Masks, seven-digit, seven-lt, seven-turn, byte-same, column-lt, column-place, place-column, columns-more}
 use Rattle.interleaver.proofs.Rows.{place-row}
 
@@ -63,31 +67,31 @@ pub start-lt : (b : ℕ) → startIn b < 4050
 unfolding startIn
 start-lt b = let c = column-lt b in omega arith
 
-pub start-place : (c : ℕ) → c < 72 → 540 * (7 - c % 8) + 9 * ((210 - place c / 72) % 30) + c / 8 ≡ startIn (place c % 72)
+pub start-place : (c : ℕ) → c < 72 → 540 * (7 - c % 8) + 9 * ((210 - sourceBit c / 72) % 30) + c / 8 ≡ startIn (sourceBit c % 72)
 unfolding startIn
-start-place c h = sym (ap (λ (j : ℕ). 540 * (7 - j % 8) + 9 * ((210 - place j / 72) % 30) + j / 8) (column-place c h))
+start-place c h = sym (ap (λ (j : ℕ). 540 * (7 - j % 8) + 9 * ((210 - sourceBit j / 72) % 30) + j / 8) (column-place c h))
 
-pub in-place : (c : ℕ) → c < 72 → (210 - place c / 72) / 30 % 7 ≡ upIn (place c % 72)
+pub in-place : (c : ℕ) → c < 72 → (210 - sourceBit c / 72) / 30 % 7 ≡ upIn (sourceBit c % 72)
 unfolding upIn
-in-place c h = sym (ap (λ (j : ℕ). (210 - place j / 72) / 30 % 7) (column-place c h))
+in-place c h = sym (ap (λ (j : ℕ). (210 - sourceBit j / 72) / 30 % 7) (column-place c h))
 
 -- one start more
-pub start-more : (at : List ℕ) (c v : ℕ) → length at ≡ 72 → c < 72 → v ≡ startIn (place c % 72) → ((b : ℕ) → b < 72 → columnOf b < c → getD at b 0 ≡ startIn b)
-    → (b : ℕ) → b < 72 → columnOf b < c + 1 → getD (set at (place c % 72) v) b 0 ≡ startIn b
+pub start-more : (at : List ℕ) (c v : ℕ) → length at ≡ 72 → c < 72 → v ≡ startIn (sourceBit c % 72) → ((b : ℕ) → b < 72 → columnOf b < c → getD at b 0 ≡ startIn b)
+    → (b : ℕ) → b < 72 → columnOf b < c + 1 → getD (set at (sourceBit c % 72) v) b 0 ≡ startIn b
 start-more at c v size h e so-far b l k =
     let w : b % 72 ≡ b = omega arith in
-    rw w at (columns-more startIn c b v (getD at b 0) (getD (set at (place c % 72) v) b 0) h e new (λ q. ap (λ (j : ℕ). getD at j 0) (sym w) ∙ so-far (b % 72) (omega arith) q) (rw (← w) at k))
+    rw w at (columns-more startIn c b v (getD at b 0) (getD (set at (sourceBit c % 72) v) b 0) h e new (λ q. ap (λ (j : ℕ). getD at j 0) (sym w) ∙ so-far (b % 72) (omega arith) q) (rw (← w) at k))
   where
-    new : getD (set at (place c % 72) v) b 0 ≡ pick (eqb (b % 72) (place c % 72)) v (getD at b 0)
+    new : getD (set at (sourceBit c % 72) v) b 0 ≡ pick (eqb (b % 72) (sourceBit c % 72)) v (getD at b 0)
     new =
         let w : b % 72 ≡ b = omega arith in
         ⊎-elim
-        (λ (q : b ≡ place c % 72).
-        let r : b % 72 ≡ place c % 72 = omega arith in
-        rw (eq-eqb (b % 72) (place c % 72) r, q) (getD-set-same at (place c % 72) v 0 (omega arith)))
-        (λ (q : b ≡ place c % 72 → ⊥).
-        rw (ne-eqb (b % 72) (place c % 72) (λ z. q (sym w ∙ z))) (getD-set-other at (place c % 72) b v 0 q))
-        (eq-or-ne b (place c % 72))
+        (λ (q : b ≡ sourceBit c % 72).
+        let r : b % 72 ≡ sourceBit c % 72 = omega arith in
+        rw (eq-eqb (b % 72) (sourceBit c % 72) r, q) (getD-set-same at (sourceBit c % 72) v 0 (omega arith)))
+        (λ (q : b ≡ sourceBit c % 72 → ⊥).
+        rw (ne-eqb (b % 72) (sourceBit c % 72) (λ z. q (sym w ∙ z))) (getD-set-other at (sourceBit c % 72) b v 0 q))
+        (eq-or-ne b (sourceBit c % 72))
 
 two-rows : (x : ℕ) → x % 144 % 72 ≡ x % 72
 two-rows x = omega arith
@@ -225,13 +229,13 @@ module _ (word ordered planes v : List ℕ)
       let m : ℕ = (i + a / 30 % 7) % 7 in
       let at : 72 * (n + a % 30) + c + 2160 * m ≡ 72 * (n + a % 30 + 30 * m) + c = omega arith in
       let j : ℕ = 72 * (191 * s % 210) + c in
-      let here : place j ≡ x =
+      let here : sourceBit j ≡ x =
       place-row (191 * s % 210) c
-      ∙ ap (λ (k : ℕ). (k + place c) % wordBits) (one-row s (omega arith))
-      ∙ from-bit x (place c) h (place-lt c) (place-column b (omega arith)) in
+      ∙ ap (λ (k : ℕ). (k + sourceBit c) % wordBits) (one-row s (omega arith))
+      ∙ from-bit x (sourceBit c) h (source-lt c) (place-column b (omega arith)) in
       ap (λ (k : ℕ). k / 2 ^ m % 2) (picked b n (omega arith))
       ∙ seven-digit g bits (72 * (n + a % 30) + c) m (omega arith)
       ∙ ap (λ (k : ℕ). g (k % wordBits)) at
       ∙ ap g (row-bit (n + a % 30 + 30 * m) c low ∙ ap (λ (k : ℕ). 72 * k + c) (turned-row n a i))
       ∙ in-row s c (omega arith) low
-      ∙ ap (bitAt word) (sym (back-place j (omega arith)) ∙ ap placeBack here)
+      ∙ ap (bitAt word) (sym (output-source j (omega arith)) ∙ ap outputPlace here)

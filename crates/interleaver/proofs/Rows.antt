@@ -4,11 +4,11 @@ use Prim.Native.Nat.{ℕ, _+_, _*_, _%_}
 use native.Mathlib.Omega.{arith}
 use native.Mathlib.Nat.{add-mod, add-mul-mod-self-right}
 use Rattle.sizes.specs.Sizes.{wordBits}
-use Rattle.interleaver.specs.Interleaver.{place}
-use Rattle.interleaver.specs.Squares.{square}
+use Rattle.interleaver.specs.Interleaver.{sourceBit}
+use Rattle.interleaver.proofs.Laws.Squares.{square}
 
-pub place-row : (r c : ℕ) → place (72 * r + c) ≡ (792 * r % wordBits + place c) % wordBits
-unfolding place
+pub place-row : (r c : ℕ) → sourceBit (72 * r + c) ≡ (792 * r % wordBits + sourceBit c) % wordBits
+unfolding sourceBit
 place-row r c =
     let start : ℕ = 792 * r + (11 * c + 210 * (c * c)) in
     let turns : ℕ = 72 * (r * r) + 2 * (r * c) in

@@ -7,13 +7,16 @@ use native.Mathlib.Omega.{arith}
 use native.Mathlib.Nat.{mod-lt, add-mul-mod-self-right}
 use lib.ListN.{length, getD, set}
 use lib.Seq.{getD-set-same, getD-set-other}
-use Rattle.bits.specs.Choice.{lt-or-le, eq-or-ne}
-use Rattle.bits.specs.Pack.{Bits, val, bytesOf, val-same, val-bits, bytes-by-byte}
+use Rattle.bits.proofs.Laws.Choice.{lt-or-le, eq-or-ne}
+use Rattle.bits.specs.Pack.{Bits, val, bytesOf}
+use Rattle.bits.proofs.Laws.Pack.{val-same, val-bits, bytes-by-byte}
 use Rattle.sizes.specs.Sizes.{wordBits, wordBytes}
-use Rattle.interleaver.specs.Interleaver.{place, place-lt, interleave}
-use Rattle.sevens.specs.Sevens.{turnOf, Filled, Turned, nineOf}
-use Rattle.sevens.specs.Planes.{Transposed}
-use Rattle.interleaver.specs.Columns.{seven, upOut, numberOut, columnAt, fromOut, seenOut}
+use Rattle.interleaver.specs.Interleaver.{sourceBit, interleave}
+use Rattle.interleaver.proofs.Laws.Interleaver.{source-lt}
+use Rattle.interleaver.specs.Inner.{seven, upOut, numberOut, columnAt, fromOut, seenOut}
+use Rattle.bits.specs.Inner.{Filled}
+use Rattle.word_columns.specs.Inner.{turnOf, Turned, nineOf}
+use Rattle.transpose.specs.Inner.{Transposed}
 use Rattle.interleaver.proofs.Rows.{place-row}
 use Rattle.interleaver.proofs.Numbers.{seven-digit, seven-mod, seven-turn, out-place}
 
@@ -40,7 +43,7 @@ out-turned f b before after h t k l =
 
 pub begin-lt : (q : ℕ) → fromOut q < 2160
 unfolding fromOut
-begin-lt q = mod-lt (place (columnAt (q / 9) (q % 9))) (omega arith)
+begin-lt q = mod-lt (sourceBit (columnAt (q / 9) (q % 9))) (omega arith)
 
 nine-mod : (e d : ℕ) → d < 9 → (9 * e + d) % 9 ≡ d
 nine-mod e d l = omega arith
@@ -49,7 +52,7 @@ nine-div : (e d : ℕ) → d < 9 → (9 * e + d) / 9 ≡ e
 nine-div e d l = omega arith
 
 -- one more in the order of the planes
-pub begin-more : (from : List ℕ) (c v : ℕ) → length from ≡ 72 → c < 72 → v ≡ place c % 2160
+pub begin-more : (from : List ℕ) (c v : ℕ) → length from ≡ 72 → c < 72 → v ≡ sourceBit c % 2160
     → ((q : ℕ) → q < 72 → columnAt (q / 9) (q % 9) < c → getD from q 0 ≡ fromOut q)
     → (q : ℕ) → q < 72 → columnAt (q / 9) (q % 9) < c + 1 → getD (set from (9 * (7 - c % 8) + c / 8) v) q 0 ≡ fromOut q
 unfolding fromOut
@@ -77,17 +80,17 @@ seen-made v m n k x hm hn hk e =
     let row : (9 * n + k) / 9 ≡ n = omega arith in
     let q : (9 * m + k) / 9 ≡ m = omega arith in
     let r : (9 * m + k) % 9 ≡ k = omega arith in
-    rw (plane, low, byte, row) (ap (λ (j : ℕ). getD v (j + 72 * n) 0) (e ∙ ap₂ (λ (a b : ℕ). place (columnAt b a) % 2160) r q))
+    rw (plane, low, byte, row) (ap (λ (j : ℕ). getD v (j + 72 * n) 0) (e ∙ ap₂ (λ (a b : ℕ). sourceBit (columnAt b a) % 2160) r q))
 
 -- ---- all of them
 
 -- number y of the planes
 unfoldable pub wordOut : (ℕ → ℕ) → ℕ → ℕ
-wordOut f y = seven f (72 * (y % 270 / 9) + place (columnAt (y / 270) (y % 9)))
+wordOut f y = seven f (72 * (y % 270 / 9) + sourceBit (columnAt (y / 270) (y % 9)))
 
 -- byte k of the word with its rows in the order of the coded bits
 unfoldable pub inOrder : (ℕ → ℕ) → ℕ → ℕ
-inOrder f k = val (λ t. f ((72 * (k / 9) + place (8 * (k % 9) + t)) % wordBits)) 8
+inOrder f k = val (λ t. f ((72 * (k / 9) + sourceBit (8 * (k % 9) + t)) % wordBits)) 8
 
 turned-back : (p n : ℕ) → p < wordBits → (p % 2160 + 72 * n + 2160 * (7 - (7 - p / 2160) % 7)) % wordBits ≡ (72 * n + p) % wordBits
 turned-back p n h =
@@ -114,9 +117,9 @@ module _ (f : ℕ → ℕ) (bits : Bits f) where
   gathered v seen h g y l =
       let c : ℕ = columnAt (y / 270) (y % 9) in
       let n : ℕ = y % 270 / 9 in
-      let p : ℕ = place c in
+      let p : ℕ = sourceBit c in
       let col : c < 72 = omega arith in
-      let small : p < wordBits = place-lt c in
+      let small : p < wordBits = source-lt c in
       let k : ℕ = p % 2160 + 72 * n in
       let b : k % 72 ≡ p % 72 = omega arith in
       let u : upOut (k % 72) ≡ (7 - p / 2160) % 7 = ap upOut b ∙ out-place c col in
@@ -135,20 +138,20 @@ module _ (f : ℕ → ℕ) (bits : Bits f) where
       let nine : i % 9 ≡ k % 9 = omega arith in
       let row : 30 * m + i / 9 ≡ k / 9 = omega arith in
       sym (val-bits (getD after k 0) 8 (s .small k))
-      ∙ val-same (λ t. getD after k 0 / 2 ^ (8 - 1 - t) % 2) (λ t. f ((72 * (k / 9) + place (8 * (k % 9) + t)) % wordBits)) 8 (λ t r.
+      ∙ val-same (λ t. getD after k 0 / 2 ^ (8 - 1 - t) % 2) (λ t. f ((72 * (k / 9) + sourceBit (8 * (k % 9) + t)) % wordBits)) 8 (λ t r.
       let d : ℕ = 8 - 1 - t in
       let y : ℕ = 270 * d + i in
       let low : y % 270 ≡ i = omega arith in
       let plane : y / 270 ≡ d = omega arith in
       let byte : y % 9 ≡ k % 9 = omega arith in
       let col : columnAt (y / 270) (y % 9) ≡ 8 * (k % 9) + t = omega arith in
-      let at : 72 * (i / 9) + place (columnAt (y / 270) (y % 9)) + 2160 * m ≡ 72 * (k / 9) + place (columnAt (y / 270) (y % 9)) = omega arith in
+      let at : 72 * (i / 9) + sourceBit (columnAt (y / 270) (y % 9)) + 2160 * m ≡ 72 * (k / 9) + sourceBit (columnAt (y / 270) (y % 9)) = omega arith in
       ap (λ (j : ℕ). getD after j 0 / 2 ^ d % 2) w
       ∙ s .cells m d i (omega arith) (omega arith) (omega arith)
-      ∙ ap (λ (v : ℕ). v / 2 ^ m % 2) (h y (omega arith) ∙ ap (λ (j : ℕ). seven f (72 * (j / 9) + place (columnAt (y / 270) (y % 9)))) low)
-      ∙ seven-digit f bits (72 * (i / 9) + place (columnAt (y / 270) (y % 9))) m (omega arith)
+      ∙ ap (λ (v : ℕ). v / 2 ^ m % 2) (h y (omega arith) ∙ ap (λ (j : ℕ). seven f (72 * (j / 9) + sourceBit (columnAt (y / 270) (y % 9)))) low)
+      ∙ seven-digit f bits (72 * (i / 9) + sourceBit (columnAt (y / 270) (y % 9))) m (omega arith)
       ∙ ap (λ (v : ℕ). f (v % wordBits)) at
-      ∙ ap (λ (c : ℕ). f ((72 * (k / 9) + place c) % wordBits)) col)
+      ∙ ap (λ (c : ℕ). f ((72 * (k / 9) + sourceBit c) % wordBits)) col)
 
   -- and with those rows in their order they are the word
   pub word-made : (after word : List ℕ) → length word ≡ wordBytes → Filled (inOrder f) after wordBytes
@@ -162,8 +165,8 @@ module _ (f : ℕ → ℕ) (bits : Bits f) where
       let byte : nineOf 11 k % 9 ≡ k % 9 = omega arith in
       g k l
       ∙ h (nineOf 11 k) (omega arith)
-      ∙ val-same (λ t. f ((72 * (nineOf 11 k / 9) + place (8 * (nineOf 11 k % 9) + t)) % wordBits)) (λ t. f (place (8 * k + t))) 8 (λ t q.
+      ∙ val-same (λ t. f ((72 * (nineOf 11 k / 9) + sourceBit (8 * (nineOf 11 k % 9) + t)) % wordBits)) (λ t. f (sourceBit (8 * k + t))) 8 (λ t q.
       let c : ℕ = 8 * (k % 9) + t in
       let j : 72 * r + c ≡ 8 * k + t = omega arith in
-      ap₂ (λ (x y : ℕ). f ((72 * x + place (8 * y + t)) % wordBits)) row byte
-      ∙ ap f (rows-order r (place c) ∙ sym (place-row r c) ∙ ap place j)))
+      ap₂ (λ (x y : ℕ). f ((72 * x + sourceBit (8 * y + t)) % wordBits)) row byte
+      ∙ ap f (rows-order r (sourceBit c) ∙ sym (place-row r c) ∙ ap sourceBit j)))

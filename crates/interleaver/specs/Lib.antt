@@ -1,3 +1,2 @@
 pub mod Interleaver
-pub mod Squares
-pub mod Columns
+pub mod Inner

@@ -1,96 +1,107 @@
-// Step 5, writing: the columns of coded bits into the order of the word.
+// Step 5, writing. In go the coded bits; out come planes of numbers, in which the word's columns lie side by side.
+//
+//     v      2,160 numbers, and once more a row on: column b goes up by as many rows as its taker asks for
+//     seen   plane m: 30 lines of nine numbers, of which number k of line n is that of line n in the word's column 8 k + 7 - m
 ghost use mathlib.Core.Path.{_≡_};
 ghost use Prim.Native.Nat.{_+_, _*_, _%_, _<_};
 ghost use lib.ListN.{length, getD};
-ghost use Rattle.sevens.specs.Sevens.{Coded, Filled};
-ghost use Rattle.interleaver.specs.Interleaver.{place};
-ghost use Rattle.interleaver.specs.Columns.{Each, takenBy, First, upOut, numberOut, fromOut, seenOut};
+ghost use Rattle.bits.specs.Inner.{Filled};
+ghost use Rattle.word_columns.specs.Inner.{rowBits, columns, lineBytes, lines, planeBytes, maskBytes, Coded};
+ghost use Rattle.interleaver.specs.Interleaver.{sourceBit};
+ghost use Rattle.interleaver.specs.Inner.{Each, takenBy, First, upOut, numberOut, fromOut, seenOut};
 use crate::columns::put_masks;
-use sevens::masks;
+use crate::short;
+use word_columns::COLUMNS;
+use word_columns::LINE_BYTES;
+use word_columns::LINES;
+use word_columns::MASKS;
+use word_columns::PLANE;
+use word_columns::ROW;
+use word_columns::masks;
 
 // For each column of the word the one that it takes, and the rows by which its bits go up. As in reading, in 16 bits and in order.
 fn taken_columns(off: &[u16], column: &mut [u16], up: &mut [u16])
-    requires { ⌜ Each place (now off) × (length (now column) ≡ 72) × (length (now up) ≡ 72) ⌝ }
-    ensures { λ _. ⌜ Filled takenBy (now (column .exit)) 72 ⌝ }
-    ensures { λ _. ⌜ Filled (λ c. upOut (takenBy c)) (now (up .exit)) 72 ⌝ }
+    requires { ⌜ Each sourceBit (now off) × (length (now column) ≡ columns) × (length (now up) ≡ columns) ⌝ }
+    ensures { λ _. ⌜ Filled takenBy (now (column .exit)) columns ⌝ }
+    ensures { λ _. ⌜ Filled (λ c. upOut (takenBy c)) (now (up .exit)) columns ⌝ }
 {
     let mut c = 0;
-    while c < 72 {
+    while c < COLUMNS {
         let p = off[c];
-        column[c] = p % 72;
-        up[c] = (7 - p / 2160) % 7;
+        column[c] = p % short::COLUMNS;
+        up[c] = (short::ROWS - p / short::ROW) % short::ROWS;
         c += 1;
     }
 }
 
-// The masks of the first bit.
+// The masks of the first row.
 fn first_masks(off: &[u16], mask: &mut [u8])
-    requires { ⌜ Each place (now off) × (length (now mask) ≡ 1008) ⌝ }
+    requires { ⌜ Each sourceBit (now off) × (length (now mask) ≡ maskBytes) ⌝ }
     ensures { λ _. ⌜ First upOut (now (mask .exit)) ⌝ }
 {
-    let mut column = [0u16; 72];
-    let mut up = [0u16; 72];
+    let mut column = [0u16; COLUMNS];
+    let mut up = [0u16; COLUMNS];
     taken_columns(off, &mut column, &mut up);
     put_masks(&column, &up, mask);
 }
 
 // The coded bits, seven as one number, and once more behind themselves a row on.
 pub fn taken(coded: &[u8], off: &[u16], v: &mut [u8])
-    requires { ⌜ Coded (now coded) × Each place (now off) × (length (now v) ≡ 4320) ⌝ }
-    ensures { λ _. ⌜ Filled (numberOut (λ j. getD (now (coded .entry)) j 0)) (now (v .exit)) 4320 ⌝ }
+    requires { ⌜ Coded (now coded) × Each sourceBit (now off) × (length (now v) ≡ 2 * rowBits) ⌝ }
+    ensures { λ _. ⌜ Filled (numberOut (λ j. getD (now (coded .entry)) j 0)) (now (v .exit)) (2 * rowBits) ⌝ }
 {
-    let mut mask = [0u8; 1008];
+    let mut mask = [0u8; MASKS];
     first_masks(off, &mut mask);
     masks::rolled(&mut mask);
-    sevens::mixing::all_rows(coded, &mask, v);
-    sevens::rows::turned(v, 2160);
+    word_columns::mixing::all_lines(coded, &mask, v);
+    word_columns::rows::turned(v, ROW);
 }
 
 // Where the word's columns begin among these numbers.
 fn begins(off: &[u16], start: &mut [u16])
-    requires { ⌜ Each place (now off) × (length (now start) ≡ 72) ⌝ }
-    ensures { λ _. ⌜ Filled (λ c. place c % 2160) (now (start .exit)) 72 ⌝ }
+    requires { ⌜ Each sourceBit (now off) × (length (now start) ≡ columns) ⌝ }
+    ensures { λ _. ⌜ Filled (λ c. sourceBit c % rowBits) (now (start .exit)) columns ⌝ }
 {
     let mut c = 0;
-    while c < 72 {
-        start[c] = off[c] % 2160;
+    while c < COLUMNS {
+        start[c] = off[c] % short::ROW;
         c += 1;
     }
 }
 
 // The same in the order of the planes.
 fn by_plane(start: &[u16], from: &mut [usize])
-    requires { ⌜ Each (λ c. place c % 2160) (now start) × (length (now from) ≡ 72) ⌝ }
-    ensures { λ _. ⌜ Filled fromOut (now (from .exit)) 72 ⌝ }
+    requires { ⌜ Each (λ c. sourceBit c % rowBits) (now start) × (length (now from) ≡ columns) ⌝ }
+    ensures { λ _. ⌜ Filled fromOut (now (from .exit)) columns ⌝ }
 {
     let mut c = 0;
-    while c < 72 {
-        from[9 * (7 - c % 8) + c / 8] = start[c] as usize;
+    while c < COLUMNS {
+        from[LINE_BYTES * (7 - c % 8) + c / 8] = start[c] as usize;
         c += 1;
     }
 }
 
-// Row n of plane m: nine columns.
+// Line n of plane m: nine columns.
 fn nine(v: &[u8], from: &[usize], m: usize, n: usize, seen: &mut [u8])
-    requires { ⌜ (length (now v) ≡ 4320) × Each fromOut (now from) × (m < 8) × (n < 30) ⌝ }
-    requires { ⌜ (length (now seen) ≡ 2160) × Filled (seenOut (now v)) (now seen) (270 * m + 9 * n) ⌝ }
-    ensures { λ _. ⌜ Filled (seenOut (now (v .entry))) (now (seen .exit)) (270 * m + 9 * n + 9) ⌝ }
+    requires { ⌜ (length (now v) ≡ 2 * rowBits) × Each fromOut (now from) × (m < 8) × (n < lines) ⌝ }
+    requires { ⌜ (length (now seen) ≡ rowBits) × Filled (seenOut (now v)) (now seen) (planeBytes * m + lineBytes * n) ⌝ }
+    ensures { λ _. ⌜ Filled (seenOut (now (v .entry))) (now (seen .exit)) (planeBytes * m + lineBytes * n + lineBytes) ⌝ }
 {
     let mut k = 0usize;
-    while k < 9 {
-        seen[270 * m + 9 * n + k] = v[from[9 * m + k] + 72 * n];
+    while k < LINE_BYTES {
+        seen[PLANE * m + LINE_BYTES * n + k] = v[from[LINE_BYTES * m + k] + COLUMNS * n];
         k += 1;
     }
 }
 
 // Plane m.
 fn plane(v: &[u8], from: &[usize], m: usize, seen: &mut [u8])
-    requires { ⌜ (length (now v) ≡ 4320) × Each fromOut (now from) × (m < 8) ⌝ }
-    requires { ⌜ (length (now seen) ≡ 2160) × Filled (seenOut (now v)) (now seen) (270 * m) ⌝ }
-    ensures { λ _. ⌜ Filled (seenOut (now (v .entry))) (now (seen .exit)) (270 * m + 270) ⌝ }
+    requires { ⌜ (length (now v) ≡ 2 * rowBits) × Each fromOut (now from) × (m < 8) ⌝ }
+    requires { ⌜ (length (now seen) ≡ rowBits) × Filled (seenOut (now v)) (now seen) (planeBytes * m) ⌝ }
+    ensures { λ _. ⌜ Filled (seenOut (now (v .entry))) (now (seen .exit)) (planeBytes * m + planeBytes) ⌝ }
 {
     let mut n = 0;
-    while n < 30 {
+    while n < LINES {
         nine(v, from, m, n, seen);
         n += 1;
     }
@@ -98,8 +109,8 @@ fn plane(v: &[u8], from: &[usize], m: usize, seen: &mut [u8])
 
 // All planes, in which the word's columns lie side by side.
 fn planes(v: &[u8], from: &[usize], seen: &mut [u8])
-    requires { ⌜ (length (now v) ≡ 4320) × Each fromOut (now from) × (length (now seen) ≡ 2160) ⌝ }
-    ensures { λ _. ⌜ Filled (seenOut (now (v .entry))) (now (seen .exit)) 2160 ⌝ }
+    requires { ⌜ (length (now v) ≡ 2 * rowBits) × Each fromOut (now from) × (length (now seen) ≡ rowBits) ⌝ }
+    ensures { λ _. ⌜ Filled (seenOut (now (v .entry))) (now (seen .exit)) rowBits ⌝ }
 {
     let mut m = 0;
     while m < 8 {
@@ -110,11 +121,11 @@ fn planes(v: &[u8], from: &[usize], seen: &mut [u8])
 
 // Each column of the word takes the numbers from its place on.
 pub fn columns(v: &[u8], off: &[u16], seen: &mut [u8])
-    requires { ⌜ (length (now v) ≡ 4320) × Each place (now off) × (length (now seen) ≡ 2160) ⌝ }
-    ensures { λ _. ⌜ Filled (seenOut (now (v .entry))) (now (seen .exit)) 2160 ⌝ }
+    requires { ⌜ (length (now v) ≡ 2 * rowBits) × Each sourceBit (now off) × (length (now seen) ≡ rowBits) ⌝ }
+    ensures { λ _. ⌜ Filled (seenOut (now (v .entry))) (now (seen .exit)) rowBits ⌝ }
 {
-    let mut start = [0u16; 72];
-    let mut from = [0usize; 72];
+    let mut start = [0u16; COLUMNS];
+    let mut from = [0usize; COLUMNS];
     begins(off, &mut start);
     by_plane(&start, &mut from);
     planes(v, &from, seen);

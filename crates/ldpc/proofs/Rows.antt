@@ -9,12 +9,15 @@ use native.Mathlib.Numerals.{add-one}
 use lib.Bits.{bitXor, bitAnd, and-mask}
 use lib.Dec.{T, eqb, eqb→eq}
 use lib.ListN.{getD}
-use Rattle.bits.specs.Choice.{bit-cases}
-use Rattle.bits.specs.Table.{allBelow, below-all}
-use Rattle.bits.specs.Pack.{Bits, val, bitOf, bit-of-lt, val-lt}
-use Rattle.bits.specs.Parts.{val-none, val-plus, val-times}
-use Rattle.bits.specs.XorSum.{xorSum, xor-sum-bits}
-use Rattle.ldpc.specs.Code.{rowBit, parityBit, row-bits, counted-bits}
+use Rattle.bits.proofs.Laws.Choice.{bit-cases}
+use Rattle.bits.proofs.Laws.Table.{allBelow, below-all}
+use Rattle.bits.specs.Pack.{Bits, val, bitOf}
+use Rattle.bits.proofs.Laws.Pack.{bit-of-lt, val-lt}
+use Rattle.bits.proofs.Laws.Parts.{val-none, val-plus, val-times}
+use Rattle.bits.specs.Count.{xorSum}
+use Rattle.bits.proofs.Laws.XorSum.{xor-sum-bits}
+use Rattle.ldpc.specs.Code.{rowBit, parityBit}
+use Rattle.ldpc.proofs.Laws.Code.{row-bits, counted-bits}
 
 -- entry i is row i of the generator, the first bit highest
 pub record Rows (table : List ℕ) : Type 0 where

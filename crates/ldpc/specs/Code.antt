@@ -1,19 +1,15 @@
 -- The (128, 64) LDPC code of CCSDS 231.0-B: a codeword is 64 information bits, then 64 parity bits.
 --
--- The code is given twice: by the rows of its generator, which make the parity bits, and by its checks. `Exactly` shows that these are one code.
+-- The code is given twice: by the rows of its generator, which make the parity bits, and by its checks. proofs/Laws/Exactly shows that these are one
+-- code.
 use mathlib.Core.Bool.{Bool}
 use mathlib.Core.List.{List, [], _∷_, _++_, map}
-use mathlib.Core.Logic.{⊎-elim}
-use mathlib.Core.Path.{_≡_, refl, sym, ap, _∙_}
-use Prim.Native.Nat.{ℕ, _+_, _-_, _*_, _/_, _%_, _≤_, _<_}
-use native.Mathlib.Omega.{arith}
+use Prim.Native.Nat.{ℕ, _+_, _-_, _*_, _/_, _%_}
 use lib.Dec.{ltb, eqb}
 use lib.ListN.{getD}
-use borrow.Author.Tests.{lt-ltb, le-ltb}
-use Rattle.bits.specs.Choice.{pick, lt-or-le, bit-cases}
-use Rattle.bits.specs.Pack.{Bits, bitOf}
-use Rattle.bits.specs.First.{upTo}
-use Rattle.bits.specs.XorSum.{xorSum, xor-sum-bits, xor-sum-same}
+use Rattle.bits.specs.Basics.{pick, upTo}
+use Rattle.bits.specs.Pack.{bitOf}
+use Rattle.bits.specs.Count.{xorSum}
 
 -- ---- the generator
 
@@ -53,7 +49,7 @@ columns b (shifts ∷ rest) = map (λ (s : ℕ). 16 * b + s) shifts ++ columns (
 unfoldable pub firstPlace : ℕ → ℕ → ℕ
 firstPlace a n = getD (columns 0 (getD matrix a [])) n 0
 
--- place n of check c: each further check of a row of blocks lies one column on in every block
+-- place n of check c: each further check of a row of blocks is one column further on in every block
 unfoldable pub checkPlace : ℕ → ℕ → ℕ
 checkPlace c n = firstPlace (c / 16) n / 16 * 16 + (firstPlace (c / 16) n + c) % 16
 
@@ -64,45 +60,3 @@ checkSum x c = xorSum (λ n. x (checkPlace c n)) 8
 -- x passes each of the 64 checks
 unfoldable pub isCodeword : (ℕ → ℕ) → Bool
 isCodeword x = eqb (upTo (λ c. eqb (checkSum x c) 0) 0 64) 64
-
--- ---- laws
-
--- the information bits stand first
-pub codeword-first : (u : ℕ → ℕ) (j : ℕ) → j < 64 → codeword u j ≡ u j
-unfolding codeword
-codeword-first u j l = rw (lt-ltb j 64 l) refl
-
-pub codeword-behind : (u : ℕ → ℕ) (j : ℕ) → 64 ≤ j → codeword u j ≡ parityBit u (j - 64)
-unfolding codeword
-codeword-behind u j l = rw (le-ltb j 64 l) refl
-
-pub row-bits : (i : ℕ) → Bits (rowBit i)
-unfolding rowBit
-row-bits i t = omega arith
-
-times-bit : (a b : ℕ) → a < 2 → b < 2 → a * b < 2
-times-bit a b ha hb = ⊎-elim (λ (e : a ≡ 0). rw e (omega arith)) (λ (e : a ≡ 1). rw e (omega arith)) (bit-cases a ha)
-
--- a bit of a row that counts or not
-pub counted-bits : (u : ℕ → ℕ) → Bits u → (t : ℕ) → Bits (λ i. u i * rowBit i t)
-counted-bits u b t i = times-bit (u i) (rowBit i t) (b i) (row-bits i t)
-
-pub parity-bits : (u : ℕ → ℕ) → Bits u → Bits (parityBit u)
-unfolding parityBit
-parity-bits u b t = xor-sum-bits (λ i. u i * rowBit i t) (counted-bits u b t) 64
-
-pub codeword-bits : (u : ℕ → ℕ) → Bits u → Bits (codeword u)
-codeword-bits u b j =
-    ⊎-elim (λ (l : j < 64). rw (codeword-first u j l) (b j)) (λ (l : 64 ≤ j). rw (codeword-behind u j l) (parity-bits u b (j - 64))) (lt-or-le j 64)
-
--- a codeword depends on its information bits alone
-pub parity-same : (u v : ℕ → ℕ) → ((i : ℕ) → i < 64 → u i ≡ v i) → (t : ℕ) → parityBit u t ≡ parityBit v t
-unfolding parityBit
-parity-same u v h t = xor-sum-same (λ i. u i * rowBit i t) (λ i. v i * rowBit i t) 64 (λ i l. ap (λ (b : ℕ). b * rowBit i t) (h i l))
-
-pub codeword-same : (u v : ℕ → ℕ) → ((i : ℕ) → i < 64 → u i ≡ v i) → (j : ℕ) → codeword u j ≡ codeword v j
-codeword-same u v h j =
-    ⊎-elim
-    (λ (l : j < 64). codeword-first u j l ∙ h j l ∙ sym (codeword-first v j l))
-    (λ (l : 64 ≤ j). codeword-behind u j l ∙ parity-same u v h (j - 64) ∙ sym (codeword-behind v j l))
-    (lt-or-le j 64)

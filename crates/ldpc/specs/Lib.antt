@@ -1,5 +1,1 @@
 pub mod Code
-pub mod Passing
-pub mod Zero
-pub mod Exactly
-pub mod Example

@@ -1,3 +1,2 @@
-pub mod Marks
-pub mod Accepted
-pub mod Edges
+pub mod Parameters
+pub mod Inner

@@ -1,5 +1,2 @@
 pub mod Pass
-pub mod Row
-pub mod Needs
-pub mod Answers
-pub mod Return
+pub mod Inner

@@ -5,15 +5,12 @@ use mathlib.Core.List.{List, [], _++_}
 use Prim.Native.Nat.{ℕ, zero, suc, _*_, _/_}
 use lib.Dec.{ltb, leb, eqb}
 use lib.ListN.{length}
-use Rattle.bits.specs.Table.{both}
-use Rattle.bits.specs.Pieces.{piece}
+use Rattle.bits.specs.Basics.{both}
+use Rattle.bits.specs.Pack.{piece}
 use Rattle.answers.specs.declared.Answer.{Answer}
-use Rattle.answers.specs.Answer.{ask, then}
-use Rattle.answers.specs.InOrder.{inOrder}
-use Rattle.sizes.specs.Rate.{blockBytes}
-use Rattle.sizes.specs.Sizes.{wordBytes}
-use Rattle.word.specs.Word.{wordOf, blockIn}
-use Rattle.word.specs.Word.{writeSays as wordWrites, readSays as wordReads}
+use Rattle.answers.specs.Answer.{after, ask, then, inOrder}
+use Rattle.sizes.specs.Sizes.{blockBytes, wordBytes}
+use Rattle.word.specs.Word.{wordOf, blockIn, writeSays as wordWrites, readSays as wordReads}
 
 -- the most blocks of a pass, at every rate
 abbrev pub passMost : ℕ
@@ -24,7 +21,7 @@ unfoldable pub inRow : ℕ → (ℕ → List ℕ) → List ℕ
 inRow zero F = []
 inRow (suc n) F = inRow n F ++ F n
 
--- the lent length gives the count: of the blocks to write, of the words to read
+-- the length gives the count: of the blocks in writing, of the words in reading
 abbrev pub blocksIn : ℕ → List ℕ → ℕ
 blocksIn rate blocks = length blocks / blockBytes rate
 
@@ -42,11 +39,11 @@ blocksOf rate words = inRow (wordsIn words) (λ j. blockIn rate (piece wordBytes
 -- ---- the questions
 
 -- 8: 1 to 211, whole blocks, and as many whole words
-unfoldable pub lengthsRight : ℕ → ℕ → ℕ → ℕ → Bool
-lengthsRight n size blocksLength wordsLength =
+unfoldable pub passLengthsRight : ℕ → ℕ → ℕ → ℕ → Bool
+passLengthsRight n size blocksLength wordsLength =
     both (leb 1 n) (both (leb n passMost) (both (eqb blocksLength (n * size)) (eqb wordsLength (n * wordBytes))))
 
--- what the word writer says of block j, and the word reader of word j
+-- what the word writer answers to block j, and the word reader to word j
 abbrev pub blockSays : ℕ → List ℕ → ℕ → Answer
 blockSays rate blocks j = wordWrites rate (piece (blockBytes rate) blocks j) wordBytes
 
@@ -57,11 +54,18 @@ wordSays rate words j = wordReads rate (piece wordBytes words j) (blockBytes rat
 unfoldable pub writeSays : ℕ → List ℕ → ℕ → Answer
 writeSays rate blocks wordsLength =
     then (ask (ltb rate 3) 2 0)
-    (then (ask (lengthsRight (blocksIn rate blocks) (blockBytes rate) (length blocks) wordsLength) 8 0)
+    (then (ask (passLengthsRight (blocksIn rate blocks) (blockBytes rate) (length blocks) wordsLength) 8 0)
     (inOrder (blocksIn rate blocks) (blockSays rate blocks)))
 
 unfoldable pub readSays : ℕ → List ℕ → ℕ → Answer
 readSays rate words blocksLength =
     then (ask (ltb rate 3) 2 0)
-    (then (ask (lengthsRight (wordsIn words) (blockBytes rate) blocksLength (length words)) 8 0)
+    (then (ask (passLengthsRight (wordsIn words) (blockBytes rate) blocksLength (length words)) 8 0)
     (inOrder (wordsIn words) (wordSays rate words)))
+
+-- what the slice lent for the result holds afterwards: the result on acceptance, otherwise what it held
+abbrev pub wordsAfter : ℕ → List ℕ → List ℕ → List ℕ
+wordsAfter rate blocks old = after (writeSays rate blocks (length old)) (wordsOf rate blocks) old
+
+abbrev pub blocksAfter : ℕ → List ℕ → List ℕ → List ℕ
+blocksAfter rate words old = after (readSays rate words (length old)) (blocksOf rate words) old

@@ -1,3 +1,3 @@
 pub mod Plan
 pub mod Lengths
-pub mod Accepted
+pub mod Inner

@@ -6,9 +6,10 @@ use Prim.Native.Nat.{ℕ, _+_, _≤_, _<_, max}
 use native.Mathlib.Omega.{arith}
 use lib.Dec.{ltb, eqb}
 use borrow.Author.Tests.{lt-ltb, le-ltb, eq-eqb, ne-eqb}
-use Rattle.bits.specs.Choice.{pick, lt-or-le, eq-or-ne}
-use Rattle.bits.specs.First.{found}
-use Rattle.pool.specs.Laws.{Above, peak-at, peak-got}
+use Rattle.bits.specs.Basics.{pick}
+use Rattle.bits.proofs.Laws.Choice.{lt-or-le, eq-or-ne}
+use Rattle.bits.proofs.Laws.First.{found}
+use Rattle.pool.proofs.Laws.Pooled.{Above, peak-at, peak-got}
 use Rattle.pool.specs.Pooled.{beats, peak}
 
 -- of the values before r, `top` is the largest: q alone has it, or, where q is n, no single one has

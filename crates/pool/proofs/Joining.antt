@@ -11,16 +11,20 @@ use lib.Arith.{digits-lt}
 use lib.Bits.{bitOr, or-block, or-zero-r}
 use lib.Dec.{ltb, eqb}
 use borrow.Author.Tests.{lt-ltb, ltb-false, eq-eqb, ne-eqb}
-use Rattle.bits.specs.Choice.{bool, bool-lt, bool-no, lt-or-le, eq-or-ne, bit-cases}
-use Rattle.bits.specs.Leading.{Leads, first-one, no-one}
-use Rattle.bits.specs.Pack.{val, bitAt, cut, Bits, bit-lt, val-same, cut-in, cut-past, cut-bits, cut-same}
-use Rattle.bits.specs.Parts.{val-none, val-shift}
-use Rattle.bits.specs.Weight.{weight, weight-same}
-use Rattle.bits.specs.Window.{lesser, lesser-min, bitsFrom}
-use Rattle.pulses.specs.Lone.{lone-bits, kept}
-use Rattle.pulses.specs.Swept.{Swept}
-use Rattle.pool.specs.Joined.{some, lit}
-use Rattle.pool.specs.Laws.{weight-const}
+use Rattle.bits.specs.Basics.{bool}
+use Rattle.bits.proofs.Laws.Choice.{bool-lt, bool-no, lt-or-le, eq-or-ne, bit-cases}
+use Rattle.bits.specs.Inner.{Leads, lesser, bitsFrom}
+use Rattle.bits.proofs.Laws.Leading.{first-one, no-one}
+use Rattle.bits.specs.Pack.{val, bitAt, cut, Bits}
+use Rattle.bits.proofs.Laws.Pack.{bit-lt, val-same, cut-in, cut-past, cut-bits, cut-same}
+use Rattle.bits.proofs.Laws.Parts.{val-none, val-shift}
+use Rattle.bits.specs.Count.{weight}
+use Rattle.bits.proofs.Laws.Weight.{weight-same}
+use Rattle.bits.proofs.Laws.Window.{lesser-min}
+use Rattle.pulses.proofs.Laws.Lone.{lone-bits, kept}
+use Rattle.pulses.proofs.Laws.Swept.{Swept}
+use Rattle.pool.specs.Inner.{some, lit}
+use Rattle.pool.proofs.Laws.Pooled.{weight-const}
 use Rattle.pool.specs.Pooled.{count}
 
 -- ---- where a slot is

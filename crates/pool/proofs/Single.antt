@@ -5,9 +5,10 @@ use Prim.Native.Nat.{ℕ, _≤_, _<_}
 use native.Mathlib.Omega.{arith}
 use lib.Dec.{ltb, eqb}
 use borrow.Author.Tests.{ltb-true, ltb-false, eq-eqb, ne-eqb}
-use Rattle.bits.specs.Choice.{bool, bool-true, bool-no}
+use Rattle.bits.specs.Basics.{bool}
+use Rattle.bits.proofs.Laws.Choice.{bool-true, bool-no}
 use Rattle.pool.specs.Pooled.{count, pooled}
-use Rattle.pool.specs.Laws.{pooled-at}
+use Rattle.pool.proofs.Laws.Pooled.{pooled-at}
 
 -- no slot but q has a pulse, and that has one
 pub pooled-alone : (b : List ℕ) (copies group order s q : ℕ) → order ≤ group → q < order

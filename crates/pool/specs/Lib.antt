@@ -1,5 +1,2 @@
 pub mod Pooled
-pub mod Example
-pub mod Laws
-pub mod Joined
-pub mod Needs
+pub mod Inner

@@ -5,10 +5,9 @@ use mathlib.Core.Bool.{Bool, true, not}
 use mathlib.Core.List.{List}
 use Prim.Native.Nat.{ℕ, _+_, _*_}
 use lib.Dec.{ltb, eqb}
-use Rattle.bits.specs.Choice.{pick}
-use Rattle.bits.specs.First.{upTo}
+use Rattle.bits.specs.Basics.{pick, upTo}
 use Rattle.bits.specs.Pack.{bitAt}
-use Rattle.bits.specs.Weight.{weight}
+use Rattle.bits.specs.Count.{weight}
 
 -- the pulses in slot r of the copies of symbol s
 unfoldable pub count : List ℕ → ℕ → ℕ → ℕ → ℕ → ℕ

@@ -2,9 +2,8 @@
 ghost use mathlib.Core.Path.{_≡_};
 ghost use Prim.Native.Nat.{ℕ, _*_, _/_, _<_};
 ghost use lib.Dec.{eqb};
-ghost use Rattle.bits.specs.Choice.{bool};
-ghost use Rattle.pool.specs.Joined.{lit};
-ghost use Rattle.pool.specs.Needs.{Held, Open};
+ghost use Rattle.bits.specs.Basics.{bool};
+ghost use Rattle.pool.specs.Inner.{lit, Held, Open};
 
 // In a group that fills whole bytes; or the group's size. No branch depends on where the slot is.
 fn among_numbers(b: &[u8], copies: usize, group: usize, s: usize) -> usize

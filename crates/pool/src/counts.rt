@@ -2,8 +2,8 @@
 ghost use mathlib.Core.Path.{_≡_};
 ghost use Prim.Native.Nat.{ℕ, _≤_, _<_};
 ghost use lib.Dec.{ltb, eqb};
-ghost use Rattle.bits.specs.Choice.{pick};
-ghost use Rattle.pool.specs.Needs.{Held, Open};
+ghost use Rattle.bits.specs.Basics.{pick};
+ghost use Rattle.pool.specs.Inner.{Held, Open};
 ghost use Rattle.pool.specs.Pooled.{count, peak};
 
 // The first slot from `from` on that has a pulse in a copy, or the group's end.

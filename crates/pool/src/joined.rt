@@ -4,11 +4,10 @@ ghost use mathlib.Core.Bool.{true};
 ghost use Prim.Native.Nat.{_+_, _-_, _*_, _/_, _%_, _^_, _≤_, _<_};
 ghost use lib.ListN.{length};
 ghost use Rattle.bits.specs.Pack.{val, cut};
-ghost use Rattle.bits.specs.Window.{lesser, bitsFrom};
-ghost use Rattle.pool.specs.Joined.{some, lit};
-ghost use Rattle.pool.specs.Needs.{Held, Open};
+ghost use Rattle.bits.specs.Inner.{lesser, bitsFrom};
+ghost use Rattle.pool.specs.Inner.{some, lit, Held, Open};
 
-// Eight bytes stand behind the copies of symbol s.
+// At least eight bytes follow the copies of symbol s.
 pub fn open(b: &[u8], copies: usize, group: usize, s: usize) -> bool
     requires { ⌜ Held group copies (now b) s ⌝ }
     ensures { λ r. ⌜ (r ≡ true → Open group copies (now (b .entry)) s) ⌝ }
@@ -56,7 +55,7 @@ fn front(b: &[u8], at: usize, width: usize) -> u64
     (bits::packing::eight(b, at) >> rest) << rest
 }
 
-// Those of the eight bytes from `at` on, and of the others so many bytes behind one another.
+// Those of the eight bytes from `at` on, and of the others, each so many bytes after the one before.
 fn fronts(b: &[u8], copies: usize, bytes: usize, at: usize, width: usize) -> u64
     requires { ⌜ (copies ≤ 32) × (bytes ≤ 40) × (at + copies * bytes + 8 ≤ length (now b) + bytes) × (1 ≤ width) × (width ≤ 64) ⌝ }
     ensures { λ r. ⌜ r ≡ val (λ t. some (λ c. cut width (bitsFrom (now (b .entry)) (8 * (at + c * bytes))) t) copies) 64 ⌝ }
@@ -70,7 +69,7 @@ fn fronts(b: &[u8], copies: usize, bytes: usize, at: usize, width: usize) -> u64
     any
 }
 
-// The k-th number of a group that fills whole bytes, with zeros behind the group.
+// The k-th number of a group that fills whole bytes, with zeros after the group.
 pub fn number(b: &[u8], copies: usize, group: usize, s: usize, k: usize) -> u64
     requires { ⌜ Open group copies (now b) s × (group ≡ 8 * (group / 8)) × (64 * k < group) ⌝ }
     ensures { λ r. ⌜ r ≡ val (cut (lesser 64 (group - 64 * k)) (λ t. lit (now (b .entry)) copies group s (64 * k + t))) 64 ⌝ }

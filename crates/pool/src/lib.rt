@@ -5,8 +5,8 @@ mod joined;
 
 ghost use mathlib.Core.Path.{_≡_};
 ghost use Prim.Native.Nat.{_+_, _≤_};
-ghost use Rattle.bits.specs.First.{upTo};
-ghost use Rattle.pool.specs.Needs.{Sent};
+ghost use Rattle.bits.specs.Basics.{upTo};
+ghost use Rattle.pool.specs.Inner.{Sent};
 ghost use Rattle.pool.specs.Pooled.{pooled, decided};
 
 // Symbol s, or M where the copies do not decide on one.

@@ -4,35 +4,37 @@
 -- that `runsheet` puts, an eight-byte header being held to the old question 1. `runsheet` reads ten bytes, also checks the factor, and adds it at the end
 -- of its line; its symbols and slots count copies. [..] Turned away: 21 on the way back when the factor is not 1, put last."
 --
--- `headerSays` is what `runsheet` puts (questions/specs/Questions.antt), `oldSays` the same of an archived header; the line that is printed is
+-- `headerSays` is what `runsheet` puts (header_questions/specs/Questions.antt), `oldSays` the same of an archived header; the line that is printed is
 -- `lineOf` (sheet/specs/Line.antt), with the example's beside it. The contracts of `header_widen` and `header_narrow` are equations with `widenSays` and
 -- `tenAfter`, `narrowSays` and `eightAfter`. Bit j of a header is `bitAt header j`, and `val f n` the number whose n bits are f 0, f 1, ..
-use mathlib.Core.Path.{_≡_, refl, ap, _∙_}
-use mathlib.Core.Bool.{true, false}
+use mathlib.Core.Path.{_≡_}
+use mathlib.Core.Bool.{Bool, true, false, _||_}
 use mathlib.Core.List.{List, [], _∷_}
-use Prim.Native.Nat.{ℕ, _+_}
-use lib.Dec.{eqb}
-use lib.ListN.{length}
-use borrow.Author.Tests.{ne-eqb}
-use Rattle.bits.specs.Pack.{val, bitAt, Bytes, bytesOf, cut}
-use Rattle.bits.specs.Table.{tab, both}
-use Rattle.answers.specs.Answer.{ask, then, after}
+use mathlib.Core.Logic.{_⊎_}
+use Prim.Native.Nat.{ℕ, _+_, _-_, _*_, _/_, _%_, _≤_, _<_}
+use lib.Dec.{ltb, leb, eqb}
+use lib.ListN.{length, getD}
+use Rattle.bits.specs.Pack.{val, bitAt, Bytes}
+use Rattle.bits.specs.Basics.{both}
+use Rattle.answers.specs.Answer.{ask, then}
 use Rattle.answers.specs.declared.Answer.{Answer}
 use Rattle.answers.specs.declared.Answer.the-variants.{Done, No}
-use Rattle.header.specs.Header.{field, fieldsOf, spareOf, oldSpareOf, withCopies}
-use Rattle.questions.specs.Questions.{question1, oldQuestion1, question2, question3, question4, question5, question6, question7, copiesGood, formSays, headerSays, oldSays}
-use Rattle.questions.specs.InOrder.{asks-on}
-use Rattle.convert.specs.Convert.{widened, narrowed, widenSays, narrowSays}
-use Rattle.convert.specs.Theorems as trips
-use Rattle.parameters.specs.Marks.{marksGood, runSays}
-use Rattle.search.specs.Search.{findSays}
-use Rattle.cut.specs.Cut.{cutSays}
+use Rattle.header.specs.Header.{fieldsOf, withCopies}
+use Rattle.header.specs.declared.Fields.{Fields}
+use Rattle.header_questions.specs.Questions.{question1, question2, question3, question4, question5, question6, question7, copiesGood, formSays, headerSays, oldSays, marksGood}
+use Rattle.header_convert.specs.Convert.{widened, narrowed, widenSays, narrowSays, tenAfter, eightAfter}
+use Rattle.capture_search.specs.Search.{findSays, findFromSays}
+use Rattle.capture_cut.specs.Cut.{cutSays}
 use Rattle.delay.specs.Delay.{stepSays}
-use Rattle.calls.specs.After.{tenAfter, eightAfter}
+use Rattle.fades.specs.Fades.{fadesSay}
+use Rattle.rack.specs.Rack as racks
+use Rattle.run.specs.Run as runs
 
 -- ---- "The old 48 bits, then the factor in 6 bits, then 26 zero bits, ten bytes in all, and question 1 reads accordingly"
 
-pub header-fields : (header : List ℕ)
+abbrev pub HeaderFields : Type 0
+HeaderFields =
+    (header : List ℕ)
     → fieldsOf header
     ≡ record {
       rate = val (λ t. bitAt header (0 + t)) 2;
@@ -44,30 +46,159 @@ pub header-fields : (header : List ℕ)
       frames = val (λ t. bitAt header (41 + t)) 7;
       copies = val (λ t. bitAt header (48 + t)) 6;
     }
-unfolding fieldsOf field
-header-fields header = refl
 
-pub ten-bytes : (header : List ℕ) → question1 header ≡ both (eqb (length header) 10) (eqb (val (λ t. bitAt header (54 + t)) 26) 0)
-unfolding question1 spareOf field
-ten-bytes header = refl
+abbrev pub TenBytes : Type 0
+TenBytes = (header : List ℕ) → question1 header ≡ both (eqb (length header) 10) (eqb (val (λ t. bitAt header (54 + t)) 26) 0)
+
+-- ---- the same in plain arithmetic of the bytes: "rate, 2 bits (0 for 1/3, 1 for 1/2, 2 for 2/3); m, 4 bits; rows N, 8 bits; step B, 9 bits; frame bytes F,
+-- 12 bits; marker symbols W, 6 bits; frame count A, 7 bits", the factor in 6 bits, "most significant bit first"
+
+-- byte i of a header, 0 behind its end
+abbrev pub byte : List ℕ → ℕ → ℕ
+byte header i = getD header i 0
+
+abbrev pub fieldsIn : List ℕ → Fields
+fieldsIn h = record {
+  rate = byte h 0 / 64;
+  bits = byte h 0 / 4 % 16;
+  rows = byte h 0 % 4 * 64 + byte h 1 / 4;
+  step = byte h 1 % 4 * 128 + byte h 2 / 2;
+  size = byte h 2 % 2 * 2048 + byte h 3 * 8 + byte h 4 / 32;
+  markers = byte h 4 % 32 * 2 + byte h 5 / 128;
+  frames = byte h 5 % 128;
+  copies = byte h 6 / 4;
+}
+
+abbrev pub HeaderBytes : Type 0
+HeaderBytes = (header : List ℕ) → ((i : ℕ) → byte header i < 256) → fieldsOf header ≡ fieldsIn header
+
+-- and `withCopies` changes the factor alone
+abbrev pub OtherCopies : Type 0
+OtherCopies =
+    (copies : ℕ) (f : Fields)
+    → withCopies copies f
+    ≡ record { rate = f .rate; bits = f .bits; rows = f .rows; step = f .step; size = f .size; markers = f .markers; frames = f .frames; copies = copies }
+
+-- ---- the questions put to a header, in figures: which number each failure gets, and in which order
+
+-- "the last 26 bits zero", and of an archived header the last 16
+abbrev pub tenEnd : List ℕ → Bool
+tenEnd h = both (eqb (byte h 6 % 4) 0) (both (eqb (byte h 7) 0) (both (eqb (byte h 8) 0) (eqb (byte h 9) 0)))
+
+abbrev pub eightEnd : List ℕ → Bool
+eightEnd h = both (eqb (byte h 6) 0) (eqb (byte h 7) 0)
+
+-- 2 to 7, W's range being all of 7 that is put to a header, and what comes behind them
+abbrev pub rangesAsked : Fields → Answer → Answer
+rangesAsked f rest =
+    then (ask (ltb (f .rate) 3) 2 0)
+    (then (ask (both (leb 2 (f .bits)) (leb (f .bits) 8)) 3 0)
+    (then (ask (both (both (leb 1 (f .rows)) (leb (f .rows) 128)) (both (leb 1 (f .step)) (leb (f .step) 256))) 4 0)
+    (then (ask (eqb (f .rows * (f .rows - 1) * f .step % (15120 / f .bits)) 0) 5 0)
+    (then (ask (both (both (leb 1 (f .size)) (leb (f .size) 2048)) (both (leb 1 (f .frames)) (leb (f .frames) 64))) 6 0)
+    (then (ask (both (leb 1 (f .markers)) (leb (f .markers) 32)) 7 0)
+    rest)))))
+
+abbrev pub oneOfSeven : ℕ → Bool
+oneOfSeven k = eqb k 1 || eqb k 2 || eqb k 3 || eqb k 4 || eqb k 8 || eqb k 16 || eqb k 32
+
+-- 1 to 7 (`formSays`), and with 20 behind them all that are put to a header alone
+abbrev pub FormAnswers : Type 0
+FormAnswers =
+    (header : List ℕ) → ((i : ℕ) → byte header i < 256)
+    → formSays header ≡ then (ask (both (eqb (length header) 10) (tenEnd header)) 1 0) (rangesAsked (fieldsIn header) Done)
+
+abbrev pub HeaderAnswers : Type 0
+HeaderAnswers =
+    (header : List ℕ) → ((i : ℕ) → byte header i < 256)
+    → headerSays header
+    ≡ then (ask (both (eqb (length header) 10) (tenEnd header)) 1 0) (rangesAsked (fieldsIn header) (ask (oneOfSeven (fieldsIn header .copies)) 20 0))
+
+-- of an archived header
+abbrev pub OldAnswers : Type 0
+OldAnswers =
+    (old : List ℕ) → ((i : ℕ) → byte old i < 256)
+    → oldSays old ≡ then (ask (both (eqb (length old) 8) (eightEnd old)) 1 0) (rangesAsked (fieldsIn old) Done)
+
+-- ---- so what passes is this, and all of this passes
+
+pub record Ranges (f : Fields) : Type 0 where
+  pub rate : f .rate < 3
+  pub m-least : 2 ≤ f .bits
+  pub m-most : f .bits ≤ 8
+  pub n-least : 1 ≤ f .rows
+  pub n-most : f .rows ≤ 128
+  pub b-least : 1 ≤ f .step
+  pub b-most : f .step ≤ 256
+  pub whole : f .rows * (f .rows - 1) * f .step % (15120 / f .bits) ≡ 0
+  pub f-least : 1 ≤ f .size
+  pub f-most : f .size ≤ 2048
+  pub a-least : 1 ≤ f .frames
+  pub a-most : f .frames ≤ 64
+  pub w-least : 1 ≤ f .markers
+  pub w-most : f .markers ≤ 32
+
+pub record TenPass (header : List ℕ) : Type 0 where
+  pub long : length header ≡ 10
+  pub zeros : (byte header 6 % 4 ≡ 0) × (byte header 7 ≡ 0) × (byte header 8 ≡ 0) × (byte header 9 ≡ 0)
+  pub ranges : Ranges (fieldsIn header)
+  pub factor : (byte header 6 / 4 ≡ 1) ⊎ (byte header 6 / 4 ≡ 2) ⊎ (byte header 6 / 4 ≡ 3) ⊎ (byte header 6 / 4 ≡ 4) ⊎ (byte header 6 / 4 ≡ 8)
+      ⊎ (byte header 6 / 4 ≡ 16) ⊎ (byte header 6 / 4 ≡ 32)
+
+pub record EightPass (old : List ℕ) : Type 0 where
+  pub long : length old ≡ 8
+  pub zeros : (byte old 6 ≡ 0) × (byte old 7 ≡ 0)
+  pub ranges : Ranges (fieldsIn old)
+
+abbrev pub HeaderAccepted : Type 0
+HeaderAccepted =
+    (header : List ℕ) → ((i : ℕ) → byte header i < 256)
+    → (headerSays header ≡ Done → TenPass header) × (TenPass header → headerSays header ≡ Done)
+
+abbrev pub OldAccepted : Type 0
+OldAccepted =
+    (old : List ℕ) → ((i : ℕ) → byte old i < 256)
+    → (oldSays old ≡ Done → EightPass old) × (EightPass old → oldSays old ≡ Done)
+
+-- ---- a header that is refused is refused by every call that is lent it, with that number: by the calls that are lent marker symbols too, where these are good.
+-- The rack puts its own questions first (Card10), which an owner's load of a place that there is passes
+
+abbrev pub HeaderRefused : Type 0
+HeaderRefused =
+    (header marker frames slots capture fades area : List ℕ) (captureLength s n q c p number place : ℕ) → headerSays header ≡ No number place
+    → (cutSays header captureLength s n ≡ No number place)
+    × (fadesSay header fades n ≡ No number place)
+    × (stepSays header q n ≡ No number place)
+    × (narrowSays header n ≡ No number place)
+    × (c < 4 → p < 4 → racks.says area (racks.callOf c c p (racks.Load header)) ≡ No number place)
+    × (marksGood (fieldsOf header) marker ≡ true
+    → (runs.writeSays header marker frames n ≡ No number place)
+    × (runs.readSays header marker slots n ≡ No number place)
+    × (findSays header marker capture ≡ No number place)
+    × (findFromSays header marker capture s ≡ No number place))
+
+abbrev pub OldRefused : Type 0
+OldRefused = (old : List ℕ) (n number place : ℕ) → oldSays old ≡ No number place → widenSays old n ≡ No number place
 
 -- ---- "Question 20 is put to every call that is lent a header, Card 1's search too": of the search, the cut, the steps of the delay lines and the way
 -- back, where what comes before it passes. The run calls have it in Demand1 and Card5; any other call that is lent ten bytes of header puts all of
 -- `headerSays`, which ends with it, in its card's `..-asks`
 
-pub factor-refused : (header marker capture : List ℕ) (captureLength s n q : ℕ) → formSays header ≡ Done → copiesGood (fieldsOf header .copies) ≡ false
-    → (marksGood (fieldsOf header) marker ≡ true → findSays header marker capture ≡ No 20 0)
+abbrev pub FactorRefused : Type 0
+FactorRefused =
+    (header marker capture : List ℕ) (captureLength s n q : ℕ) → formSays header ≡ Done → copiesGood (fieldsOf header .copies) ≡ false
+    → (marksGood (fieldsOf header) marker ≡ true
+    → (findSays header marker capture ≡ No 20 0) × (findFromSays header marker capture s ≡ No 20 0))
     × (cutSays header captureLength s n ≡ No 20 0)
     × (stepSays header q n ≡ No 20 0)
     × (narrowSays header n ≡ No 20 0)
-unfolding findSays runSays cutSays stepSays narrowSays headerSays
-factor-refused header marker capture captureLength s n q e bad =
-    (λ marks. rw (e, marks, bad) refl, rw (e, bad) refl, rw (e, bad) refl, rw (e, bad) refl)
 
 -- ---- "Both trips first put the header questions that `runsheet` puts, an eight-byte header being held to the old question 1": those are `headerSays`, one
--- by one `header-asks` (questions/specs/InOrder.antt)
+-- by one `header-asks` (header_questions/proofs/Laws/InOrder.antt)
 
-pub widen-asks : (old : List ℕ) (n : ℕ)
+abbrev pub WidenAsks : Type 0
+WidenAsks =
+    (old : List ℕ) (n : ℕ)
     → widenSays old n
     ≡ then (ask (both (eqb (length old) 8) (eqb (val (λ t. bitAt old (48 + t)) 16) 0)) 1 0)
     (then (ask (question2 (fieldsOf old)) 2 0)
@@ -77,72 +208,75 @@ pub widen-asks : (old : List ℕ) (n : ℕ)
     (then (ask (question6 (fieldsOf old)) 6 0)
     (then (ask (question7 (fieldsOf old)) 7 0)
     (ask (eqb n 10) 8 0)))))))
-unfolding widenSays oldSays oldQuestion1 oldSpareOf field
-widen-asks old n = asks-on (oldQuestion1 old) (fieldsOf old) (ask (eqb n 10) 8 0)
 
 -- "21 on the way back when the factor is not 1, put last"
-pub narrow-asks : (header : List ℕ) (n : ℕ)
+abbrev pub NarrowAsks : Type 0
+NarrowAsks =
+    (header : List ℕ) (n : ℕ)
     → narrowSays header n
     ≡ then (headerSays header)
     (then (ask (eqb n 8) 8 0)
     (ask (eqb (fieldsOf header .copies) 1) 21 0))
-unfolding narrowSays
-narrow-asks header n = refl
 
 -- of a valid header with another factor there is nothing to say in eight bytes
-pub other-factor : (header : List ℕ) → headerSays header ≡ Done → (fieldsOf header .copies ≡ 1 → ⊥) → narrowSays header 8 ≡ No 21 0
-unfolding narrowSays
-other-factor header e other = rw (e, ne-eqb (fieldsOf header .copies) 1 other) refl
+abbrev pub OtherFactor : Type 0
+OtherFactor = (header : List ℕ) → headerSays header ≡ Done → (fieldsOf header .copies ≡ 1 → ⊥) → narrowSays header 8 ≡ No 21 0
 
 -- ---- "Archived eight-byte headers become ten-byte ones with factor 1, and go back unchanged": in the lent slices
 
-pub archived-trips : (old ten eight : List ℕ) → Bytes old → oldSays old ≡ Done → length ten ≡ 10 → length eight ≡ 8
+abbrev pub ArchivedTrips : Type 0
+ArchivedTrips =
+    (old ten eight : List ℕ) → Bytes old → oldSays old ≡ Done → length ten ≡ 10 → length eight ≡ 8
     → (widenSays old (length ten) ≡ Done)
     × (fieldsOf (tenAfter old ten) ≡ withCopies 1 (fieldsOf old))
     × (narrowSays (tenAfter old ten) (length eight) ≡ Done)
     × (eightAfter (tenAfter old ten) eight ≡ old)
-archived-trips old ten eight b e long short =
-    let there : widenSays old (length ten) ≡ Done = ap (widenSays old) long ∙ trips.old-widens old e in
-    let wide : tenAfter old ten ≡ widened old = ap (λ (a : Answer). after a (widened old) ten) there in
-    let r = trips.widen-narrow old (length ten) b there in
-    let back : narrowSays (widened old) (length eight) ≡ Done = ap (narrowSays (widened old)) short ∙ r .0 in (
-      there,
-      ap fieldsOf wide ∙ trips.wide-fields old,
-      ap (λ (h : List ℕ). narrowSays h (length eight)) wide ∙ back,
-      ap (λ (h : List ℕ). eightAfter h eight) wide ∙ ap (λ (a : Answer). after a (narrowed (widened old)) eight) back ∙ r .1,
-    )
 
 -- ---- "Every valid ten-byte header with factor 1 makes the same two trips": eight bytes have its fields but for the factor, where zeros stand
 
-pub valid-trips : (header eight ten : List ℕ) → Bytes header → headerSays header ≡ Done → fieldsOf header .copies ≡ 1 → length eight ≡ 8 → length ten ≡ 10
+abbrev pub ValidTrips : Type 0
+ValidTrips =
+    (header eight ten : List ℕ) → Bytes header → headerSays header ≡ Done → fieldsOf header .copies ≡ 1 → length eight ≡ 8 → length ten ≡ 10
     → (narrowSays header (length eight) ≡ Done)
     × (fieldsOf (eightAfter header eight) ≡ withCopies 0 (fieldsOf header))
     × (widenSays (eightAfter header eight) (length ten) ≡ Done)
     × (tenAfter (eightAfter header eight) ten ≡ header)
-valid-trips header eight ten b e one short long =
-    let there : narrowSays header (length eight) ≡ Done = ap (narrowSays header) short ∙ trips.once-narrows header e one in
-    let narrow : eightAfter header eight ≡ narrowed header = ap (λ (a : Answer). after a (narrowed header) eight) there in
-    let r = trips.narrow-widen header (length eight) b there in
-    let back : widenSays (narrowed header) (length ten) ≡ Done = ap (widenSays (narrowed header)) long ∙ r .0 in (
-      there,
-      ap fieldsOf narrow ∙ trips.narrow-fields header,
-      ap (λ (h : List ℕ). widenSays h (length ten)) narrow ∙ back,
-      ap (λ (h : List ℕ). tenAfter h ten) narrow ∙ ap (λ (a : Answer). after a (widened (narrowed header)) ten) back ∙ r .1,
-    )
 
 -- 59 50 F0 1B E8 02 00 00 and 59 50 F0 1B E8 02 04 00 00 00, which antt computes
-pub example-widened : widened (89 ∷ 80 ∷ 240 ∷ 27 ∷ 232 ∷ 2 ∷ 0 ∷ 0 ∷ []) ≡ 89 ∷ 80 ∷ 240 ∷ 27 ∷ 232 ∷ 2 ∷ 4 ∷ 0 ∷ 0 ∷ 0 ∷ []
-unfolding widened bytesOf tab val bitAt
-example-widened = refl
+abbrev pub ExampleWidened : Type 0
+ExampleWidened = widened (89 ∷ 80 ∷ 240 ∷ 27 ∷ 232 ∷ 2 ∷ 0 ∷ 0 ∷ []) ≡ 89 ∷ 80 ∷ 240 ∷ 27 ∷ 232 ∷ 2 ∷ 4 ∷ 0 ∷ 0 ∷ 0 ∷ []
 
-pub example-narrowed : narrowed (89 ∷ 80 ∷ 240 ∷ 27 ∷ 232 ∷ 2 ∷ 4 ∷ 0 ∷ 0 ∷ 0 ∷ []) ≡ 89 ∷ 80 ∷ 240 ∷ 27 ∷ 232 ∷ 2 ∷ 0 ∷ 0 ∷ []
-unfolding narrowed bytesOf tab val bitAt cut
-example-narrowed = refl
+abbrev pub ExampleNarrowed : Type 0
+ExampleNarrowed = narrowed (89 ∷ 80 ∷ 240 ∷ 27 ∷ 232 ∷ 2 ∷ 4 ∷ 0 ∷ 0 ∷ 0 ∷ []) ≡ 89 ∷ 80 ∷ 240 ∷ 27 ∷ 232 ∷ 2 ∷ 0 ∷ 0 ∷ []
 
 -- ---- a refused call leaves the lent slice as it was
 
-pub refused-widen : (old ten : List ℕ) (number place : ℕ) → widenSays old (length ten) ≡ No number place → tenAfter old ten ≡ ten
-refused-widen old ten number place e = ap (λ (a : Answer). after a (widened old) ten) e
+abbrev pub RefusedWiden : Type 0
+RefusedWiden = (old ten : List ℕ) (number place : ℕ) → widenSays old (length ten) ≡ No number place → tenAfter old ten ≡ ten
 
-pub refused-narrow : (header eight : List ℕ) (number place : ℕ) → narrowSays header (length eight) ≡ No number place → eightAfter header eight ≡ eight
-refused-narrow header eight number place e = ap (λ (a : Answer). after a (narrowed header) eight) e
+abbrev pub RefusedNarrow : Type 0
+RefusedNarrow = (header eight : List ℕ) (number place : ℕ) → narrowSays header (length eight) ≡ No number place → eightAfter header eight ≡ eight
+
+-- ---- what is promised, all of it: the contract of `card_6`
+pub record Card6 : Type 0 where
+  pub header-fields : HeaderFields
+  pub ten-bytes : TenBytes
+  pub header-bytes : HeaderBytes
+  pub other-copies : OtherCopies
+  pub form-answers : FormAnswers
+  pub header-answers : HeaderAnswers
+  pub old-answers : OldAnswers
+  pub header-accepted : HeaderAccepted
+  pub old-accepted : OldAccepted
+  pub header-refused : HeaderRefused
+  pub old-refused : OldRefused
+  pub factor-refused : FactorRefused
+  pub widen-asks : WidenAsks
+  pub narrow-asks : NarrowAsks
+  pub other-factor : OtherFactor
+  pub archived-trips : ArchivedTrips
+  pub valid-trips : ValidTrips
+  pub example-widened : ExampleWidened
+  pub example-narrowed : ExampleNarrowed
+  pub refused-widen : RefusedWiden
+  pub refused-narrow : RefusedNarrow

@@ -6,168 +6,184 @@
 -- the factor. Turned away: 22 for a list that breaks these rules, put after 8."
 --
 -- The contract of `fades_count` is an equation with `fadesSay` and `countsAfter`. Of the fields f of a header, N is `f .rows`, B `f .step`, W `f .markers`,
--- S `symbolsPerWord f`, C `blockCount f`, and the run has `symbolCount f` symbols, markers counted and copies not. `weight h n` is h 0 + .. + h (n - 1).
-use mathlib.Core.Path.{_≡_, refl, sym, ap, _∙_}
+-- S `symbolsPerWord f`, C `blockCount f`, and R `lineCount f`; `layoutOf f` has these six, and steps 8 to 10 go by it (channel/specs/Channel.antt). The run
+-- has `symbolCount f` symbols, markers counted and copies not. `weight h n` is h 0 + .. + h (n - 1).
+use mathlib.Core.Path.{_≡_}
 use mathlib.Core.Bool.{true, false, not}
 use mathlib.Core.List.{List, [], _∷_}
 use mathlib.Core.Logic.{_⊎_}
 use Prim.Native.Nat.{ℕ, _+_, _-_, _*_, _/_, _%_, _≤_, _<_}
-use native.Mathlib.Omega.{arith}
 use lib.Dec.{ltb, leb, eqb}
 use lib.ListN.{length, getD}
-use borrow.Author.Tests.{eq-eqb}
-use Rattle.bits.specs.Choice.{bool}
-use Rattle.bits.specs.Table.{tab, both, length-tab, getD-tab}
-use Rattle.bits.specs.Weight.{weight}
-use Rattle.answers.specs.Answer.{ask, then, after}
-use Rattle.answers.specs.declared.Answer.{Answer}
+use Rattle.bits.specs.Basics.{bool, tab, both, upTo}
+use Rattle.bits.specs.Count.{weight}
+use Rattle.answers.specs.Answer.{ask, then}
 use Rattle.answers.specs.declared.Answer.the-variants.{Done, No}
 use Rattle.header.specs.Header.{fieldsOf, withCopies}
 use Rattle.header.specs.declared.Fields.{Fields}
-use Rattle.quantities.specs.Quantities.{symbolsPerWord, markedBits, blockCount, spread, sequenceLength, lineCount, symbolCount}
-use Rattle.quantities.specs.Valid.{Valid}
-use Rattle.questions.specs.Questions.{headerSays}
-use Rattle.questions.specs.Good.{header-good}
+use Rattle.header_sizes.specs.Quantities.{symbolsPerWord, blockCount, lineCount, symbolCount, layoutOf}
+use Rattle.header_questions.specs.Questions.{headerSays}
+use Rattle.channel.specs.declared.Layout.{Layout}
 use Rattle.channel.specs.Channel.{place, hitBy, placeAt, symbolOf}
-use Rattle.channel.specs.Spacing as spacing
-use Rattle.fades.specs.Fades.{covered, listGood, fadesGood, isMarker, isFiller, sourceOf, ofWord, hits, countsOf, gridOf, countsIn, fadesSay}
-use Rattle.fades.specs.Laws.{firstOf, endOf}
-use Rattle.fades.specs.Laws as laws
-use Rattle.fades.specs.Theorems as theorems
-use Rattle.calls.specs.After.{countsAfter}
+use Rattle.fades.specs.Fades.{covered, listGood, isMarker, isFiller, ofWord, fadesSay, firstOf, endOf, countsAfter}
 
 -- ---- the questions: "22 .., put after 8"
 
-pub fades-asks : (header fades : List ℕ) (n : ℕ)
+abbrev pub FadesAsks : Type 0
+FadesAsks =
+    (header fades : List ℕ) (n : ℕ)
     → fadesSay header fades n
     ≡ then (headerSays header)
     (then (ask (eqb n (blockCount (fieldsOf header))) 8 0)
     (ask (listGood (symbolCount (fieldsOf header)) fades) 22 0))
-unfolding fadesSay
-fades-asks header fades n = refl
 
 -- ---- the list
 
 -- "First symbol and length, .. ascending, not overlapping, each of at least one symbol and inside the run", "half a pair left over breaks it": fade i is the
 -- pair of numbers 2i and 2i + 1, and lies from its first symbol up to, and without, its end
-pub fade-first : (fades : List ℕ) (i : ℕ) → firstOf fades i ≡ getD fades (2 * i) 0
-fade-first fades i = refl
+abbrev pub FadeFirst : Type 0
+FadeFirst = (fades : List ℕ) (i : ℕ) → firstOf fades i ≡ getD fades (2 * i) 0
 
-pub fade-end : (fades : List ℕ) (i : ℕ) → endOf fades i ≡ getD fades (2 * i) 0 + getD fades (2 * i + 1) 0
-fade-end fades i = refl
+abbrev pub FadeEnd : Type 0
+FadeEnd = (fades : List ℕ) (i : ℕ) → endOf fades i ≡ getD fades (2 * i) 0 + getD fades (2 * i + 1) 0
 
-pub list-rules : (n : ℕ) (fades : List ℕ) → listGood n fades ≡ true
+abbrev pub ListRules : Type 0
+ListRules =
+    (n : ℕ) (fades : List ℕ) → listGood n fades ≡ true
     → (length fades % 2 ≡ 0)
     × ((i : ℕ) → 2 * i < length fades → (1 ≤ getD fades (2 * i + 1) 0) × (endOf fades i ≤ n))
     × ((i : ℕ) → 2 * i + 2 < length fades → endOf fades i ≤ firstOf fades (i + 1))
-list-rules n fades e =
-    let r = laws.good-rules n fades e in
-    (r .pairs, λ i l. (let k = r .least i l in omega arith, r .inside i l), r .ascending)
 
 -- and every list that keeps these rules is right
-pub rules-list : (n : ℕ) (fades : List ℕ)
+abbrev pub RulesList : Type 0
+RulesList =
+    (n : ℕ) (fades : List ℕ)
     → length fades % 2 ≡ 0
     → ((i : ℕ) → 2 * i < length fades → (1 ≤ getD fades (2 * i + 1) 0) × (endOf fades i ≤ n))
     → ((i : ℕ) → 2 * i + 2 < length fades → endOf fades i ≤ firstOf fades (i + 1))
     → listGood n fades ≡ true
-rules-list n fades pairs each ascending =
-    laws.rules-good n fades record { pairs = pairs; least = λ i l. let k = each i l in omega arith; inside = λ i l. each i l .1; ascending = ascending }
 
 -- a symbol is covered where a fade has it, and only there
-pub covered-by : (fades : List ℕ) (s i : ℕ) → 2 * i + 1 < length fades → firstOf fades i ≤ s → s < endOf fades i → covered fades s ≡ true
-covered-by = laws.covered-in
+abbrev pub CoveredBy : Type 0
+CoveredBy = (fades : List ℕ) (s i : ℕ) → 2 * i + 1 < length fades → firstOf fades i ≤ s → s < endOf fades i → covered fades s ≡ true
 
-pub uncovered : (fades : List ℕ) (s : ℕ) → ((i : ℕ) → 2 * i + 1 < length fades → (s < firstOf fades i) ⊎ (endOf fades i ≤ s)) → covered fades s ≡ false
-uncovered = laws.covered-out
+abbrev pub Uncovered : Type 0
+Uncovered = (fades : List ℕ) (s : ℕ) → ((i : ℕ) → 2 * i + 1 < length fades → (s < firstOf fades i) ⊎ (endOf fades i ≤ s)) → covered fades s ≡ false
 
 -- ---- the run: marker symbols, fillers, and the symbols of the words
 
-pub marker-is : (f : Fields) (s : ℕ) → isMarker (gridOf f) s ≡ ltb (s % (symbolsPerWord f + f .markers)) (f .markers)
-unfolding isMarker gridOf
-marker-is f s = refl
+-- N, B, S, C, W and R
+abbrev pub LayoutIs : Type 0
+LayoutIs =
+    (f : Fields)
+    → layoutOf f ≡ record { rows = f .rows; step = f .step; symbols = symbolsPerWord f; words = blockCount f; markers = f .markers; lines = lineCount f }
 
--- a filler stands at a place of step 9 to which none of the C·S symbols goes
-pub filler-is : (f : Fields) (s : ℕ)
-    → isFiller (gridOf f) s
-    ≡ leb (blockCount f * symbolsPerWord f) (hitBy (f .rows) (f .step) (blockCount f * symbolsPerWord f) (placeAt (symbolsPerWord f) (f .markers) s))
-unfolding isFiller sourceOf gridOf
-filler-is f s = refl
+abbrev pub MarkerIs : Type 0
+MarkerIs = (f : Fields) (s : ℕ) → isMarker (layoutOf f) s ≡ ltb (s % (symbolsPerWord f + f .markers)) (f .markers)
 
-module _ (header fades old : List ℕ) (e : fadesSay header fades (length old) ≡ Done) (f : Fields) (ef : f ≡ fieldsOf header) where
-  valid : Valid f
-  valid = rw ef (laws.accepted header fades (length old) e .valid)
+-- Where steps 9 and 10 put symbols, in figures: symbol t goes to place t + (t mod N) · B · N, and of the C · S symbols the first that goes to a place is the
+-- one there; every S places are a line, which begins with W markers.
+abbrev pub PlaceRules : Type 0
+PlaceRules =
+    (f : Fields) (x : ℕ)
+    → (place (layoutOf f) x ≡ x + x % f .rows * (f .step * f .rows))
+    × (hitBy (layoutOf f) x ≡ upTo (λ t. not (eqb (t + t % f .rows * (f .step * f .rows)) x)) 0 (blockCount f * symbolsPerWord f))
+    × (placeAt (layoutOf f) x ≡ x / (symbolsPerWord f + f .markers) * symbolsPerWord f + (x % (symbolsPerWord f + f .markers) - f .markers))
+    × (symbolOf (layoutOf f) x ≡ x / symbolsPerWord f * (symbolsPerWord f + f .markers) + (f .markers + x % symbolsPerWord f))
 
-  counts-are : countsAfter header fades old ≡ countsOf (gridOf f) fades
-  counts-are = ap (λ (a : Answer). after a (countsIn header fades) old) e ∙ ap (λ (x : Fields). countsOf (gridOf x) fades) (sym ef)
+-- a filler is at a place of step 9 to which none of the C·S symbols goes
+abbrev pub FillerIs : Type 0
+FillerIs =
+    (f : Fields) (s : ℕ)
+    → isFiller (layoutOf f) s
+    ≡ leb (blockCount f * symbolsPerWord f) (hitBy (layoutOf f) (placeAt (layoutOf f) s))
 
-  -- "Count for each word how many of its symbols are hit": C numbers, and number j counts the symbols of the run that are covered and word j's
-  pub counted : (length (countsAfter header fades old) ≡ blockCount f)
-      × ((j : ℕ) → j < blockCount f → getD (countsAfter header fades old) j 0 ≡ weight (λ s. bool (both (covered fades s) (ofWord (gridOf f) j s))) (symbolCount f))
-  unfolding countsOf hits gridOf
-  counted = (
-    ap length counts-are ∙ length-tab (blockCount f) (hits (gridOf f) fades),
-    λ j l. ap (λ (xs : List ℕ). getD xs j 0) counts-are ∙ getD-tab (blockCount f) (hits (gridOf f) fades) j l,
-  )
+-- "Count for each word how many of its symbols are hit": C numbers, and number j counts the symbols of the run that are covered and word j's
+abbrev pub Counted : Type 0
+Counted =
+    (header fades old : List ℕ) → fadesSay header fades (length old) ≡ Done → (f : Fields) → f ≡ fieldsOf header
+    → (length (countsAfter header fades old) ≡ blockCount f)
+    × ((j : ℕ) → j < blockCount f → getD (countsAfter header fades old) j 0 ≡ weight (λ s. bool (both (covered fades s) (ofWord (layoutOf f) j s))) (symbolCount f))
 
-  -- "The counts must sum to the covered symbols that are neither marker nor filler."
-  pub counts-sum : weight (λ j. getD (countsAfter header fades old) j 0) (blockCount f)
-      ≡ weight (λ s. bool (both (covered fades s) (both (not (isMarker (gridOf f) s)) (not (isFiller (gridOf f) s))))) (symbolCount f)
-  unfolding gridOf
-  counts-sum =
-      ap (λ (xs : List ℕ). weight (λ j. getD xs j 0) (blockCount f)) counts-are
-      ∙ theorems.counts-sum (gridOf f) (laws.valid-small f valid .symbols-least) fades
+-- "The counts must sum to the covered symbols that are neither marker nor filler."
+abbrev pub CountsSum : Type 0
+CountsSum =
+    (header fades old : List ℕ) → fadesSay header fades (length old) ≡ Done → (f : Fields) → f ≡ fieldsOf header
+    → weight (λ j. getD (countsAfter header fades old) j 0) (blockCount f)
+    ≡ weight (λ s. bool (both (covered fades s) (both (not (isMarker (layoutOf f) s)) (not (isFiller (layoutOf f) s))))) (symbolCount f)
 
-  -- symbol t of step 8 stands where steps 9 and 10 put it, and is one of word t div S
-  pub stands-at : (j t : ℕ) → t < blockCount f * symbolsPerWord f
-      → ofWord (gridOf f) j (symbolOf (symbolsPerWord f) (f .markers) (place (f .rows) (f .step) t)) ≡ eqb (t / symbolsPerWord f) j
-  unfolding gridOf
-  stands-at = theorems.word-at (gridOf f) (lineCount f) (theorems.valid-whole f valid)
+-- symbol t of step 8 stands where steps 9 and 10 put it, and is one of word t div S
+abbrev pub StandsAt : Type 0
+StandsAt =
+    (header : List ℕ) → headerSays header ≡ Done → (f : Fields) → f ≡ fieldsOf header
+    → (j t : ℕ) → t < blockCount f * symbolsPerWord f
+    → ofWord (layoutOf f) j (symbolOf (layoutOf f) (place (layoutOf f) t)) ≡ eqb (t / symbolsPerWord f) j
 
-  -- and no other symbol of the run is a word's
-  pub stands-only : (j s t : ℕ) → ofWord (gridOf f) j s ≡ true → t ≡ hitBy (f .rows) (f .step) (blockCount f * symbolsPerWord f) (placeAt (symbolsPerWord f) (f .markers) s)
-      → (t < blockCount f * symbolsPerWord f) × (symbolOf (symbolsPerWord f) (f .markers) (place (f .rows) (f .step) t) ≡ s) × (t / symbolsPerWord f ≡ j)
-  unfolding sourceOf gridOf
-  stands-only j s t h et = rw et (theorems.only-word (gridOf f) (lineCount f) (theorems.valid-whole f valid) j s h)
+-- and no other symbol of the run is a word's
+abbrev pub StandsOnly : Type 0
+StandsOnly =
+    (header : List ℕ) → headerSays header ≡ Done → (f : Fields) → f ≡ fieldsOf header
+    → (j s t : ℕ) → ofWord (layoutOf f) j s ≡ true → t ≡ hitBy (layoutOf f) (placeAt (layoutOf f) s)
+    → (t < blockCount f * symbolsPerWord f) × (symbolOf (layoutOf f) (place (layoutOf f) t) ≡ s) × (t / symbolsPerWord f ≡ j)
 
-  -- a fade over the whole run hits all S symbols of each word
-  pub all-hit : fades ≡ 0 ∷ symbolCount f ∷ [] → (j : ℕ) → j < blockCount f → getD (countsAfter header fades old) j 0 ≡ symbolsPerWord f
-  unfolding countsOf gridOf
-  all-hit whole j l =
-      ap (λ (xs : List ℕ). getD xs j 0) counts-are
-      ∙ getD-tab (blockCount f) (hits (gridOf f) fades) j l
-      ∙ ap (λ (xs : List ℕ). hits (gridOf f) xs j) whole
-      ∙ theorems.all-hit (gridOf f) (lineCount f) (theorems.valid-whole f valid) j l
+-- a fade over the whole run hits all S symbols of each word
+abbrev pub AllHit : Type 0
+AllHit =
+    (header fades old : List ℕ) → fadesSay header fades (length old) ≡ Done → (f : Fields) → f ≡ fieldsOf header
+    → fades ≡ 0 ∷ symbolCount f ∷ [] → (j : ℕ) → j < blockCount f → getD (countsAfter header fades old) j 0 ≡ symbolsPerWord f
 
 -- "An empty list gives zeros": it is right, and the C counts are 0
-pub empty-list : (header old : List ℕ) → headerSays header ≡ Done → length old ≡ blockCount (fieldsOf header)
+abbrev pub EmptyList : Type 0
+EmptyList =
+    (header old : List ℕ) → headerSays header ≡ Done → length old ≡ blockCount (fieldsOf header)
     → (fadesSay header [] (length old) ≡ Done) × (countsAfter header [] old ≡ tab (blockCount (fieldsOf header)) (λ j. 0))
-unfolding fadesSay fadesGood gridOf
-empty-list header old e long =
-    let done : fadesSay header [] (length old) ≡ Done = rw (e, eq-eqb (length old) (blockCount (fieldsOf header)) long) refl in
-    (done, ap (λ (a : Answer). after a (countsIn header []) old) done ∙ theorems.none-hit (gridOf (fieldsOf header)))
 
 -- a refused call leaves the counts as they were
-pub refused-fades : (header fades old : List ℕ) (number place : ℕ) → fadesSay header fades (length old) ≡ No number place → countsAfter header fades old ≡ old
-refused-fades header fades old number place e = ap (λ (a : Answer). after a (countsIn header fades) old) e
+abbrev pub RefusedFades : Type 0
+RefusedFades =
+    (header fades old : List ℕ) (number place : ℕ) → fadesSay header fades (length old) ≡ No number place → countsAfter header fades old ≡ old
 
 -- ---- "The reckoning counts unrepeated symbols and disregards the factor": a header with another factor that is accepted gets the same answer and counts
 
-pub factor-disregarded : (header other fades old : List ℕ) (copies : ℕ) → fieldsOf other ≡ withCopies copies (fieldsOf header)
+abbrev pub FactorDisregarded : Type 0
+FactorDisregarded =
+    (header other fades old : List ℕ) (copies : ℕ) → fieldsOf other ≡ withCopies copies (fieldsOf header)
     → headerSays header ≡ Done → headerSays other ≡ Done
     → (fadesSay other fades (length old) ≡ fadesSay header fades (length old)) × (countsAfter other fades old ≡ countsAfter header fades old)
-unfolding fadesSay gridOf withCopies symbolCount lineCount sequenceLength blockCount markedBits symbolsPerWord spread
-factor-disregarded header other fades old copies e done also = (rw (done, also, e) refl, rw (done, also, e) refl)
 
 -- ---- "Any two different places of step 9 that come from symbols, in a stretch of at most N places with markers left out, come from symbols at least B·N − 1
 -- apart": symbols t and u go to places x and y, which are less than N apart
 
-pub apart : (header : List ℕ) → headerSays header ≡ Done → (n b x y t u : ℕ) → n ≡ fieldsOf header .rows → b ≡ fieldsOf header .step
-    → x ≡ place n b t → y ≡ place n b u → (x ≡ y → ⊥) → x < y + n → y < x + n
+abbrev pub Apart : Type 0
+Apart =
+    (header : List ℕ) → headerSays header ≡ Done → (n b x y t u : ℕ) → n ≡ fieldsOf header .rows → b ≡ fieldsOf header .step
+    → x ≡ place (layoutOf (fieldsOf header)) t → y ≡ place (layoutOf (fieldsOf header)) u → (x ≡ y → ⊥) → x < y + n → y < x + n
     → (t + (b * n - 1) ≤ u) ⊎ (u + (b * n - 1) ≤ t)
-apart header e n b x y t u en eb ex ey =
-    let s = header-good header e .valid .shaped in
-    rw (ex, ey) (spacing.far-apart n b (rw en (s .rows-least)) (rw eb (s .step-least)) t u)
 
 -- and no more than that: symbols B·N and 1 stand at neighbouring places
-pub neighbours : (n b : ℕ) → 2 ≤ n → place n b 1 ≡ place n b (b * n) + 1
-neighbours = spacing.side-by-side
+abbrev pub Neighbours : Type 0
+Neighbours = (g : Layout) → 2 ≤ g .rows → place g 1 ≡ place g (g .step * g .rows) + 1
+
+-- ---- what is promised, all of it: the contract of `card_8`
+pub record Card8 : Type 0 where
+  pub fades-asks : FadesAsks
+  pub fade-first : FadeFirst
+  pub fade-end : FadeEnd
+  pub list-rules : ListRules
+  pub rules-list : RulesList
+  pub covered-by : CoveredBy
+  pub uncovered : Uncovered
+  pub layout-is : LayoutIs
+  pub marker-is : MarkerIs
+  pub place-rules : PlaceRules
+  pub filler-is : FillerIs
+  pub counted : Counted
+  pub counts-sum : CountsSum
+  pub stands-at : StandsAt
+  pub stands-only : StandsOnly
+  pub all-hit : AllHit
+  pub empty-list : EmptyList
+  pub refused-fades : RefusedFades
+  pub factor-disregarded : FactorDisregarded
+  pub apart : Apart
+  pub neighbours : Neighbours

@@ -3,54 +3,41 @@
 --
 -- `callSays` is questions 1 to 7, 20 and 8 of a call that is lent frames and slots (plan/specs/Lengths.antt); the fill bits are what the C blocks of k bits
 -- hold behind the A marked frames.
-use mathlib.Core.Path.{_≡_, refl}
+use mathlib.Core.Path.{_≡_}
 use mathlib.Core.List.{List}
 use Prim.Native.Nat.{ℕ, _+_, _*_, _<_}
 use lib.Dec.{ltb, eqb}
 use lib.ListN.{length}
-use borrow.Author.Tests.{lt-ltb}
-use Rattle.answers.specs.Answer.{numberOf, ask, then, then-when, ask-yes}
-use Rattle.answers.specs.declared.Answer.{Answer}
+use Rattle.answers.specs.Answer.{numberOf, ask, then}
 use Rattle.answers.specs.declared.Answer.the-variants.{Done}
-use Rattle.sizes.specs.Rate.{infoBits}
+use Rattle.sizes.specs.Sizes.{infoBits}
 use Rattle.word.specs.Word as words
-use Rattle.word.specs.Exports as word-laws
 use Rattle.header.specs.Header.{fieldsOf}
 use Rattle.header.specs.declared.Fields.{Fields}
-use Rattle.quantities.specs.Quantities.{markedBits, blockCount, fillBits}
-use Rattle.quantities.specs.Bounds.{fill-sum, fill-few}
-use Rattle.convert.specs.Convert.{widenSays, narrowSays}
-use Rattle.convert.specs.Theorems as trip-laws
+use Rattle.header_sizes.specs.Quantities.{markedBits, blockCount, fillBits}
+use Rattle.header_convert.specs.Convert.{widenSays, narrowSays}
 use Rattle.plan.specs.Plan.{planIn}
 use Rattle.plan.specs.Lengths.{callSays}
-use Rattle.plan.specs.Accepted.{ready}
-use Rattle.frames.specs.Frames.{firstUnmarked, fillZero, framesSay}
-use Rattle.capture.specs.Capture.{wordOut}
-use Rattle.capture.specs.Answer.{slotsSay}
+use Rattle.stream_reader.specs.Frames.{firstUnmarked, fillZero}
+use Rattle.slots.specs.Reading.{wordOut, slotsSay}
 use Rattle.run.specs.Run as runs
-use Rattle.run.specs.Return as run-laws
-use Rattle.search.specs.Search.{findSays}
-use Rattle.search.specs.Laws as search-laws
-use Rattle.cut.specs.Cut.{cutSays}
-use Rattle.cut.specs.Laws as cut-laws
+use Rattle.capture_search.specs.Search.{findSays, findFromSays}
+use Rattle.capture_cut.specs.Cut.{cutSays}
 use Rattle.pass.specs.Pass as passes
-use Rattle.pass.specs.Answers as pass-laws
 use Rattle.spread.specs.Spread.{spreadSays}
-use Rattle.spread.specs.Answers as spread-laws
 use Rattle.fades.specs.Fades.{fadesSay}
-use Rattle.fades.specs.Laws as fade-laws
 
 -- Where these are passed, the marked frames and the fill bits are all bits of the blocks, and the fill bits are fewer than k.
-pub few-fill-bits : (header marker : List ℕ) (framesLength slotsLength : ℕ) → callSays header marker framesLength slotsLength ≡ Done
+abbrev pub FewFillBits : Type 0
+FewFillBits =
+    (header marker : List ℕ) (framesLength slotsLength : ℕ) → callSays header marker framesLength slotsLength ≡ Done
     → (markedBits (fieldsOf header) + fillBits (fieldsOf header) ≡ blockCount (fieldsOf header) * infoBits (fieldsOf header .rate))
     × (fillBits (fieldsOf header) < infoBits (fieldsOf header .rate))
-few-fill-bits header marker n s e =
-    let f : Fields = fieldsOf header in
-    let v = ready header marker n s e .valid in
-    (fill-sum f v, fill-few f v)
 
 -- The reader with the question put where it stood, between 16 and 18, gives the same answer to every input.
-pub asked-17 : (header marker slots : List ℕ) (n : ℕ) (f : Fields) (word : ℕ → List ℕ) → f ≡ fieldsOf header → word ≡ wordOut (planIn header marker) slots
+abbrev pub Asked17 : Type 0
+Asked17 =
+    (header marker slots : List ℕ) (n : ℕ) (f : Fields) (word : ℕ → List ℕ) → f ≡ fieldsOf header → word ≡ wordOut (planIn header marker) slots
     → runs.readSays header marker slots n
     ≡ then (callSays header marker n (length slots))
     (then (slotsSay (planIn header marker) slots)
@@ -58,48 +45,59 @@ pub asked-17 : (header marker slots : List ℕ) (n : ℕ) (f : Fields) (word : �
     (then (ask (eqb (firstUnmarked (f .size) (f .frames) (runs.streamIn f word)) (f .frames)) 16 (firstUnmarked (f .size) (f .frames) (runs.streamIn f word)))
     (then (ask (ltb (fillBits f) (infoBits (f .rate))) 17 0)
     (ask (fillZero (f .size) (f .frames) (blockCount f * infoBits (f .rate)) (runs.streamIn f word)) 18 0)))))
-unfolding runs.readSays runs.bufferSays runs.streamSays framesSay
-asked-17 header marker slots n f word ef ew =
-    rw (ef, ew)
-    (then-when (callSays header marker n (length slots)) _ _ (λ e.
-    let few = few-fill-bits header marker n (length slots) e .1 in
-    let asked : Answer = ask (ltb (fillBits (fieldsOf header)) (infoBits (fieldsOf header .rate))) 17 0 in
-    let yes : asked ≡ Done = ask-yes _ 17 0 (lt-ltb (fillBits (fieldsOf header)) (infoBits (fieldsOf header .rate)) few) in
-    rw yes refl))
 
 -- No call answers 17: `Fits`, which every answer to C must meet, has it as a field. Cards 10, 11 and 14 say it of theirs.
-pub word-write-not-17 : (rate : ℕ) (block : List ℕ) (n : ℕ) → numberOf (words.writeSays rate block n) ≡ 17 → ⊥
-word-write-not-17 rate block n = word-laws.write-fits rate block n .listed
+abbrev pub WordWriteNot17 : Type 0
+WordWriteNot17 = (rate : ℕ) (block : List ℕ) (n : ℕ) → numberOf (words.writeSays rate block n) ≡ 17 → ⊥
 
-pub word-read-not-17 : (rate : ℕ) (word : List ℕ) (n : ℕ) → numberOf (words.readSays rate word n) ≡ 17 → ⊥
-word-read-not-17 rate word n = word-laws.read-fits rate word n .listed
+abbrev pub WordReadNot17 : Type 0
+WordReadNot17 = (rate : ℕ) (word : List ℕ) (n : ℕ) → numberOf (words.readSays rate word n) ≡ 17 → ⊥
 
-pub run-write-not-17 : (header marker frames : List ℕ) (n : ℕ) → numberOf (runs.writeSays header marker frames n) ≡ 17 → ⊥
-run-write-not-17 header marker frames n = run-laws.write-fits header marker frames n .listed
+abbrev pub RunWriteNot17 : Type 0
+RunWriteNot17 = (header marker frames : List ℕ) (n : ℕ) → numberOf (runs.writeSays header marker frames n) ≡ 17 → ⊥
 
-pub run-read-not-17 : (header marker slots : List ℕ) (n : ℕ) → numberOf (runs.readSays header marker slots n) ≡ 17 → ⊥
-run-read-not-17 header marker slots n = run-laws.read-fits header marker slots n .listed
+abbrev pub RunReadNot17 : Type 0
+RunReadNot17 = (header marker slots : List ℕ) (n : ℕ) → numberOf (runs.readSays header marker slots n) ≡ 17 → ⊥
 
-pub pass-write-not-17 : (rate : ℕ) (blocks : List ℕ) (n : ℕ) → numberOf (passes.writeSays rate blocks n) ≡ 17 → ⊥
-pass-write-not-17 rate blocks n = pass-laws.write-fits rate blocks n .listed
+abbrev pub PassWriteNot17 : Type 0
+PassWriteNot17 = (rate : ℕ) (blocks : List ℕ) (n : ℕ) → numberOf (passes.writeSays rate blocks n) ≡ 17 → ⊥
 
-pub pass-read-not-17 : (rate : ℕ) (slice : List ℕ) (n : ℕ) → numberOf (passes.readSays rate slice n) ≡ 17 → ⊥
-pass-read-not-17 rate slice n = pass-laws.read-fits rate slice n .listed
+abbrev pub PassReadNot17 : Type 0
+PassReadNot17 = (rate : ℕ) (slice : List ℕ) (n : ℕ) → numberOf (passes.readSays rate slice n) ≡ 17 → ⊥
 
-pub spread-not-17 : (rate bit n : ℕ) → numberOf (spreadSays rate bit n) ≡ 17 → ⊥
-spread-not-17 rate bit n = spread-laws.spread-fits rate bit n .listed
+abbrev pub SpreadNot17 : Type 0
+SpreadNot17 = (rate bit n : ℕ) → numberOf (spreadSays rate bit n) ≡ 17 → ⊥
 
-pub find-not-17 : (header marker capture : List ℕ) → numberOf (findSays header marker capture) ≡ 17 → ⊥
-find-not-17 header marker capture = search-laws.find-fits header marker capture .listed
+abbrev pub FindNot17 : Type 0
+FindNot17 =
+    (header marker capture : List ℕ) (from : ℕ)
+    → (numberOf (findSays header marker capture) ≡ 17 → ⊥) × (numberOf (findFromSays header marker capture from) ≡ 17 → ⊥)
 
-pub cut-not-17 : (header : List ℕ) (captureLength s slotsLength : ℕ) → numberOf (cutSays header captureLength s slotsLength) ≡ 17 → ⊥
-cut-not-17 header captureLength s slotsLength = cut-laws.cut-fits header captureLength s slotsLength .listed
+abbrev pub CutNot17 : Type 0
+CutNot17 = (header : List ℕ) (captureLength s slotsLength : ℕ) → numberOf (cutSays header captureLength s slotsLength) ≡ 17 → ⊥
 
-pub widen-not-17 : (old : List ℕ) (n : ℕ) → numberOf (widenSays old n) ≡ 17 → ⊥
-widen-not-17 old n = trip-laws.widen-fits old n .listed
+abbrev pub WidenNot17 : Type 0
+WidenNot17 = (old : List ℕ) (n : ℕ) → numberOf (widenSays old n) ≡ 17 → ⊥
 
-pub narrow-not-17 : (header : List ℕ) (n : ℕ) → numberOf (narrowSays header n) ≡ 17 → ⊥
-narrow-not-17 header n = trip-laws.narrow-fits header n .listed
+abbrev pub NarrowNot17 : Type 0
+NarrowNot17 = (header : List ℕ) (n : ℕ) → numberOf (narrowSays header n) ≡ 17 → ⊥
 
-pub fades-not-17 : (header fades : List ℕ) (n : ℕ) → numberOf (fadesSay header fades n) ≡ 17 → ⊥
-fades-not-17 header fades n = fade-laws.fades-fit header fades n .listed
+abbrev pub FadesNot17 : Type 0
+FadesNot17 = (header fades : List ℕ) (n : ℕ) → numberOf (fadesSay header fades n) ≡ 17 → ⊥
+
+-- ---- what is promised, all of it: the contract of `card_9`
+pub record Card9 : Type 0 where
+  pub few-fill-bits : FewFillBits
+  pub asked-17 : Asked17
+  pub word-write-not-17 : WordWriteNot17
+  pub word-read-not-17 : WordReadNot17
+  pub run-write-not-17 : RunWriteNot17
+  pub run-read-not-17 : RunReadNot17
+  pub pass-write-not-17 : PassWriteNot17
+  pub pass-read-not-17 : PassReadNot17
+  pub spread-not-17 : SpreadNot17
+  pub find-not-17 : FindNot17
+  pub cut-not-17 : CutNot17
+  pub widen-not-17 : WidenNot17
+  pub narrow-not-17 : NarrowNot17
+  pub fades-not-17 : FadesNot17

@@ -10,10 +10,12 @@ use lib.Arith.{digits-mod}
 use lib.Dec.{ltb, eqb}
 use lib.ListN.{length, getD, length-set}
 use borrow.Author.Tests.{lt-ltb, le-ltb, eq-eqb, ne-eqb}
-use Rattle.bits.specs.Choice.{pick, bool, lt-or-le, eq-or-ne}
+use Rattle.bits.specs.Basics.{pick, bool}
+use Rattle.bits.proofs.Laws.Choice.{lt-or-le, eq-or-ne}
 use Rattle.bits.specs.Pack.{bitAt}
-use Rattle.bits.specs.Put.{putBit, withBit, put-same, put-other}
-use Rattle.pulses.specs.Zeros.{Zeros}
+use Rattle.bits.specs.Inner.{putBit, withBit}
+use Rattle.bits.proofs.Laws.Put.{put-same, put-other}
+use Rattle.pulses.specs.Inner.{Zeros}
 
 -- those before slot x are there
 pub record Upto (group x : ℕ) (z : List ℕ) : Type 0 where

@@ -9,15 +9,17 @@ use mathlib.Core.List.{List}
 use lib.ListN.{length}
 use mathlib.Core.Logic.{⊎-elim}
 use borrow.Author.Tests.{le-ltb}
-use Rattle.bits.specs.Choice.{pick, lt-or-le}
-use Rattle.bits.specs.Leading.{Leads}
-use Rattle.bits.specs.Pack.{val, bitAt, cut, Bits, bit-lt, cut-in, cut-bits}
-use Rattle.bits.specs.Parts.{val-shift}
-use Rattle.bits.specs.Table.{below-all}
-use Rattle.bits.specs.Window.{bitsFrom}
-use Rattle.pulses.specs.Groups.{group-made}
-use Rattle.pulses.specs.Lone.{lone-bits, kept}
-use Rattle.pulses.specs.Needs.{Order, Slots, Near, Far, sizes, held}
+use Rattle.bits.specs.Basics.{pick}
+use Rattle.bits.proofs.Laws.Choice.{lt-or-le}
+use Rattle.bits.specs.Inner.{Leads, bitsFrom}
+use Rattle.bits.specs.Pack.{val, bitAt, cut, Bits}
+use Rattle.bits.proofs.Laws.Pack.{bit-lt, cut-in, cut-bits}
+use Rattle.bits.proofs.Laws.Parts.{val-shift}
+use Rattle.bits.proofs.Laws.Table.{below-all}
+use Rattle.pulses.proofs.Laws.Groups.{group-made}
+use Rattle.pulses.proofs.Laws.Lone.{lone-bits, kept}
+use Rattle.pulses.specs.Inner.{Order, Slots, Near, Far}
+use Rattle.pulses.proofs.Laws.Needs.{sizes, held}
 use Rattle.pulses.specs.Pulses.{symbolIn}
 
 -- what shifts up to 2 ^ 63 with nothing lost is a power of 2

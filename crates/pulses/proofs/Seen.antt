@@ -7,15 +7,18 @@ use native.Mathlib.Omega.{arith}
 use native.Mathlib.Nat.{zero-div}
 use lib.Dec.{eqb}
 use borrow.Author.Tests.{lt-ltb, le-ltb, eq-eqb, ne-eqb, eqb-true}
-use Rattle.bits.specs.Choice.{bool, bool-true, eq-or-ne, lt-or-le}
-use Rattle.bits.specs.Leading.{Leads, first-one, no-one}
-use Rattle.bits.specs.Pack.{val, bitAt, cut, bit-lt, val-same, val-bits, cut-in, cut-past, cut-bits}
-use Rattle.bits.specs.Parts.{val-shift}
-use Rattle.bits.specs.Window.{lesser, bitsFrom, firstOne, window-stop, clearAt}
-use Rattle.pulses.specs.Groups.{group-got}
+use Rattle.bits.specs.Basics.{bool}
+use Rattle.bits.proofs.Laws.Choice.{bool-true, eq-or-ne, lt-or-le}
+use Rattle.bits.specs.Inner.{Leads, lesser, bitsFrom}
+use Rattle.bits.proofs.Laws.Leading.{first-one, no-one}
+use Rattle.bits.specs.Pack.{val, bitAt, cut, firstOne, clearAt}
+use Rattle.bits.proofs.Laws.Pack.{bit-lt, val-same, val-bits, cut-in, cut-past, cut-bits}
+use Rattle.bits.proofs.Laws.Parts.{val-shift}
+use Rattle.bits.proofs.Laws.Window.{window-stop}
+use Rattle.bits.proofs.Laws.First.{found-at}
+use Rattle.pulses.proofs.Laws.Groups.{group-got}
 use Rattle.pulses.specs.Pulses.{symbolIn}
 use Rattle.pulses.proofs.Swept.{numberAt}
-use Rattle.bits.specs.First.{found-at}
 
 -- the symbol is the first pulse of the first M slots
 pub symbol-first : (order group : ℕ) → order ≤ group → (b : List ℕ) (s : ℕ) → symbolIn order group b s < order → firstOne b (s * group) (s * group + order) ≡ s * group + symbolIn order group b s

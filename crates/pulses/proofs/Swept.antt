@@ -6,15 +6,17 @@ use Prim.Native.Nat.{ℕ, _+_, _-_, _*_, _/_, _%_, _^_, _≤_, _<_}
 use native.Mathlib.Omega.{arith}
 use lib.Dec.{eqb}
 use borrow.Author.Tests.{eq-eqb, ne-eqb}
-use Rattle.bits.specs.Choice.{bool, eq-or-ne, lt-or-le}
-use Rattle.bits.specs.Leading.{no-one}
-use Rattle.bits.specs.Pack.{val, bitAt, cut, Bits, bit-lt, cut-in, cut-bits}
-use Rattle.bits.specs.Parts.{val-shift}
-use Rattle.bits.specs.Window.{bitsFrom}
-use Rattle.pulses.specs.Groups.{group-made}
-use Rattle.pulses.specs.Lone.{lone-bits}
+use Rattle.bits.specs.Basics.{bool}
+use Rattle.bits.proofs.Laws.Choice.{eq-or-ne, lt-or-le}
+use Rattle.bits.proofs.Laws.Leading.{no-one}
+use Rattle.bits.specs.Pack.{val, bitAt, cut, Bits}
+use Rattle.bits.proofs.Laws.Pack.{bit-lt, cut-in, cut-bits}
+use Rattle.bits.proofs.Laws.Parts.{val-shift}
+use Rattle.bits.specs.Inner.{bitsFrom}
+use Rattle.pulses.proofs.Laws.Groups.{group-made}
+use Rattle.pulses.proofs.Laws.Lone.{lone-bits}
 use Rattle.pulses.specs.Pulses.{symbolIn}
-use Rattle.pulses.specs.Swept.{Swept}
+use Rattle.pulses.proofs.Laws.Swept.{Swept}
 
 -- number k of the bytes from `at` on
 abbrev pub numberAt : List ℕ → ℕ → ℕ → ℕ

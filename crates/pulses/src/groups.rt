@@ -2,10 +2,9 @@
 ghost use mathlib.Core.Path.{_≡_};
 ghost use Prim.Native.Nat.{ℕ, _+_, _*_, _≤_, _<_};
 ghost use lib.ListN.{length, getD};
-ghost use Rattle.bits.specs.First.{upTo};
-ghost use Rattle.pulses.specs.Needs.{Slots, Forties};
+ghost use Rattle.bits.specs.Basics.{upTo};
+ghost use Rattle.pulses.specs.Inner.{Slots, Forties, Zeros, Same};
 ghost use Rattle.pulses.specs.Pulses.{grouped};
-ghost use Rattle.pulses.specs.Zeros.{Zeros, Same};
 
 // Forty bytes of zeros' slots.
 pub fn zeros(group: usize) -> [u8; 40]
@@ -80,7 +79,7 @@ pub fn bad_group_in(order: usize, group: usize, b: &[u8], from: usize, to: usize
     s
 }
 
-// The same, all at once where eight bytes stand behind them.
+// The same, all at once where at least eight bytes follow them.
 pub fn bad_group_among(order: usize, group: usize, b: &[u8], from: usize, to: usize) -> usize
     requires { ⌜ Slots order group to (now b) × (from ≤ to) ⌝ }
     ensures { λ r. ⌜ r ≡ upTo (grouped order group (now (b .entry))) from to ⌝ }

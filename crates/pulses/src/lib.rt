@@ -1,10 +1,10 @@
-// The pulses of symbols: captured slots back to symbols, with question 10. A symbol below M is M slots with one pulse, and M/4 guard slots behind them.
+// The pulses of symbols: slots back to symbols, with question 10. A symbol below M is M slots with one pulse, followed by M/4 guard slots.
 pub mod groups;
 pub mod numbers;
 
 ghost use mathlib.Core.Path.{_≡_};
 ghost use Prim.Native.Nat.{_<_};
-ghost use Rattle.pulses.specs.Needs.{Held};
+ghost use Rattle.pulses.specs.Inner.{Held};
 ghost use Rattle.pulses.specs.Pulses.{symbolIn};
 
 // The symbol of group s, or M where it has none.

@@ -1,13 +1,13 @@
-// Groups as numbers of 64 bits. A group is good only if its number has a single one, and no branch depends on where that stands.
-// A function here that finds no symbol says nothing: the group is then looked at slot by slot.
+// Groups as numbers of 64 bits. A group is good only if its number has a single one, and no branch depends on where that is.
+// A function here that finds no symbol decides nothing: the group is then examined slot by slot.
 ghost use mathlib.Core.Path.{_≡_};
 ghost use mathlib.Core.Bool.{true};
 ghost use Prim.Native.Nat.{ℕ, _+_, _*_, _/_, _-_, _^_, _≤_, _<_};
 ghost use lib.Dec.{eqb};
 ghost use lib.ListN.{length};
-ghost use Rattle.bits.specs.Choice.{bool};
+ghost use Rattle.bits.specs.Basics.{bool};
 ghost use Rattle.bits.specs.Pack.{bitAt};
-ghost use Rattle.pulses.specs.Needs.{Near, Far, Slots};
+ghost use Rattle.pulses.specs.Inner.{Near, Far, Slots};
 ghost use Rattle.pulses.specs.Pulses.{symbolIn};
 
 // The zeros in front of the only one of 64 bits, or 64.
@@ -31,7 +31,7 @@ pub fn none(v: u64) -> usize
     if v == 0 { 1 } else { 0 }
 }
 
-// The symbol of group s where M is at most 32: its slots lie in eight bytes.
+// The symbol of group s where M is at most 32: its slots are within eight bytes.
 fn near(order: usize, group: usize, b: &[u8], s: usize) -> usize
     requires { ⌜ Near order group (now b) s ⌝ }
     ensures { λ r. ⌜ (r < order → symbolIn order group (now (b .entry)) s ≡ r) ⌝ }
@@ -134,7 +134,7 @@ fn seen_far(order: usize, group: usize, b: &[u8], s: usize) -> usize
     64 * zeros + bits::scan::leading(any)
 }
 
-// The symbol of group s, of which is known that it has one. No branch depends on where it stands, so that none waits for a fetch.
+// The symbol of group s, given that it has one. No branch depends on where it is, so that none waits for a fetch.
 pub fn seen(order: usize, group: usize, b: &[u8], s: usize) -> usize
     requires { ⌜ Slots order group (s + 1) (now b) × (symbolIn order group (now b) s < order) ⌝ }
     ensures { λ r. ⌜ r ≡ symbolIn order group (now (b .entry)) s ⌝ }

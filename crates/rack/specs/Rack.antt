@@ -13,16 +13,11 @@ use mathlib.Core.List.{List, [], _∷_}
 use Prim.Native.Nat.{ℕ, _+_, _*_, _/_, _%_}
 use lib.Dec.{ltb, eqb}
 use lib.ListN.{length, getD, drop, replicate}
-use Rattle.bits.specs.Choice.{pick}
-use Rattle.bits.specs.Table.{tab, both}
+use Rattle.bits.specs.Basics.{pick, tab, both}
 use Rattle.answers.specs.declared.Answer.{Answer}
 use Rattle.answers.specs.declared.Answer.the-variants.{Done}
 use Rattle.answers.specs.Answer.{codeOf, ask, then, after}
-use Rattle.questions.specs.Questions.{headerSays}
-
--- the rack at the start
-abbrev pub emptyRack : List ℕ
-emptyRack = replicate 176 0
+use Rattle.header_questions.specs.Questions.{headerSays}
 
 -- ---- entries
 
@@ -98,11 +93,11 @@ headerAsked Drop = Done
 headerAsked (Lend to) = Done
 
 -- 8: is the area 176 bytes, and a slice that a header is read into ten?
-abbrev pub lengthsRight : ℕ → Task → Bool
-lengthsRight areaLength (Load header) = eqb areaLength 176
-lengthsRight areaLength (Read slice) = both (eqb areaLength 176) (eqb (length slice) 10)
-lengthsRight areaLength Drop = eqb areaLength 176
-lengthsRight areaLength (Lend to) = eqb areaLength 176
+abbrev pub rackLengthsRight : ℕ → Task → Bool
+rackLengthsRight areaLength (Load header) = eqb areaLength 176
+rackLengthsRight areaLength (Read slice) = both (eqb areaLength 176) (eqb (length slice) 10)
+rackLengthsRight areaLength Drop = eqb areaLength 176
+rackLengthsRight areaLength (Lend to) = eqb areaLength 176
 
 abbrev pub entryFor : List ℕ → Call → List ℕ
 entryFor area call = entryAt area (call .owner) (call .place)
@@ -113,7 +108,7 @@ says area call =
     (then (ask (placeRight call) 24 0)
     (then (ask (allowed (call .caller) (call .owner) (call .task) (entryFor area call)) 25 0)
     (then (headerAsked (call .task))
-    (ask (lengthsRight (length area) (call .task)) 8 0))))
+    (ask (rackLengthsRight (length area) (call .task)) 8 0))))
 
 -- ---- what is done
 

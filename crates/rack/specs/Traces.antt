@@ -1,30 +1,15 @@
 -- Calls of all missions, one after another, and what one of the missions sees of them.
-use mathlib.Core.Bool.{Bool, true, false, not, _||_}
+use mathlib.Core.Bool.{Bool, _||_}
 use mathlib.Core.List.{List, [], _∷_}
 use Prim.Native.Nat.{ℕ}
 use lib.Dec.{ltb, eqb}
-use Rattle.bits.specs.Choice.{pick}
-use Rattle.bits.specs.Table.{both}
-use Rattle.rack.specs.Rack.{entryAt, lentTo, Task, Load, Read, Drop, Lend, Call, stepOf, Told, toldOf}
+use Rattle.bits.specs.Basics.{pick, both}
+use Rattle.rack.specs.Rack.{entryAt, lentTo, Call, stepOf, Told, toldOf}
 
 -- the area after all calls
 unfoldable pub afterAll : List ℕ → List Call → List ℕ
 afterAll area [] = area
 afterAll area (call ∷ calls) = afterAll (stepOf area call) calls
-
--- whether the owner loads or drops place p of mission o; and whether it does so in none of the calls
-abbrev pub loadsOrDrops : Task → Bool
-loadsOrDrops (Load header) = true
-loadsOrDrops (Read slice) = false
-loadsOrDrops Drop = true
-loadsOrDrops (Lend to) = false
-
-unfoldable pub replaces : ℕ → ℕ → Call → Bool
-replaces o p call = both (both (eqb (call .caller) o) (both (eqb (call .owner) o) (eqb (call .place) p))) (loadsOrDrops (call .task))
-
-unfoldable pub untouched : ℕ → ℕ → List Call → Bool
-untouched o p [] = true
-untouched o p (call ∷ calls) = both (not (replaces o p call)) (untouched o p calls)
 
 -- what mission m is told, call by call
 unfoldable pub heard : ℕ → List ℕ → List Call → List Told

@@ -10,12 +10,15 @@ use lib.Dec.{eqb}
 use borrow.Author.Tests.{eqb-true}
 use lib.ListN.{length, getD, set, length-set}
 use lib.Seq.{getD-set-same, getD-set-other}
-use Rattle.bits.specs.Choice.{lt-or-le, eq-or-ne}
-use Rattle.bits.specs.Table.{both, both-true}
-use Rattle.bits.specs.Pack.{val, bitAt, bytesOf, bit-lt, val-same, bytes-by-byte}
-use Rattle.bits.specs.Parts.{byte-val, val-plus}
-use Rattle.randomizer.specs.Randomizer.{next, window, sequence, randomize, window-bit, sequence-bits}
-use Rattle.randomizer.specs.Bytes.{Added}
+use Rattle.bits.proofs.Laws.Choice.{lt-or-le, eq-or-ne}
+use Rattle.bits.specs.Basics.{both}
+use Rattle.bits.proofs.Laws.Table.{both-true}
+use Rattle.bits.specs.Pack.{val, bitAt, bytesOf}
+use Rattle.bits.proofs.Laws.Pack.{bit-lt, val-same, bytes-by-byte}
+use Rattle.bits.proofs.Laws.Parts.{byte-val, val-plus}
+use Rattle.randomizer.specs.Randomizer.{next, window, sequence, randomize}
+use Rattle.randomizer.proofs.Laws.Randomizer.{window-bit, sequence-bits}
+use Rattle.randomizer.specs.Inner.{Added}
 
 -- byte i of the sequence
 unfoldable pub sequenceByte : ℕ → ℕ

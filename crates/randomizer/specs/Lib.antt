@@ -1,2 +1,2 @@
 pub mod Randomizer
-pub mod Bytes
+pub mod Inner

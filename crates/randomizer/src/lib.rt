@@ -1,16 +1,16 @@
-// Step 7, the randomizer: the bytes of its sequence are added to those of a slice, one period after the other.
+// Step 7, the randomizer: the bytes of its sequence are added to those of a slice, one period after another.
 ghost use mathlib.Core.Path.{_≡_};
 ghost use Prim.Native.Nat.{_+_, _%_, _≤_};
 ghost use lib.ListN.{length};
 ghost use Rattle.bits.specs.Pack.{bitAt, bytesOf};
 ghost use Rattle.randomizer.specs.Randomizer.{randomize};
-ghost use Rattle.randomizer.specs.Bytes.{Added};
+ghost use Rattle.randomizer.specs.Inner.{Added};
 
 mod table;
 
 use table::PERIOD;
 
-// Adds the sequence to the n bytes from `start` on, at most one period; at `start` it begins anew.
+// Adds the sequence, from its start, to the n bytes from `start` on, at most one period.
 fn add_period(bytes: &mut [u8], start: usize, n: usize)
     requires { ⌜ (start % 255 ≡ 0) × (n ≤ 255) × (start + n ≤ length (now bytes)) ⌝ }
     ensures { λ _. ⌜ Added (now (bytes .entry)) (now (bytes .exit)) start (start + n) ⌝ }

@@ -1,4 +1,4 @@
-// The bytes of the sequence, eight bits each, the first highest. The sequence comes again after 255 bits, and so do its bytes after 255 bytes.
+// The bytes of the sequence, eight bits each, the first highest. The sequence repeats after 255 bits, and so do its bytes after 255 bytes.
 pub const PERIOD: [u8; 255] = [
     0xFF,
     0x48,

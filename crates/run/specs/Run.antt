@@ -5,22 +5,20 @@ use mathlib.Core.List.{List}
 use Prim.Native.Nat.{ℕ, _*_, _<_}
 use lib.ListN.{length}
 use Rattle.answers.specs.declared.Answer.{Answer}
-use Rattle.answers.specs.Answer.{then}
-use Rattle.answers.specs.InOrder.{inOrder}
-use Rattle.sizes.specs.Rate.{infoBits, blockBytes}
-use Rattle.word.specs.Word.{wordOf, blockIn}
-use Rattle.word.specs.Word.{readSays as wordReads}
+use Rattle.answers.specs.Answer.{after, then, inOrder}
+use Rattle.sizes.specs.Sizes.{infoBits, blockBytes}
+use Rattle.word.specs.Word.{wordOf, blockIn, readSays as wordReads}
 use Rattle.header.specs.Header.{fieldsOf}
-use Rattle.quantities.specs.Quantities.{blockCount}
+use Rattle.header_sizes.specs.Quantities.{blockCount}
 use Rattle.header.specs.declared.Fields.{Fields}
 use Rattle.plan.specs.declared.Plan.{Plan}
-use Rattle.plan.specs.Plan.{planIn, symbolCount}
+use Rattle.plan.specs.Plan.{planIn}
 use Rattle.plan.specs.Lengths.{callSays}
-use Rattle.stream.specs.Stream.{streamBit, blockAt}
-use Rattle.frames.specs.Frames.{joined, framesIn, framesSay}
-use Rattle.slots.specs.Slots.{symbolAt, slotsOf}
-use Rattle.capture.specs.Capture.{pooledIn, wordOut}
-use Rattle.capture.specs.Answer.{slotsSay}
+use Rattle.channel.specs.Channel.{symbolCount}
+use Rattle.stream_writer.specs.Stream.{streamBit, blockAt}
+use Rattle.stream_reader.specs.Frames.{joined, framesIn, framesSay}
+use Rattle.slots.specs.Writing.{symbolAt, slotsOf}
+use Rattle.slots.specs.Reading.{pooledIn, wordOut, slotsSay}
 
 -- ---- from frames to slots
 
@@ -37,7 +35,7 @@ runOf header marker frames = slotsOf (planIn header marker) (wordAt (fieldsOf he
 
 -- ---- and back
 
--- the stream that the blocks of the words in captured slots make
+-- the stream that the blocks of the words in slots make
 unfoldable pub streamIn : Fields → (ℕ → List ℕ) → ℕ → ℕ
 streamIn f word = joined (f .rate) (λ j. blockIn (f .rate) (word j))
 
@@ -50,7 +48,7 @@ framesRead header marker slots = framesOf (fieldsOf header) (wordOut (planIn hea
 -- the pooled symbols in slots are those of the run of these frames
 abbrev pub PoolsTo : List ℕ → List ℕ → List ℕ → List ℕ → Type 0
 PoolsTo header marker slots frames =
-    (s : ℕ) → s < symbolCount (planIn header marker) → pooledIn (planIn header marker) slots s ≡ symbolAt (planIn header marker) (wordAt (fieldsOf header) frames) s
+    (s : ℕ) → s < symbolCount (planIn header marker .layout) → pooledIn (planIn header marker) slots s ≡ symbolAt (planIn header marker) (wordAt (fieldsOf header) frames) s
 
 -- ---- the questions
 
@@ -76,3 +74,10 @@ writeSays header marker frames slotsLength = callSays header marker (length fram
 unfoldable pub readSays : List ℕ → List ℕ → List ℕ → ℕ → Answer
 readSays header marker slots framesLength =
     then (callSays header marker framesLength (length slots)) (bufferSays (fieldsOf header) (planIn header marker) slots)
+
+-- what the slice lent for the result holds afterwards: the result on acceptance, otherwise what it held
+abbrev pub slotsAfter : List ℕ → List ℕ → List ℕ → List ℕ → List ℕ
+slotsAfter header marker frames old = after (writeSays header marker frames (length old)) (runOf header marker frames) old
+
+abbrev pub framesAfter : List ℕ → List ℕ → List ℕ → List ℕ → List ℕ
+framesAfter header marker slots old = after (readSays header marker slots (length old)) (framesRead header marker slots) old

@@ -1,1 +1,1 @@
-// Runs: the definitions and laws that the run writer and the run reader stand on. There is no code here.
+// Runs: the definitions and laws that the run writer and the run reader rest on. There is no code here.

@@ -8,35 +8,35 @@ use native.Mathlib.Omega.{arith}
 use lib.Dec.{eqb}
 use lib.ListN.{length, getD, replicate, length-replicate, getD-replicate, List·getD-eq-default}
 use borrow.Author.Tests.{eq-eqb}
-use Rattle.bits.specs.Choice.{lt-or-le}
-use Rattle.bits.specs.First.{upTo, first-same, up-to-le}
+use Rattle.bits.proofs.Laws.Choice.{lt-or-le}
+use Rattle.bits.specs.Basics.{upTo}
+use Rattle.bits.proofs.Laws.First.{first-same, up-to-le}
+use Rattle.bits.specs.Pack.{piece}
 use Rattle.answers.specs.declared.Answer.{Answer}
 use Rattle.answers.specs.declared.Answer.the-variants.{Done}
-use Rattle.answers.specs.Answer.{then, ask, isDone, numberOf}
-use Rattle.answers.specs.InOrder.{inOrder, firstRefused}
+use Rattle.answers.specs.Answer.{then, ask, isDone, numberOf, inOrder, firstRefused}
 use Rattle.answers.proofs.Refused.{Refusal, stands}
-use Rattle.sizes.specs.Rate.{infoBits, blockBytes, by-rate}
-use Rattle.word.specs.Word.{blockIn}
-use Rattle.word.specs.Word.{readSays as wordReads}
-use Rattle.quantities.specs.Quantities.{blockCount}
-use Rattle.quantities.specs.Bounds.{blocks-most, blocks-needed, marked-most}
-use Rattle.quantities.specs.Valid.{Valid}
+use Rattle.sizes.specs.Sizes.{infoBits, blockBytes, wordBytes}
+use Rattle.sizes.proofs.Laws.Rate.{by-rate}
+use Rattle.word.specs.Word.{blockIn, readSays as wordReads}
+use Rattle.header_sizes.specs.Quantities.{blockCount}
+use Rattle.header_sizes.specs.Inner.{Valid}
+use Rattle.header_sizes.proofs.Laws.Bounds.{blocks-most, blocks-needed, marked-most}
 use Rattle.header.specs.declared.Fields.{Fields}
 use Rattle.parameters.specs.declared.Parameters.{Parameters}
 use Rattle.plan.specs.declared.Plan.{Plan}
 use Rattle.plan.specs.Plan.{planOf}
-use Rattle.plan.specs.Accepted.{Entered, plan-words}
-use Rattle.frames.specs.Frames.{joined, framesIn, framesSay}
-use Rattle.frames.specs.Blocks.{joined-same}
-use Rattle.frames.specs.Needs.{Judged}
-use Rattle.frames.specs.Same.{say-same, in-same}
-use Rattle.capture.specs.Capture.{wordOut}
-use Rattle.capture.specs.Answer.{slotsSay}
-use Rattle.capture.specs.Needs.{Captured, Cleared}
+use Rattle.plan.specs.Inner.{Entered}
+use Rattle.plan.proofs.Laws.Accepted.{plan-words}
+use Rattle.stream_reader.specs.Frames.{joined, framesIn, framesSay}
+use Rattle.stream_reader.proofs.Laws.Blocks.{joined-same}
+use Rattle.stream_reader.specs.Inner.{Judged}
+use Rattle.stream_reader.proofs.Laws.Same.{say-same, in-same}
+use Rattle.slots.specs.Reading.{wordOut, slotsSay}
+use Rattle.slots.specs.Inner.{RunSlots}
+use Rattle.slots_places.specs.Inner.{Cleared}
 use Rattle.run.specs.Run.{streamIn, framesOf, wordSays, wordsSay, streamSays, bufferSays}
-use Rattle.run.specs.Return.{fit}
-use Rattle.bits.specs.Pieces.{piece}
-use Rattle.sizes.specs.Sizes.{wordBytes}
+use Rattle.run.proofs.Laws.Return.{fit}
 
 -- the bytes of as many packed blocks as any rate can have
 few-blocks : (rate : ℕ) → rate < 3 → (c : ℕ) → (c - 1) * infoBits rate < 1050624 → c * blockBytes rate ≤ 131880
@@ -45,14 +45,6 @@ few-blocks = by-rate (λ (r : ℕ). (c : ℕ) → (c - 1) * infoBits r < 1050624
 
 pub most-blocks : (f : Fields) → Valid f → blockCount f * blockBytes (f .rate) ≤ 131880
 most-blocks f v = few-blocks (f .rate) (v .rate) (blockCount f) (omega (arith, blocks-needed f v, marked-most f v))
-
--- a room that holds nothing yet
-pub empty-room : (n k : ℕ) → getD (replicate {A = ℕ} n 0) k 0 ≡ 0
-empty-room n k =
-    ⊎-elim
-    (λ (l : k < n). getD-replicate {A = ℕ} n k 0 0 l)
-    (λ (l : n ≤ k). let e = length-replicate {A = ℕ} n 0 in List·getD-eq-default (replicate {A = ℕ} n 0) 0 (let past : length (replicate {A = ℕ} n 0) ≤ k = omega arith in past))
-    (lt-or-le k n)
 
 -- what questions 16 and 18 are put to
 pub frames-judged : (f : Fields) → Valid f → (pieces : ℕ) (blocks : List ℕ) → pieces ≡ blockCount f → blockCount f * blockBytes (f .rate) ≤ length blocks → Judged (f .rate) pieces (f .size) (f .frames) blocks
@@ -91,17 +83,17 @@ words-same f word other h =
 
 -- a plan that is the header's
 module _ (q : Parameters) (p : Plan) (ep : p ≡ planOf q) (slots : List ℕ) where
-  pub plan-captured : {n : ℕ} → Entered q n (length slots) → Captured p slots
-  plan-captured r = rw ep (record { fine = r .fine; long = r .slots-are })
+  pub plan-slots : {n : ℕ} → Entered q n (length slots) → RunSlots p slots
+  plan-slots r = rw ep (record { fine = r .fine; long = r .slots-are })
 
-  plan-count : p .words ≡ blockCount (q .fields)
-  plan-count = ap (λ (x : Plan). x .words) ep ∙ plan-words q
+  plan-count : p .layout .words ≡ blockCount (q .fields)
+  plan-count = ap (λ (x : Plan). x .layout .words) ep ∙ plan-words q
 
   pub plan-cleared : (words : List ℕ) → blockCount (q .fields) * wordBytes < length words → ((k : ℕ) → getD words k 0 ≡ 0) → Cleared p words
   plan-cleared words fits empty = record { room = let e = plan-count in omega arith; empty = empty }
 
   -- the words that were taken out
-  pub plan-taken : (words : List ℕ) → ((j : ℕ) → j < p .words → piece wordBytes words j ≡ wordOut p slots j) → (j : ℕ) → j < blockCount (q .fields) → piece wordBytes words j ≡ wordOut p slots j
+  pub plan-taken : (words : List ℕ) → ((j : ℕ) → j < p .layout .words → piece wordBytes words j ≡ wordOut p slots j) → (j : ℕ) → j < blockCount (q .fields) → piece wordBytes words j ≡ wordOut p slots j
   plan-taken words h j l = h j (let e = plan-count in omega arith)
 
   -- a refusal by questions 9 to 12

@@ -8,19 +8,18 @@ ghost use Prim.Native.Nat.{ℕ, _*_, _≤_, _<_};
 ghost use lib.ListN.{length};
 ghost use Rattle.answers.specs.declared.Answer.the-variants.{Done};
 ghost use Rattle.answers.specs.Answer.{after};
-ghost use Rattle.sizes.specs.Rate.{infoBits, blockBytes};
+ghost use Rattle.sizes.specs.Sizes.{infoBits, blockBytes, wordBytes};
 ghost use Rattle.word.specs.Word.{blockIn};
-ghost use Rattle.quantities.specs.Quantities.{blockCount};
-ghost use Rattle.plan.specs.Accepted.{Entered};
+ghost use Rattle.header_sizes.specs.Quantities.{blockCount};
+ghost use Rattle.plan.specs.Inner.{Entered};
 ghost use Rattle.plan.specs.Plan.{planOf};
-ghost use Rattle.frames.specs.Frames.{joined, framesIn, framesSay};
-ghost use Rattle.capture.specs.Capture.{wordOut};
-ghost use Rattle.bits.specs.Pieces.{piece};
-ghost use Rattle.sizes.specs.Sizes.{wordBytes};
+ghost use Rattle.stream_reader.specs.Frames.{joined, framesIn, framesSay};
+ghost use Rattle.slots.specs.Reading.{wordOut};
+ghost use Rattle.bits.specs.Pack.{piece};
 ghost use Rattle.run.specs.Run.{wordSays, wordsSay, framesOf, framesRead, bufferSays, readSays};
-ghost use Rattle.run_reader.specs.Needs.{ReadsWord, ReadsWords, Reads, Finishes};
+ghost use Rattle.run_reader.specs.Inner.{ReadsWord, ReadsWords, Reads, Finishes};
 
-// Questions 13 to 15 of word j of those that lie back to back, and its block.
+// Questions 13 to 15 of word j of those back to back, and its block.
 fn read_word(f: Fields, words: &[u8], j: usize, block: &mut [u8]) -> Answer
     requires { ⌜ ReadsWord f (now words) j (now block) ⌝ }
     ensures { λ r. ⌜ r ≡ wordSays f (piece wordBytes (now (words .entry))) j ⌝ }
@@ -29,7 +28,7 @@ fn read_word(f: Fields, words: &[u8], j: usize, block: &mut [u8]) -> Answer
     let rate = f.rate;
     let at = j * sizes::WORD_BYTES;
     let end = at + sizes::WORD_BYTES;
-    word::read(rate, &words[at..end], block)
+    word_reader::read(rate, &words[at..end], block)
 }
 
 // Questions 13 to 15 of one word after another, and the blocks.
@@ -38,7 +37,7 @@ fn read_words(f: Fields, words: &[u8], blocks: &mut [u8]) -> Answer
     ensures { λ r. ⌜ r ≡ wordsSay f (piece wordBytes (now (words .entry))) ⌝ }
     ensures { λ r. ⌜ (r ≡ Done → (j : ℕ) → j < blockCount f → piece (blockBytes (f .rate)) (now (blocks .exit)) j ≡ blockIn (f .rate) (piece wordBytes (now (words .entry)) j)) ⌝ }
 {
-    let n = quantities::block_count(f);
+    let n = header_sizes::block_count(f);
     let h = sizes::block_bytes(f.rate);
     let mut j = 0;
     while j < n {
@@ -62,17 +61,17 @@ fn finish(f: Fields, blocks: &[u8], frames: &mut [u8]) -> Answer
     let rate = f.rate;
     let size = f.size;
     let count = f.frames;
-    let pieces = quantities::block_count(f);
-    let answer = frames::questions::judge(rate, blocks, pieces, size, count);
+    let pieces = header_sizes::block_count(f);
+    let answer = stream_reader::questions::frames_say(rate, blocks, pieces, size, count);
     let Answer::Done = answer else {
         return answer;
     };
-    frames::back::frames_out(rate, blocks, pieces, size, count, frames);
+    stream_reader::back::frames_out(rate, blocks, pieces, size, count, frames);
     answer
 }
 
-// The questions put to slots of the right length, and the frames. `words` and `blocks` are room for
-// all words and for all blocks.
+// The questions of slots of the right length, and the frames. `words` and `blocks` are buffers for all
+// words and for all blocks.
 fn read_in(
     q: Parameters,
     slots: &[u8],
@@ -85,7 +84,7 @@ fn read_in(
     ensures { λ r. ⌜ now (frames .exit) ≡ after r (framesOf (q .fields) (wordOut (planOf q) (now (slots .entry)))) (now (frames .entry)) ⌝ }
 {
     let f = q.fields;
-    let found = capture::judge(plan::plan_of(q), slots, words);
+    let found = slots_reader::slots_say(plan::plan_of(q), slots, words);
     let Answer::Done = found else {
         return found;
     };
@@ -96,7 +95,7 @@ fn read_in(
     finish(f, blocks, frames)
 }
 
-// With room for as many words and blocks as a run can have.
+// With buffers for as many words and blocks as a run can have.
 fn read_many(q: Parameters, slots: &[u8], frames: &mut [u8]) -> Answer
     requires { ⌜ Entered q (length (now frames)) (length (now slots)) ⌝ }
     ensures { λ r. ⌜ r ≡ bufferSays (q .fields) (planOf q) (now (slots .entry)) ⌝ }
@@ -107,7 +106,7 @@ fn read_many(q: Parameters, slots: &[u8], frames: &mut [u8]) -> Answer
     read_in(q, slots, &mut words, &mut blocks, frames)
 }
 
-// With room for sixteen, of which little has to be cleared.
+// With buffers for sixteen, which take little clearing.
 fn read_few(q: Parameters, slots: &[u8], frames: &mut [u8]) -> Answer
     requires { ⌜ Entered q (length (now frames)) (length (now slots)) × (blockCount (q .fields) ≤ 16) ⌝ }
     ensures { λ r. ⌜ r ≡ bufferSays (q .fields) (planOf q) (now (slots .entry)) ⌝ }
@@ -118,14 +117,14 @@ fn read_few(q: Parameters, slots: &[u8], frames: &mut [u8]) -> Answer
     read_in(q, slots, &mut words, &mut blocks, frames)
 }
 
-// With room for the words and the blocks.
+// With buffers for the words and the blocks.
 fn read_with(q: Parameters, slots: &[u8], frames: &mut [u8]) -> Answer
     requires { ⌜ Entered q (length (now frames)) (length (now slots)) ⌝ }
     ensures { λ r. ⌜ r ≡ bufferSays (q .fields) (planOf q) (now (slots .entry)) ⌝ }
     ensures { λ r. ⌜ now (frames .exit) ≡ after r (framesOf (q .fields) (wordOut (planOf q) (now (slots .entry)))) (now (frames .entry)) ⌝ }
 {
     let f = q.fields;
-    if quantities::block_count(f) <= 16 {
+    if header_sizes::block_count(f) <= 16 {
         return read_few(q, slots, frames);
     }
     read_many(q, slots, frames)

@@ -6,24 +6,25 @@ use native.Mathlib.Omega.{arith}
 use lib.ListN.{length}
 use Rattle.answers.specs.declared.Answer.{Answer}
 use Rattle.answers.specs.Answer.{after}
-use Rattle.word.specs.Word.{Packed, wordOf}
-use Rattle.word.specs.Word.{writeSays as wordWrites}
-use Rattle.word.specs.Exports.{packed-written}
-use Rattle.quantities.specs.Quantities.{blockCount, frameBytes}
-use Rattle.quantities.specs.Valid.{Valid}
+use Rattle.word.proofs.Laws.Word.{Packed}
+use Rattle.word.specs.Word.{wordOf, writeSays as wordWrites}
+use Rattle.word.proofs.Laws.Exports.{packed-written}
+use Rattle.header_sizes.specs.Quantities.{blockCount, frameBytes}
+use Rattle.header_sizes.specs.Inner.{Valid}
 use Rattle.header.specs.declared.Fields.{Fields}
 use Rattle.parameters.specs.declared.Parameters.{Parameters}
 use Rattle.plan.specs.declared.Plan.{Plan}
-use Rattle.plan.specs.Plan.{planOf, Fine, slotBytes}
-use Rattle.plan.specs.Accepted.{plan-words}
-use Rattle.stream.specs.Stream.{streamBit, blockAt}
-use Rattle.stream.specs.Laws.{stream-bits, block-packed}
-use Rattle.stream.specs.Needs.{Frames}
-use Rattle.slots.specs.Slots.{slotsOf}
-use Rattle.slots.specs.Needs.{Lent}
-use Rattle.slots.specs.Laws.{slots-same}
+use Rattle.plan.specs.Plan.{planOf}
+use Rattle.plan.specs.Inner.{Fine, slotBytes}
+use Rattle.plan.proofs.Laws.Accepted.{plan-words}
+use Rattle.stream_writer.specs.Stream.{streamBit, blockAt}
+use Rattle.stream_writer.proofs.Laws.Stream.{stream-bits, block-packed}
+use Rattle.stream_writer.specs.Inner.{Frames}
+use Rattle.slots.specs.Writing.{slotsOf}
+use Rattle.slots.specs.Inner.{Lent}
+use Rattle.slots.proofs.Laws.Slots.{slots-same}
 use Rattle.run.specs.Run.{streamOf, wordAt}
-use Rattle.bits.specs.Pieces.{piece}
+use Rattle.bits.specs.Pack.{piece}
 use Rattle.sizes.specs.Sizes.{wordBytes}
 
 -- a packed block is always written
@@ -48,7 +49,7 @@ frames-lent f v frames e =
 -- the plan, as steps 8 to 10 ask for it
 pub plan-lent : (q : Parameters) (p : Plan) (words slots : List ℕ) → p ≡ planOf q → Fine (planOf q) → blockCount (q .fields) * wordBytes ≤ length words → length slots ≡ slotBytes (planOf q) → Lent p words slots
 plan-lent q p words slots e fine lw ls =
-    let enough : planOf q .words * wordBytes ≤ length words = omega (arith, plan-words q) in
+    let enough : planOf q .layout .words * wordBytes ≤ length words = omega (arith, plan-words q) in
     rw e (record { given = record { fine = fine; long = enough }; room = ls })
 
 -- the slots of words that stand back to back

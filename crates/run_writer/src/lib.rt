@@ -6,13 +6,13 @@ ghost use mathlib.Core.Path.{_≡_};
 ghost use Prim.Native.Nat.{ℕ, _≤_, _<_};
 ghost use lib.ListN.{length};
 ghost use Rattle.answers.specs.Answer.{after};
-ghost use Rattle.quantities.specs.Quantities.{blockCount};
-ghost use Rattle.plan.specs.Accepted.{Entered};
+ghost use Rattle.header_sizes.specs.Quantities.{blockCount};
+ghost use Rattle.plan.specs.Inner.{Entered};
 ghost use Rattle.plan.specs.Plan.{planOf};
-ghost use Rattle.slots.specs.Slots.{slotsOf};
+ghost use Rattle.slots.specs.Writing.{slotsOf};
 ghost use Rattle.run.specs.Run.{wordAt, runOf, writeSays};
-ghost use Rattle.run_writer.specs.Needs.{Codes, CodesAll, Writes};
-ghost use Rattle.bits.specs.Pieces.{piece};
+ghost use Rattle.run_writer.specs.Inner.{Codes, CodesAll, Writes};
+ghost use Rattle.bits.specs.Pack.{piece};
 ghost use Rattle.sizes.specs.Sizes.{wordBytes};
 
 // Word j of the frames: its block, coded. `space` is for a packed block of any rate.
@@ -24,8 +24,8 @@ fn code_word(f: Fields, frames: &[u8], j: usize, space: &mut [u8], word: &mut [u
     let size = f.size;
     let count = f.frames;
     let h = sizes::block_bytes(rate);
-    stream::blocks::fill_block(rate, frames, size, count, j, &mut space[..h]);
-    word::write(rate, &space[..h], word);
+    stream_writer::blocks::fill_block(rate, frames, size, count, j, &mut space[..h]);
+    word_writer::write(rate, &space[..h], word);
 }
 
 // All of them, back to back.
@@ -33,7 +33,7 @@ fn code_words(f: Fields, frames: &[u8], space: &mut [u8], words: &mut [u8])
     requires { ⌜ CodesAll f (now frames) (now space) (now words) ⌝ }
     ensures { λ _. ⌜ ((j : ℕ) → j < blockCount f → piece wordBytes (now (words .exit)) j ≡ wordAt f (now (frames .entry)) j) ⌝ }
 {
-    let n = quantities::block_count(f);
+    let n = header_sizes::block_count(f);
     let mut j = 0;
     while j < n {
         let at = j * sizes::WORD_BYTES;
@@ -49,10 +49,10 @@ fn write_in(q: Parameters, frames: &[u8], space: &mut [u8], words: &mut [u8], sl
 {
     let f = q.fields;
     code_words(f, frames, space, words);
-    slots::write(plan::plan_of(q), words, slots);
+    slots_writer::write(plan::plan_of(q), words, slots);
 }
 
-// With room for as many words as a run can have.
+// With a buffer for as many words as a run can have.
 fn write_many(q: Parameters, frames: &[u8], slots: &mut [u8])
     requires { ⌜ Entered q (length (now frames)) (length (now slots)) ⌝ }
     ensures { λ _. ⌜ now (slots .exit) ≡ slotsOf (planOf q) (wordAt (q .fields) (now (frames .entry))) ⌝ }
@@ -62,7 +62,7 @@ fn write_many(q: Parameters, frames: &[u8], slots: &mut [u8])
     write_in(q, frames, &mut space, &mut words, slots)
 }
 
-// With room for sixteen words, of which little has to be cleared.
+// With a buffer for sixteen words, which takes little clearing.
 fn write_few(q: Parameters, frames: &[u8], slots: &mut [u8])
     requires { ⌜ Entered q (length (now frames)) (length (now slots)) × (blockCount (q .fields) ≤ 16) ⌝ }
     ensures { λ _. ⌜ now (slots .exit) ≡ slotsOf (planOf q) (wordAt (q .fields) (now (frames .entry))) ⌝ }
@@ -72,13 +72,13 @@ fn write_few(q: Parameters, frames: &[u8], slots: &mut [u8])
     write_in(q, frames, &mut space, &mut words, slots)
 }
 
-// The slots of the frames, with room for their words.
+// The slots of the frames, with a buffer for their words.
 fn write_with(q: Parameters, frames: &[u8], slots: &mut [u8])
     requires { ⌜ Entered q (length (now frames)) (length (now slots)) ⌝ }
     ensures { λ _. ⌜ now (slots .exit) ≡ slotsOf (planOf q) (wordAt (q .fields) (now (frames .entry))) ⌝ }
 {
     let f = q.fields;
-    if quantities::block_count(f) <= 16 {
+    if header_sizes::block_count(f) <= 16 {
         write_few(q, frames, slots);
     } else {
         write_many(q, frames, slots);

@@ -10,7 +10,8 @@ use lib.Dec.{ltb}
 use lib.ListN.{length, length-append}
 use borrow.Author.Tests.{lt-ltb, le-ltb}
 use Rattle.io.specs.Digits.{digits, Fewest}
-use Rattle.bits.specs.Choice.{pick, lt-or-le}
+use Rattle.bits.specs.Basics.{pick}
+use Rattle.bits.proofs.Laws.Choice.{lt-or-le}
 use Rattle.sheet.specs.Text.{digit, decimalIn, decimal}
 
 decimal-in-short : (k n : ℕ) → length (decimalIn k n) ≤ k

@@ -9,11 +9,12 @@ use lib.ListN.{length, getD, take, drop, set, length-append, length-take, length
 use lib.Seq.{take-suc, take-suc-set, drop-cons, length-take-le}
 use Rattle.io.specs.Counts.{Counts}
 use Rattle.header.specs.Header.{fieldsOf}
-use Rattle.questions.specs.Questions.{headerSays}
+use Rattle.header_questions.specs.Questions.{headerSays}
 use Rattle.answers.specs.Answer.{numberOf}
 use Rattle.answers.specs.declared.Answer.{Answer}
 use Rattle.answers.specs.declared.Answer.the-variants.{Done, No}
-use Rattle.sheet.specs.Text.{decimal, space, newline, item, items, Put}
+use Rattle.sheet.specs.Text.{decimal, space, newline, item, items}
+use Rattle.sheet.specs.Inner.{Put}
 use Rattle.sheet.specs.Line.{runLine, noLine, lineFor, lineOf, Printed}
 use Rattle.sheet.proofs.Decimals.{decimal-short}
 

@@ -3,10 +3,10 @@ use mathlib.Core.Path.{_≡_}
 use mathlib.Core.List.{List, [], _∷_, _++_}
 use Prim.Native.Nat.{ℕ}
 use lib.ListN.{length, take}
-use Rattle.sizes.specs.Rate.{inputsPer, codedPer}
+use Rattle.sizes.specs.Sizes.{inputsPer, codedPer}
 use Rattle.header.specs.Header.{fieldsOf}
-use Rattle.quantities.specs.Quantities.{pulseOrder, blockCount, sentSymbols, slotCount}
-use Rattle.questions.specs.Questions.{headerSays}
+use Rattle.header_sizes.specs.Quantities.{pulseOrder, blockCount, sentSymbols, slotCount}
+use Rattle.header_questions.specs.Questions.{headerSays}
 use Rattle.header.specs.declared.Fields.{Fields}
 use Rattle.answers.specs.declared.Answer.{Answer}
 use Rattle.answers.specs.declared.Answer.the-variants.{Done, No}
@@ -32,11 +32,11 @@ abbrev pub lineFor : Answer → Fields → List ℕ
 lineFor Done f = runLine f
 lineFor (No number place) f = noLine number
 
--- the questions that `runsheet` puts, and what it prints
+-- the questions that `runsheet` asks, and what it prints
 unfoldable pub lineOf : List ℕ → List ℕ
 lineOf header = lineFor (headerSays header) (fieldsOf header)
 
--- what stands at the start of the lent bytes
+-- what the slice begins with
 pub record Printed (header out : List ℕ) (n : ℕ) : Type 0 where
   pub count : n ≡ length (lineOf header)
   pub text : take n out ≡ lineOf header

@@ -1,10 +1,8 @@
--- Text in ASCII: numbers in decimal, and what is put into the lent bytes.
-use mathlib.Core.Path.{_≡_}
+-- Text in ASCII: numbers in decimal, and what is written into the slice.
 use mathlib.Core.List.{List, [], _∷_, _++_}
 use Prim.Native.Nat.{ℕ, zero, suc, _+_, _/_, _%_}
 use lib.Dec.{ltb}
-use lib.ListN.{length, take}
-use Rattle.bits.specs.Choice.{pick}
+use Rattle.bits.specs.Basics.{pick}
 
 -- the digit d
 abbrev pub digit : ℕ → ℕ
@@ -25,7 +23,7 @@ space = 32
 abbrev pub newline : ℕ
 newline = 10
 
--- a number behind a space
+-- a space and a number
 unfoldable pub item : ℕ → List ℕ
 item n = space ∷ decimal n
 
@@ -33,8 +31,3 @@ item n = space ∷ decimal n
 unfoldable pub items : List ℕ → List ℕ
 items [] = newline ∷ []
 items (n ∷ ns) = item n ++ items ns
-
--- a piece of text was put at `at`, and ends before `next`; what stood before it is as it was
-pub record Put (before : List ℕ) (at : ℕ) (piece after : List ℕ) (next : ℕ) : Type 0 where
-  pub next-is : next ≡ at + length piece
-  pub text : take next after ≡ take at before ++ piece

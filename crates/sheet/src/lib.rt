@@ -3,13 +3,13 @@ mod text;
 
 use answers::Answer;
 use header::Fields;
-use header::layout;
+use header::form;
 ghost use mathlib.Core.Path.{_≡_};
 ghost use Prim.Native.Nat.{_≤_, _<_};
 ghost use lib.ListN.{length};
 ghost use Rattle.io.specs.Counts.{Counts};
-ghost use Rattle.quantities.specs.Valid.{Valid};
-ghost use Rattle.sheet.specs.Text.{Put};
+ghost use Rattle.header_sizes.specs.Inner.{Valid};
+ghost use Rattle.sheet.specs.Inner.{Put};
 ghost use Rattle.sheet.specs.Line.{rateText, runNumbers, runLine, noLine, Printed};
 
 // The code rate as a fraction.
@@ -29,10 +29,10 @@ fn run_numbers(f: Fields) -> [u64; 10]
     requires { ⌜ Valid f × (f .copies ≤ 32) ⌝ }
     ensures { λ r. ⌜ r ≡ runNumbers f ⌝ }
 {
-    let order = quantities::pulse_order(f) as u64;
-    let blocks = quantities::block_count(f) as u64;
-    let symbols = quantities::sent_symbols(f) as u64;
-    let slots = quantities::slot_count(f) as u64;
+    let order = header_sizes::pulse_order(f) as u64;
+    let blocks = header_sizes::block_count(f) as u64;
+    let symbols = header_sizes::sent_symbols(f) as u64;
+    let slots = header_sizes::slot_count(f) as u64;
     [
         order,
         f.rows as u64,
@@ -75,9 +75,9 @@ pub fn line(header: &[u8], out: &mut [u8]) -> usize
     ensures { λ r. ⌜ Printed (now (header .entry)) (now (out .exit)) r ⌝ }
     ensures { λ r. ⌜ Counts r (now (out .exit)) ⌝ }
 {
-    let answer = questions::header_says(header);
+    let answer = header_questions::header_says(header);
     let Answer::Done = answer else {
         return put_no(answers::number(answer), out);
     };
-    put_run(layout::read(header), out)
+    put_run(form::read(header), out)
 }

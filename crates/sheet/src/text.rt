@@ -1,9 +1,10 @@
-// Text put into a lent slice, piece by piece.
+// Text written into a slice, piece by piece.
 ghost use Prim.Native.Nat.{_+_, _*_, _≤_};
 ghost use lib.ListN.{length};
-ghost use Rattle.sheet.specs.Text.{decimal, item, items, Put};
+ghost use Rattle.sheet.specs.Text.{decimal, item, items};
+ghost use Rattle.sheet.specs.Inner.{Put};
 
-// A piece of text from `at` on. The place behind it is returned.
+// Writes a piece of text from `at` on, and returns the place after it.
 pub fn put(piece: &[u8], at: usize, out: &mut [u8]) -> usize
     requires { ⌜ at + length (now piece) ≤ length (now out) ⌝ }
     ensures { λ r. ⌜ Put (now (out .entry)) at (now (piece .entry)) (now (out .exit)) r ⌝ }
@@ -26,7 +27,7 @@ fn put_decimal(n: u64, at: usize, out: &mut [u8]) -> usize
     put(&text[..k], at, out)
 }
 
-// A number behind a space.
+// A space and a number.
 fn put_item(n: u64, at: usize, out: &mut [u8]) -> usize
     requires { ⌜ at + 21 ≤ length (now out) ⌝ }
     ensures { λ r. ⌜ Put (now (out .entry)) at (item n) (now (out .exit)) r ⌝ }
@@ -35,7 +36,7 @@ fn put_item(n: u64, at: usize, out: &mut [u8]) -> usize
     put_decimal(n, at + 1, out)
 }
 
-// Each number behind a space, and the end of the line.
+// Each number after a space, and the end of the line.
 pub fn put_items(numbers: &[u64], at: usize, out: &mut [u8]) -> usize
     requires { ⌜ at + (21 * length (now numbers) + 1) ≤ length (now out) ⌝ }
     ensures { λ r. ⌜ Put (now (out .entry)) at (items (now (numbers .entry))) (now (out .exit)) r ⌝ }

@@ -1,2 +1,2 @@
-pub mod Rate
 pub mod Sizes
+pub mod Inner

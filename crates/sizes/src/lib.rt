@@ -1,8 +1,8 @@
 // The sizes that several crates share: those of a word, of a marked frame, and of a block at each code rate (0 for 1/3, 1 for 1/2, 2 for 2/3).
 ghost use mathlib.Core.Path.{_≡_};
 ghost use Prim.Native.Nat.{_^_, _<_};
-ghost use Rattle.sizes.specs.Sizes.{span as Sizes·span};
-ghost use Rattle.sizes.specs.Rate.{infoBits, inputBits, blockBytes};
+ghost use Rattle.sizes.specs.Sizes.{span as Sizes·span, infoBits, blockBytes};
+ghost use Rattle.sizes.specs.Inner.{inputBits};
 
 // The coded bits of a word, and its bytes.
 pub const WORD_BITS: usize = 15120;
@@ -28,7 +28,7 @@ const HALF: usize = 7526;
 
 const TWO_THIRDS: usize = 10046;
 
-// The check bits and the termination bits behind a block.
+// The check bits and the termination bits after a block.
 const ADDED: usize = 34;
 
 // k, the bits of an information block.

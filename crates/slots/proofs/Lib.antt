@@ -1,3 +1,1 @@
-pub mod Moves
-pub mod Zeros
-pub mod Lines
+pub mod Laws

@@ -1,5 +1,3 @@
-pub mod Slots
-pub mod Bounds
 pub mod Writing
-pub mod Needs
-pub mod Laws
+pub mod Reading
+pub mod Inner

@@ -1,69 +1,30 @@
--- What the writer's loops keep: slots that hold symbols, group by group. They begin as zeros; then the pulses are moved.
-use mathlib.Core.Path.{_≡_}
-use mathlib.Core.Bool.{Bool}
+-- Steps 8 to 10 of a plan: the definitions of crates `channel` and `pulses` for the plan's layout and numbers. The words are a function: word j is a list of 1,890 bytes.
 use mathlib.Core.List.{List}
-use Prim.Native.Nat.{ℕ, _+_, _-_, _*_, _/_, _%_, _≤_, _<_}
-use lib.Dec.{ltb, eqb}
-use lib.ListN.{length, getD}
-use Rattle.bits.specs.Choice.{pick, bool}
-use Rattle.bits.specs.Pack.{bitAt, Bytes, cut}
+use Prim.Native.Nat.{ℕ, _/_}
+use Rattle.channel.specs.Channel as channel
+use Rattle.pulses.specs.Pulses as pulses
 use Rattle.plan.specs.declared.Plan.{Plan}
-use Rattle.plan.specs.Plan.{unit, slotBytes}
-use Rattle.slots.specs.Slots.{symbolAt}
+use Rattle.plan.specs.Plan.{sent}
 
--- the first `end` bytes hold groups with pulses at f 0, f 1, ..; those behind hold anything
-pub record Groups (p : Plan) (f : ℕ → ℕ) (end : ℕ) (slots : List ℕ) : Type 0 where
-  pub room : length slots ≡ slotBytes p
-  pub bytes : Bytes slots
-  pub bits : (x : ℕ) → x < 8 * end → bitAt slots x ≡ bool (eqb (x % p .group) (f (x / p .group)))
+-- Step 8: symbol t of all words
+abbrev pub dataAt : Plan → (ℕ → List ℕ) → ℕ → ℕ
+dataAt p word t = channel.dataAt (p .bits) (p .layout) word t
 
--- the same, where the groups are the copies of the symbols f 0, f 1, ..
-abbrev pub Holds : Plan → (ℕ → ℕ) → ℕ → List ℕ → Type 0
-Holds p f end slots = Groups p (λ u. f (u / p .copies)) end slots
+-- Step 9: what stands at place x
+abbrev pub placed : Plan → (ℕ → List ℕ) → ℕ → ℕ
+placed p word x = channel.placed (p .layout) (dataAt p word) x
 
--- symbol s, which was 0, is q in all its copies, and the others are as they were
-pub record Moved (p : Plan) (s q : ℕ) (before after : List ℕ) : Type 0 where
-  pub becomes : (f g : ℕ → ℕ) (end : ℕ) → f s ≡ 0 → g s ≡ q → ((u : ℕ) → (u ≡ s → ⊥) → f u ≡ g u) → Holds p f end before → Holds p g end after
+-- Step 10: symbol s, markers counted
+abbrev pub symbolAt : Plan → (ℕ → List ℕ) → ℕ → ℕ
+symbolAt p word s = channel.marked (p .layout) (p .marks) (placed p word) s
 
--- the first n symbols of a run, and zeros behind them
-abbrev pub front : Plan → (ℕ → List ℕ) → ℕ → ℕ → ℕ
-front p word n s = cut n (symbolAt p word) s
+-- each symbol is sent as often as the factor says, one copy after the other
+abbrev pub sentAt : Plan → (ℕ → List ℕ) → ℕ → ℕ
+sentAt p word u = symbolAt p word (u / p .copies)
 
--- the bytes that the slots before line j begin
-abbrev pub lineEnd : Plan → ℕ → ℕ
-lineEnd p j = (j * unit p * p .copies * p .group + 7) / 8
+-- slot x, and all slots, packed
+abbrev pub slotBit : Plan → (ℕ → List ℕ) → ℕ → ℕ
+slotBit p word x = pulses.slotBit (p .group) (sent p) (sentAt p word) x
 
--- ---- zeros
-
--- bytes that repeat every forty
-pub record Repeats (z : List ℕ) : Type 0 where
-  pub least : 40 ≤ length z
-  pub again : (k : ℕ) → k < length z → getD z k 0 ≡ getD z (k % 40) 0
-
--- they stand in the bytes from `from` up to `to`; what stood before is as it was
-pub record Laid (z before : List ℕ) (from to : ℕ) (after : List ℕ) : Type 0 where
-  pub long : length after ≡ length before
-  pub earlier : (k : ℕ) → k < from → getD after k 0 ≡ getD before k 0
-  pub here : (k : ℕ) → from ≤ k → k < to → getD after k 0 ≡ getD z (k % 40) 0
-
--- and they are zeros' slots
-pub record Zeros (group : ℕ) (z : List ℕ) : Type 0 where
-  pub repeats : Repeats z
-  pub slot : (i : ℕ) → i < 320 → bitAt z i ≡ bool (eqb (i % group) 0)
-
--- ---- the places of a line, residue by residue
-
--- how far apart two places are whose pulses are moved one after the other
-unfoldable pub stride : ℕ → ℕ
-stride rows = pick (eqb rows 1) 8 rows
-
--- place y comes before place x of residue r
-unfoldable pub sooner : ℕ → ℕ → ℕ → ℕ → Bool
-sooner n r x y = pick (eqb (y % n) r) (ltb y x) (ltb (y % n) r)
-
--- the symbols before line j, its markers, and those of its places that come before place x of residue r
-unfoldable pub soFar : Plan → (ℕ → List ℕ) → ℕ → ℕ → ℕ → ℕ → ℕ
-soFar p word j r x s =
-    let first : ℕ = j * unit p + p .markers in
-    let y : ℕ = j * p .symbols + (s - first) in
-    cut (first + p .symbols) (λ s. pick (ltb s first) (symbolAt p word s) (pick (sooner (stride (p .rows)) r x y) (symbolAt p word s) 0)) s
+unfoldable pub slotsOf : Plan → (ℕ → List ℕ) → List ℕ
+slotsOf p word = pulses.slotsOf (p .group) (sent p) (sentAt p word)

@@ -10,20 +10,24 @@ use lib.Bits.{bitXor}
 use lib.Dec.{ltb, eqb}
 use lib.ListN.{length, getD, take, replicate, length-take, List·getD-eq-default}
 use lib.Seq.{getD-take}
-use Rattle.bits.specs.Choice.{pick, bool, lt-or-le}
-use Rattle.bits.specs.Sum.{xor-cancel}
-use Rattle.bits.specs.Pack.{bitAt, bytesOf, bit-lt, bytes-same, cut-same}
-use Rattle.bits.specs.Change.{flipBit, flip-bit, length-flip}
-use Rattle.sizes.specs.Rate.{infoBits, inputBits, info-le}
-use Rattle.sizes.specs.Sizes.{wordBytes}
+use Rattle.bits.specs.Basics.{pick, bool}
+use Rattle.bits.proofs.Laws.Choice.{lt-or-le}
+use Rattle.bits.proofs.Laws.Sum.{xor-cancel}
+use Rattle.bits.specs.Pack.{bitAt, bytesOf, flipBit}
+use Rattle.bits.proofs.Laws.Pack.{bit-lt, bytes-same, cut-same}
+use Rattle.bits.proofs.Laws.Change.{flip-bit, length-flip}
+use Rattle.sizes.specs.Sizes.{infoBits, wordBytes}
+use Rattle.sizes.specs.Inner.{inputBits}
+use Rattle.sizes.proofs.Laws.Rate.{info-le}
 use Rattle.crc.specs.Check.{register, checkBit}
-use Rattle.crc.specs.Bytes.{advances, advances-same}
-use Rattle.crc.specs.Difference.{checkedChange, registers-plus}
+use Rattle.crc.specs.Inner.{advances, checkedChange}
+use Rattle.crc.proofs.Laws.Bytes.{advances-same}
+use Rattle.crc.proofs.Laws.Difference.{registers-plus}
 use Rattle.convolution.specs.Code.{encode}
-use Rattle.convolution.specs.Ends.{Ended}
+use Rattle.convolution.specs.Inner.{Ended}
 use Rattle.spread.specs.Spread.{changes, zeroBlock, spreadOf}
-use Rattle.spread.specs.Theorems.{inputChange, changes-are, zero-length}
-use Rattle.spread.specs.Needs.{Changes}
+use Rattle.spread.specs.Inner.{inputChange, Changes}
+use Rattle.spread.proofs.Laws.Spread.{changes-are, zero-length}
 
 -- the front of an array of zeros, past its end too
 zeros : (n i : ℕ) → getD {A = ℕ} (replicate n 0) i 0 ≡ 0

@@ -3,12 +3,12 @@ use mathlib.Core.Path.{_≡_, refl}
 use Prim.Native.Nat.{ℕ, _≤_, _<_}
 use lib.Dec.{ltb, eqb}
 use borrow.Author.Tests.{lt-ltb, le-ltb, eq-eqb, ne-eqb, ltb-true, eqb-true}
-use Rattle.answers.specs.Answer.{ask, then-done, ask-done}
+use Rattle.answers.specs.Answer.{ask}
+use Rattle.answers.proofs.Laws.Answer.{then-done, ask-done}
 use Rattle.answers.specs.declared.Answer.the-variants.{Done, No}
-use Rattle.sizes.specs.Rate.{infoBits}
-use Rattle.sizes.specs.Sizes.{wordBytes}
+use Rattle.sizes.specs.Sizes.{infoBits, wordBytes}
 use Rattle.spread.specs.Spread.{spreadSays}
-use Rattle.spread.specs.Needs.{Marks}
+use Rattle.spread.specs.Inner.{Marks}
 
 module _ (rate b n : ℕ) where
   pub says-rate : 3 ≤ rate → spreadSays rate b n ≡ No 2 0

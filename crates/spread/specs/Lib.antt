@@ -1,5 +1,2 @@
 pub mod Spread
-pub mod Few
-pub mod Theorems
-pub mod Answers
-pub mod Needs
+pub mod Inner

@@ -5,17 +5,16 @@ ghost use mathlib.Core.Path.{_≡_};
 ghost use Prim.Native.Nat.{ℕ, _<_};
 ghost use lib.ListN.{length};
 ghost use Rattle.bits.specs.Pack.{bitAt};
-ghost use Rattle.bits.specs.Table.{tab};
-ghost use Rattle.sizes.specs.Rate.{inputBits};
+ghost use Rattle.bits.specs.Basics.{tab};
+ghost use Rattle.sizes.specs.Inner.{inputBits};
 ghost use Rattle.sizes.specs.Sizes.{wordBits};
 ghost use Rattle.convolution.specs.Code as code;
 ghost use Rattle.answers.specs.Answer.{after};
 ghost use Rattle.spread.specs.Spread.{spreadOf, spreadSays};
-ghost use Rattle.spread.specs.Theorems.{inputChange};
-ghost use Rattle.spread.specs.Needs.{Marks, Changes, Codes};
+ghost use Rattle.spread.specs.Inner.{inputChange, Marks, Changes, Codes};
 
 // Questions 2, 8 and 27.
-fn judge(rate: u64, bit: u64, places_length: usize) -> Answer
+fn spread_says(rate: u64, bit: u64, places_length: usize) -> Answer
     ensures { λ r. ⌜ r ≡ spreadSays rate bit «places_length» ⌝ }
 {
     if 2 < rate {
@@ -31,7 +30,7 @@ fn judge(rate: u64, bit: u64, places_length: usize) -> Answer
     Answer::Done
 }
 
-// The input bits that change: the bit itself, and what it makes of the check. Any block shows that.
+// The input bits that change: the bit itself, and what changes in the check. Any block shows which.
 fn change_input(rate: u64, bit: usize, block: &mut [u8], input: &mut [u8])
     requires { ⌜ Changes rate bit (now block) (now input) ⌝ }
     ensures { λ _. ⌜ ((i : ℕ) → i < inputBits rate → bitAt (now (input .exit)) i ≡ inputChange rate bit i) ⌝ }
@@ -71,7 +70,7 @@ pub fn mark(rate: u64, bit: u64, places: &mut [u8]) -> Answer
     ensures { λ r. ⌜ r ≡ spreadSays rate bit (length (now (places .entry))) ⌝ }
     ensures { λ r. ⌜ now (places .exit) ≡ after r (spreadOf rate bit) (now (places .entry)) ⌝ }
 {
-    let answer = judge(rate, bit, places.len());
+    let answer = spread_says(rate, bit, places.len());
     let Answer::Done = answer else {
         return answer;
     };

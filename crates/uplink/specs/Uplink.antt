@@ -8,12 +8,10 @@ use mathlib.Core.List.{List}
 use Prim.Native.Nat.{ℕ, _+_, _*_, _/_, _%_}
 use lib.Dec.{leb, eqb}
 use lib.ListN.{length}
-use Rattle.bits.specs.Choice.{bool}
-use Rattle.bits.specs.Table.{both}
+use Rattle.bits.specs.Basics.{bool, both, upTo}
 use Rattle.bits.specs.Pack.{val, bitAt, bytesOf}
-use Rattle.bits.specs.First.{upTo}
 use Rattle.answers.specs.declared.Answer.{Answer}
-use Rattle.answers.specs.Answer.{ask, then}
+use Rattle.answers.specs.Answer.{after, ask, then}
 use Rattle.randomizer.specs.Randomizer.{randomize}
 use Rattle.ldpc.specs.Code.{codeword, isCodeword}
 
@@ -23,7 +21,7 @@ use Rattle.ldpc.specs.Code.{codeword, isCodeword}
 abbrev pub frameBit : List ℕ → ℕ → ℕ → ℕ
 frameBit frames i j = bitAt frames (64 * i + j)
 
--- the 128 bits of codeblock i: the codeword of frame i with step 7's sequence, which begins anew
+-- the 128 bits of codeblock i: the codeword of frame i with step 7's sequence added, from its start
 unfoldable pub codeblock : List ℕ → ℕ → ℕ → ℕ
 codeblock frames i = randomize (codeword (frameBit frames i))
 
@@ -55,7 +53,7 @@ group slots g = val (λ t. bitAt slots (4 * g + t)) 4
 unfoldable pub isBit : List ℕ → ℕ → Bool
 isBit slots g = eqb (group slots g) 8 || eqb (group slots g) 4
 
--- the 128 bits of codeblock i with the sequence taken off: a bit is what its second slot says
+-- the 128 bits of codeblock i with the sequence removed: a bit is 1 where its second slot has the pulse
 unfoldable pub received : List ℕ → ℕ → ℕ → ℕ
 received slots i = randomize (λ j. bitAt slots (4 * (128 * i + j) + 1))
 
@@ -64,12 +62,12 @@ framesOf slots = bytesOf (8 * blockCount slots) (λ y. received slots (y / 64) (
 
 -- ---- the questions
 
--- 8: 1 to 64 codeblocks, of 8 frame bytes and 64 slot bytes each?
-unfoldable pub lengthsRight : ℕ → ℕ → ℕ → Bool
-lengthsRight count framesLength slotsLength =
+-- 8: are there 1 to 64 codeblocks, of 8 frame bytes and 64 slot bytes each?
+unfoldable pub uplinkLengthsRight : ℕ → ℕ → ℕ → Bool
+uplinkLengthsRight count framesLength slotsLength =
     both (both (leb 1 count) (leb count 64)) (both (eqb framesLength (8 * count)) (eqb slotsLength (64 * count)))
 
--- 28: is each group a bit? The first that is none, counted over all codeblocks
+-- 28: is each group a bit? The first that is not, counted over all codeblocks
 unfoldable pub firstBadGroup : List ℕ → ℕ
 firstBadGroup slots = upTo (isBit slots) 0 (128 * blockCount slots)
 
@@ -78,13 +76,20 @@ unfoldable pub firstBadBlock : List ℕ → ℕ
 firstBadBlock slots = upTo (λ i. isCodeword (received slots i)) 0 (blockCount slots)
 
 unfoldable pub writeSays : List ℕ → ℕ → Answer
-writeSays frames slotsLength = ask (lengthsRight (frameCount frames) (length frames) slotsLength) 8 0
+writeSays frames slotsLength = ask (uplinkLengthsRight (frameCount frames) (length frames) slotsLength) 8 0
 
 -- 28 and 29, of slots of the right length
-unfoldable pub slotsSay : List ℕ → Answer
-slotsSay slots =
+unfoldable pub uplinkSlotsSay : List ℕ → Answer
+uplinkSlotsSay slots =
     then (ask (eqb (firstBadGroup slots) (128 * blockCount slots)) 28 (firstBadGroup slots))
     (ask (eqb (firstBadBlock slots) (blockCount slots)) 29 (firstBadBlock slots))
 
 unfoldable pub readSays : List ℕ → ℕ → Answer
-readSays slots framesLength = then (ask (lengthsRight (blockCount slots) framesLength (length slots)) 8 0) (slotsSay slots)
+readSays slots framesLength = then (ask (uplinkLengthsRight (blockCount slots) framesLength (length slots)) 8 0) (uplinkSlotsSay slots)
+
+-- what the slice lent for the result holds afterwards: the result on acceptance, otherwise what it held
+abbrev pub uplinkSlotsAfter : List ℕ → List ℕ → List ℕ
+uplinkSlotsAfter frames old = after (writeSays frames (length old)) (slotsOf frames) old
+
+abbrev pub uplinkFramesAfter : List ℕ → List ℕ → List ℕ
+uplinkFramesAfter slots old = after (readSays slots (length old)) (framesOf slots) old

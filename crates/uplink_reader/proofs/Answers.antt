@@ -6,18 +6,18 @@ use Prim.Native.Nat.{ℕ, _*_}
 use lib.ListN.{length}
 use borrow.Author.Tests.{eq-eqb, ne-eqb}
 use Rattle.answers.specs.declared.Answer.the-variants.{Done, No}
-use Rattle.uplink.specs.Uplink.{blockCount, lengthsRight, firstBadGroup, firstBadBlock, slotsSay, readSays}
-use Rattle.uplink.specs.Laws.{lengths-sized}
-use Rattle.uplink.specs.Needs.{Framed, Slotted}
+use Rattle.uplink.specs.Uplink.{blockCount, uplinkLengthsRight, firstBadGroup, firstBadBlock, uplinkSlotsSay, readSays}
+use Rattle.uplink.proofs.Laws.Uplink.{lengths-sized}
+use Rattle.uplink.specs.Inner.{Framed, Slotted}
 
 -- ---- question 8
 
-module _ (slots : List ℕ) (m : ℕ) (t : Bool) (e : t ≡ lengthsRight (blockCount slots) m (length slots)) where
+module _ (slots : List ℕ) (m : ℕ) (t : Bool) (e : t ≡ uplinkLengthsRight (blockCount slots) m (length slots)) where
   pub read-no : t ≡ false → No 8 0 ≡ readSays slots m
   unfolding readSays
   read-no f = rw (← e, f) refl
 
-  pub read-on : t ≡ true → slotsSay slots ≡ readSays slots m
+  pub read-on : t ≡ true → uplinkSlotsSay slots ≡ readSays slots m
   unfolding readSays
   read-on f = rw (← e, f) refl
 
@@ -32,15 +32,15 @@ module _ (slots : List ℕ) (m : ℕ) (t : Bool) (e : t ≡ lengthsRight (blockC
 -- ---- questions 28 and 29
 
 module _ (slots : List ℕ) (count g : ℕ) (n : count ≡ blockCount slots) (e : g ≡ firstBadGroup slots) where
-  pub say-group : (g ≡ 128 * count → ⊥) → No 28 g ≡ slotsSay slots
-  unfolding slotsSay
+  pub say-group : (g ≡ 128 * count → ⊥) → No 28 g ≡ uplinkSlotsSay slots
+  unfolding uplinkSlotsSay
   say-group h = rw (← e, ← n, ne-eqb g (128 * count) h) refl
 
   module _ (h : g ≡ 128 * count) (i : ℕ) (f : i ≡ firstBadBlock slots) where
-    pub say-block : (i ≡ count → ⊥) → No 29 i ≡ slotsSay slots
-    unfolding slotsSay
+    pub say-block : (i ≡ count → ⊥) → No 29 i ≡ uplinkSlotsSay slots
+    unfolding uplinkSlotsSay
     say-block k = rw (← e, ← n, eq-eqb g (128 * count) h, ← f, ne-eqb i count k) refl
 
-    pub say-done : i ≡ count → Done ≡ slotsSay slots
-    unfolding slotsSay
+    pub say-done : i ≡ count → Done ≡ uplinkSlotsSay slots
+    unfolding uplinkSlotsSay
     say-done k = rw (← e, ← n, eq-eqb g (128 * count) h, ← f, eq-eqb i count k) refl

@@ -7,18 +7,21 @@ use native.Mathlib.Omega.{arith}
 use lib.Bits.{bitXor, bitOr, bitAnd, and-mask, mask-lt}
 use lib.Dec.{eqb, eqb→eq}
 use lib.ListN.{getD}
-use Rattle.bits.specs.Choice.{bool}
-use Rattle.bits.specs.Table.{below-all}
-use Rattle.bits.specs.Pack.{val, bitAt, bitOf, bit-lt, val-same, bit-val}
-use Rattle.bits.specs.Parts.{val-plus, push-some}
-use Rattle.bits.specs.Field.{cut-out}
-use Rattle.bits.specs.Stretch.{Laid, laid-on}
-use Rattle.randomizer.specs.Randomizer.{sequence, randomize, sequence-bits}
-use Rattle.ldpc.specs.Code.{parityBit, isCodeword, parity-same}
-use Rattle.ldpc.specs.Exactly.{by-parity}
+use Rattle.bits.specs.Basics.{bool}
+use Rattle.bits.proofs.Laws.Table.{below-all}
+use Rattle.bits.specs.Pack.{val, bitAt, bitOf}
+use Rattle.bits.proofs.Laws.Pack.{bit-lt, val-same, bit-val}
+use Rattle.bits.proofs.Laws.Parts.{val-plus, push-some}
+use Rattle.bits.proofs.Laws.Field.{cut-out}
+use Rattle.bits.specs.Inner.{Laid}
+use Rattle.bits.proofs.Laws.Stretch.{laid-on}
+use Rattle.randomizer.specs.Randomizer.{sequence, randomize}
+use Rattle.randomizer.proofs.Laws.Randomizer.{sequence-bits}
+use Rattle.ldpc.specs.Code.{parityBit, isCodeword}
+use Rattle.ldpc.proofs.Laws.Code.{parity-same}
+use Rattle.ldpc.proofs.Laws.Exactly.{by-parity}
 use Rattle.uplink.specs.Uplink.{group, isBit, received}
-use Rattle.uplink.specs.Laws.{received-bits}
-use Rattle.uplink.specs.Sequence.{first-bits, second-bits}
+use Rattle.uplink.proofs.Laws.Uplink.{received-bits, first-bits, second-bits}
 
 -- ---- a group
 

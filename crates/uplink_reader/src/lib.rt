@@ -8,10 +8,10 @@ ghost use lib.ListN.{length};
 ghost use Rattle.bits.specs.Pack.{val, bitAt};
 ghost use Rattle.answers.specs.Answer.{after};
 ghost use Rattle.ldpc.specs.Code.{isCodeword};
-ghost use Rattle.uplink.specs.Uplink.{isBit, received, framesOf, firstBadGroup, firstBadBlock, slotsSay, readSays};
-ghost use Rattle.uplink.specs.Needs.{Framed, Slotted};
+ghost use Rattle.uplink.specs.Uplink.{isBit, received, framesOf, firstBadGroup, firstBadBlock, uplinkSlotsSay, readSays};
+ghost use Rattle.uplink.specs.Inner.{Framed, Slotted};
 
-// Whether the four slots of group g are a bit: 1000 or 0100, which are 8 and 4. A 1 stands in 272 at just these places.
+// Whether the four slots of group g are a bit: 1000 or 0100, which are 8 and 4. 272 has its ones at exactly these places.
 fn is_bit(slots: &[u8], g: usize) -> bool
     requires { ⌜ g < 2 * length (now slots) ⌝ }
     ensures { λ r. ⌜ r ≡ isBit (now (slots .entry)) g ⌝ }
@@ -20,7 +20,7 @@ fn is_bit(slots: &[u8], g: usize) -> bool
     (272u16 >> group) & 1 == 1
 }
 
-// Question 28: the first group that is no bit, the number of all groups where there is none.
+// Question 28: the first group that is not a bit, or the number of groups.
 fn first_bad_group(slots: &[u8], count: usize) -> usize
     requires { ⌜ Slotted count (now slots) ⌝ }
     ensures { λ g. ⌜ g ≡ firstBadGroup (now (slots .entry)) ⌝ }
@@ -36,7 +36,7 @@ fn first_bad_group(slots: &[u8], count: usize) -> usize
     g
 }
 
-// The bits that a byte of slots has: the second slot of each group.
+// The bits of a byte of slots: the second slot of each group.
 fn two_bits(b: u8) -> u64
     ensures { λ r. ⌜ r ≡ val (λ t. b / 2 ^ (7 - (4 * t + 1)) % 2) 2 ⌝ }
 {
@@ -44,7 +44,7 @@ fn two_bits(b: u8) -> u64
     ((v >> 5) & 2) | ((v >> 2) & 1)
 }
 
-// The 64 bits that the 32 bytes of slots from `at` on have.
+// The 64 bits of the 32 bytes of slots from `at` on.
 fn heard(slots: &[u8], at: usize) -> u64
     requires { ⌜ at + 32 ≤ length (now slots) ⌝ }
     ensures { λ r. ⌜ r ≡ val (λ j. bitAt (now (slots .entry)) (8 * at + (4 * j + 1))) 64 ⌝ }
@@ -75,7 +75,7 @@ fn passes(slots: &[u8], i: usize) -> bool
     ldpc::parity(frame_in(slots, i)) == parity
 }
 
-// Question 29: the first codeblock that fails, their number where none does.
+// Question 29: the first codeblock that fails, or their number.
 fn first_bad_block(slots: &[u8], count: usize) -> usize
     requires { ⌜ Slotted count (now slots) ⌝ }
     ensures { λ i. ⌜ i ≡ firstBadBlock (now (slots .entry)) ⌝ }
@@ -90,10 +90,10 @@ fn first_bad_block(slots: &[u8], count: usize) -> usize
     i
 }
 
-// Questions 28 and 29, each put to all slots.
-fn judge(slots: &[u8], count: usize) -> Answer
+// Questions 28 and 29, each asked of all slots.
+fn uplink_slots_say(slots: &[u8], count: usize) -> Answer
     requires { ⌜ Slotted count (now slots) ⌝ }
-    ensures { λ a. ⌜ a ≡ slotsSay (now (slots .entry)) ⌝ }
+    ensures { λ a. ⌜ a ≡ uplinkSlotsSay (now (slots .entry)) ⌝ }
 {
     let g = first_bad_group(slots, count);
     if g != 128 * count {
@@ -124,10 +124,10 @@ pub fn read(slots: &[u8], frames: &mut [u8]) -> Answer
     ensures { λ r. ⌜ now (frames .exit) ≡ after r (framesOf (now (slots .entry))) (now (frames .entry)) ⌝ }
 {
     let count = slots.len() / 64;
-    if !uplink::lengths_right(count, frames.len(), slots.len()) {
+    if !uplink::uplink_lengths_right(count, frames.len(), slots.len()) {
         return Answer::No(8, 0);
     }
-    let answer = judge(slots, count);
+    let answer = uplink_slots_say(slots, count);
     let Answer::Done = answer else {
         return answer;
     };

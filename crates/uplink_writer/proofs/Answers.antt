@@ -5,11 +5,11 @@ use mathlib.Core.List.{List}
 use Prim.Native.Nat.{ℕ}
 use lib.ListN.{length}
 use Rattle.answers.specs.declared.Answer.the-variants.{Done, No}
-use Rattle.uplink.specs.Uplink.{frameCount, lengthsRight, writeSays}
-use Rattle.uplink.specs.Laws.{lengths-sized}
-use Rattle.uplink.specs.Needs.{Framed, Slotted}
+use Rattle.uplink.specs.Uplink.{frameCount, uplinkLengthsRight, writeSays}
+use Rattle.uplink.proofs.Laws.Uplink.{lengths-sized}
+use Rattle.uplink.specs.Inner.{Framed, Slotted}
 
-module _ (frames : List ℕ) (m : ℕ) (t : Bool) (e : t ≡ lengthsRight (frameCount frames) (length frames) m) where
+module _ (frames : List ℕ) (m : ℕ) (t : Bool) (e : t ≡ uplinkLengthsRight (frameCount frames) (length frames) m) where
   pub write-no : t ≡ false → No 8 0 ≡ writeSays frames m
   unfolding writeSays
   write-no f = rw (← e, f) refl

@@ -6,15 +6,19 @@ use Prim.Native.Nat.{ℕ, _+_, _-_, _*_, _/_, _%_, _^_, _<_}
 use native.Mathlib.Omega.{arith}
 use lib.Bits.{bitXor, bitOr, bitAnd, and-mask}
 use lib.Dec.{eqb}
-use Rattle.bits.specs.Choice.{bool, bit-cases}
-use Rattle.bits.specs.Pack.{Bits, val, bitAt, bitOf, bit-of-lt, val-same, bit-val}
-use Rattle.bits.specs.Parts.{val-plus}
-use Rattle.bits.specs.Stretch.{Laid, laid-on, laid-same}
-use Rattle.randomizer.specs.Randomizer.{sequence, randomize, sequence-bits}
-use Rattle.ldpc.specs.Code.{parityBit, codeword-first, codeword-behind, parity-bits, parity-same}
+use Rattle.bits.specs.Basics.{bool}
+use Rattle.bits.proofs.Laws.Choice.{bit-cases}
+use Rattle.bits.specs.Pack.{Bits, val, bitAt, bitOf}
+use Rattle.bits.proofs.Laws.Pack.{bit-of-lt, val-same, bit-val}
+use Rattle.bits.proofs.Laws.Parts.{val-plus}
+use Rattle.bits.specs.Inner.{Laid}
+use Rattle.bits.proofs.Laws.Stretch.{laid-on, laid-same}
+use Rattle.randomizer.specs.Randomizer.{sequence, randomize}
+use Rattle.randomizer.proofs.Laws.Randomizer.{sequence-bits}
+use Rattle.ldpc.specs.Code.{parityBit}
+use Rattle.ldpc.proofs.Laws.Code.{codeword-first, codeword-behind, parity-bits, parity-same}
 use Rattle.uplink.specs.Uplink.{frameBit, codeblock, sent, slotOf}
-use Rattle.uplink.specs.Sequence.{first-bits, second-bits}
-use Rattle.uplink.specs.Laws.{frame-bits, codeblock-bits, sent-at, slot-same}
+use Rattle.uplink.proofs.Laws.Uplink.{first-bits, second-bits, frame-bits, codeblock-bits, sent-at, slot-same}
 
 -- ---- slots
 

@@ -6,10 +6,10 @@ ghost use mathlib.Core.Path.{_≡_};
 ghost use Prim.Native.Nat.{_+_, _*_, _≤_, _<_};
 ghost use lib.ListN.{length};
 ghost use Rattle.bits.specs.Pack.{val, bitOf};
-ghost use Rattle.bits.specs.Stretch.{Laid};
+ghost use Rattle.bits.specs.Inner.{Laid};
 ghost use Rattle.answers.specs.Answer.{after};
 ghost use Rattle.uplink.specs.Uplink.{codeblock, slotOf, slotsOf, writeSays};
-ghost use Rattle.uplink.specs.Needs.{Framed, Slotted};
+ghost use Rattle.uplink.specs.Inner.{Framed, Slotted};
 
 // Bits 2q and 2q + 1 of v as eight slots.
 fn pair(v: u64, q: usize) -> u8
@@ -61,7 +61,7 @@ pub fn write(frames: &[u8], slots: &mut [u8]) -> Answer
     ensures { λ r. ⌜ now (slots .exit) ≡ after r (slotsOf (now (frames .entry))) (now (slots .entry)) ⌝ }
 {
     let count = frames.len() / 8;
-    if !uplink::lengths_right(count, frames.len(), slots.len()) {
+    if !uplink::uplink_lengths_right(count, frames.len(), slots.len()) {
         return Answer::No(8, 0);
     }
     codeblocks(frames, count, slots);

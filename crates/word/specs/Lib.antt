@@ -1,8 +1,3 @@
 pub mod Word
-pub mod Needs
-pub mod Return
-pub mod Exports
-pub mod Sums
-pub mod Distances
-pub mod Bursts
-pub mod Flips
+pub mod After
+pub mod Inner

@@ -1,5 +1,6 @@
-//! Cases for `run_find` and `run_cut`: markers among slots of several kinds, whole, cut off or with
-//! one slot turned over, and runs at any slot of a capture.
+//! Cases for `mahyrei_run_find`, `mahyrei_run_find_from` and `mahyrei_run_cut`: markers among slots
+//! of several kinds, whole, cut off or with one slot turned over, and runs at any slot of a
+//! capture. Each search of a whole capture is put from some slot on too.
 //!
 //! Whoever makes a capture knows where its marker stands, or that there is none, and the second
 //! implementation is held to that too.
@@ -258,7 +259,7 @@ const KINDS: [Kind; 16] = [
             let known = if marker[more] {
                 Known::At(at)
             } else {
-                Known::Anything // behind the pulse that is one too many
+                Known::Anything // after the pulse that is one too many
             };
             Slots { bits, known }
         },
@@ -319,7 +320,7 @@ const KINDS: [Kind; 16] = [
             bits.push(false);
             bits.extend(&marker[split..]);
             bits.resize(bits.len().div_ceil(8) * 8, false);
-            // whole again where the slot came before its first pulse or behind its last
+            // whole again where the slot came before its first pulse or after its last
             Slots {
                 bits,
                 known: Known::Anything,
@@ -355,7 +356,30 @@ fn compare_find(
         known.numbers(),
         what,
     );
+    compare_find_from(tally, rng, [&header, &sample.marker, capture], found, what);
     found
+}
+
+/// Searches with both from the slot that was found, from one before it and from the next; or, where
+/// none was, from any.
+fn compare_find_from(
+    tally: &mut Tally,
+    rng: &mut Rng,
+    lent: [&[u8]; 3],
+    found: Option<usize>,
+    what: &str,
+) {
+    let Some(found) = found else {
+        let from = rng.below(8 * lent[2].len() + 1) as u64;
+        put_find_from(tally, rng, lent, from, &[19], what);
+        return;
+    };
+    for from in [found, rng.below(found + 1)] {
+        let again = put_find_from(tally, rng, lent, from as u64, &[0], what);
+        assert_eq!(again, Some(found), "{what}: from slot {from}");
+    }
+    let next = put_find_from(tally, rng, lent, found as u64 + 1, &[0, 19], what);
+    assert!(next.is_none_or(|next| next > found), "{what}: the next");
 }
 
 pub(super) fn put_find(
@@ -379,6 +403,42 @@ pub(super) fn put_find(
     tally.compare(rng, case, |inputs, _| {
         library::run_find(inputs[0], inputs[1], inputs[2])
     });
+    // beyond the capture there is none; whatever else is refused is refused from any slot
+    let end = 8 * capture.len() as u64;
+    let far = rng.next() | 1 << 60;
+    let from = rng.pick(&[end, end + 1, far, 1 << 61, u64::MAX - 9, u64::MAX]);
+    let number = if numbers == [0] || numbers == [0, 19] {
+        &[19]
+    } else {
+        numbers
+    };
+    put_find_from(tally, rng, lent, from, number, what);
+}
+
+/// Searches with both from a slot on.
+fn put_find_from(
+    tally: &mut Tally,
+    rng: &mut Rng,
+    lent: [&[u8]; 3],
+    from: u64,
+    numbers: &[u8],
+    what: &str,
+) -> Option<usize> {
+    let [header, marker, capture] = lent;
+    let found = find::find_from(header, marker, capture, from);
+    let case = Case {
+        call: Call::RunFindFrom,
+        inputs: &lent,
+        output_len: 0,
+        place: *found.as_ref().unwrap_or(&0),
+        expected: found.as_ref().map(|_| Vec::new()).map_err(|no| *no),
+        numbers,
+        what: &format!("run_find_from, {what}, slot {from}, header {header:02X?}"),
+    };
+    tally.compare(rng, case, |inputs, _| {
+        library::run_find_from(inputs[0], inputs[1], inputs[2], from)
+    });
+    found.ok()
 }
 
 /// Cuts with both.
@@ -485,7 +545,7 @@ fn refused_calls(
         put_cut(tally, rng, lent, slot, len, &[first], what);
     } else {
         let mut marker = sample.marker.clone();
-        marker.resize(wrong_len(rng, marker.len()), 0xFF); // not looked at behind the W-th
+        marker.resize(wrong_len(rng, marker.len()), 0xFF); // not looked at after the W-th
         let header = sample.header.pack();
         put_find(tally, rng, [&header, &marker, capture], &[8], what);
     }
@@ -535,7 +595,7 @@ const EXAMPLE: Header = Header {
     spare: 0,
 };
 
-/// The example behind some empty slots, found and cut out.
+/// The example after some empty slots, found and cut out.
 pub fn example_capture(tally: &mut Tally, rng: &mut Rng) {
     let sample = &Sample::new(rng, EXAMPLE);
     let at = (1 << 20) + 5;

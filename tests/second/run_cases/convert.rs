@@ -1,5 +1,5 @@
-//! Cases for `header_widen` and `header_narrow`, there and back, and the edges of the factor and
-//! of the zeros behind it, for every call that is lent a header.
+//! Cases for `mahyrei_header_widen` and `mahyrei_header_narrow`, there and back, and the edges of
+//! the factor and of the zeros after it, for every call that is lent a header.
 
 use super::calls::{compare, Arguments};
 use super::captures::{put_cut, put_find};
@@ -149,7 +149,7 @@ fn sound_header(rng: &mut Rng, sizes: &Sizes) -> Header {
 }
 
 /// The header of this index, from either form: sound, there and back; or one that fails the next
-/// question first and, by chance, some of those behind it; or one of any fields.
+/// question first and, by chance, some of those after it; or one of any fields.
 pub fn compare_header(tally: &mut Tally, rng: &mut Rng, sizes: &Sizes, index: u64) {
     let what = format!("header {index}");
     for form in [Form::Eight, Form::Ten] {
@@ -230,7 +230,7 @@ fn put_all(tally: &mut Tally, rng: &mut Rng, header: &[u8], number: u8, what: &s
     put_trip(tally, rng, Form::Ten, header, 0, &[number], what);
 }
 
-/// All values of the byte that has the factor, each single bit behind it, and old headers.
+/// All values of the byte that has the factor, each single bit after it, and old headers.
 pub fn header_edges(tally: &mut Tally, rng: &mut Rng) {
     let ten = EXAMPLE.pack();
     for byte in 0..=255 {

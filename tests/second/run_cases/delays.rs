@@ -192,7 +192,7 @@ impl Beside {
     }
 }
 
-/// A run's symbols through the writer, zeros behind them until all its places are there, and what
+/// A run's symbols through the writer, zeros after them until all its places are there, and what
 /// comes out through the reader: step 9's places, and the symbols again.
 fn compare_line(tally: &mut Tally, rng: &mut Rng, header: Header) {
     let sample = Sample::new(rng, header);

@@ -1,4 +1,5 @@
-//! Cases for `fades_count`: lists of every shape on runs of every kind, whole or broken in one way.
+//! Cases for `mahyrei_fades_count`: lists of every shape on runs of every kind, whole or broken in
+//! one way.
 
 use super::headers::{any_header, some_header, Sizes};
 use super::refusals::{break_header, failed_too};
@@ -133,7 +134,7 @@ fn break_list(rng: &mut Rng, run: &Run, list: &mut Vec<u32>) {
             list.splice(at..at, pair);
         }
         6 => {
-            // one symbol too long: into the next, or behind the run
+            // one symbol too long: into the next, or after the run
             let next = list.get(at + 2).copied().unwrap_or(all);
             list[at + 1] = next - list[at] + 1;
         }
@@ -164,7 +165,7 @@ fn some_run(rng: &mut Rng, sizes: &Sizes, index: u64) -> Header {
 }
 
 /// The list of this index on some run: whole, or with the next question failed first and, by
-/// chance, some of those behind it.
+/// chance, some of those after it.
 pub fn compare_fades(tally: &mut Tally, rng: &mut Rng, sizes: &Sizes, index: u64) {
     let what = format!("fades {index}");
     let mut header = some_run(rng, sizes, index);

@@ -69,7 +69,7 @@ pub(super) fn break_header(rng: &mut Rng, header: &mut Header, number: u8) {
     }
 }
 
-/// The questions behind one that is failed first, some of which are failed too, from the last on:
+/// The questions after one that is failed first, some of which are failed too, from the last on:
 /// so what an earlier one breaks stays broken. The first comes last.
 pub(super) fn failed_too(rng: &mut Rng, order: &[u8], first: u8) -> Vec<u8> {
     let later = order.iter().rev().take_while(|&&number| number != first);

@@ -6,9 +6,10 @@ use native.Mathlib.Omega.{arith}
 use lib.Bits.{and-mask}
 use lib.ListN.{length, length-set}
 use borrow.Author.Needs.{needs}
-use Rattle.bits.specs.Pack.{bitAt, bytes-by-byte}
+use Rattle.bits.specs.Pack.{bitAt}
+use Rattle.bits.proofs.Laws.Pack.{bytes-by-byte}
 use Rattle.accumulator.specs.Accumulator.{accumulate}
-use Rattle.accumulator.specs.Bytes.{SoFar}
+use Rattle.accumulator.specs.Inner.{SoFar}
 use Rattle.accumulator.proofs.Places.{last-bit, so-far-byte}
 use Rattle.accumulator.proofs.accumulate.Statement.{statement}
 use Rattle.accumulator.proofs.accumulate.Tie as tie

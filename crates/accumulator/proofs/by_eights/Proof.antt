@@ -5,7 +5,7 @@ use native.Mathlib.Omega.{arith}
 use lib.Bits.{and-mask, mask-lt}
 use borrow.Author.Needs.{needs}
 use Rattle.bits.specs.Pack.{val, bitOf}
-use Rattle.accumulator.specs.Bytes.{accumulateFrom, SoFar}
+use Rattle.accumulator.specs.Inner.{accumulateFrom, SoFar}
 use Rattle.accumulator.proofs.Places.{so-far-none, last-bit, so-far-eight}
 use Rattle.accumulator.proofs.by_eights.Statement.{statement}
 use Rattle.accumulator.proofs.by_eights.Tie as tie

@@ -7,10 +7,11 @@ use lib.Bits.{and-mask}
 use lib.ListN.{length, getD}
 use borrow.Author.Count.{below-none}
 use borrow.Author.Needs.{needs}
-use Rattle.bits.specs.Table.{fill}
-use Rattle.bits.specs.Pack.{val, bitAt, bit-lt, bytes-by-byte}
+use Rattle.bits.proofs.Laws.Table.{fill}
+use Rattle.bits.specs.Pack.{val, bitAt}
+use Rattle.bits.proofs.Laws.Pack.{bit-lt, bytes-by-byte}
 use Rattle.accumulator.specs.Accumulator.{differentiate}
-use Rattle.accumulator.specs.Bytes.{bitOf, behind, differentiateFrom}
+use Rattle.accumulator.specs.Inner.{bitOf, behind, differentiateFrom}
 use Rattle.accumulator.proofs.Places.{behind-bit, differentiated-byte, given-last}
 use Rattle.accumulator.proofs.differentiate.Statement.{statement}
 use Rattle.accumulator.proofs.differentiate.Tie as tie

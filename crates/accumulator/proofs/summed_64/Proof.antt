@@ -7,13 +7,15 @@ use native.Mathlib.Nat.{div-eq-of-lt, zero-div}
 use lib.Bits.{bitXor, xor-lt, xor-zero-r}
 use lib.Dec.{eqb, eqb→eq, lit<}
 use lib.Pow.{pow-mono, shr-le}
-use Rattle.bits.specs.Choice.{bit-cases}
-use Rattle.bits.specs.Sum.{xor-assoc, xor-digit}
-use Rattle.bits.specs.Table.{below-all}
-use Rattle.bits.specs.Pack.{val, bitOf, val-same, val-bits}
-use Rattle.bits.specs.XorSum.{xorSum, xor-sum-same, xor-sum-none}
-use Rattle.bits.specs.Doubling.{digit, Sums, xor-sum-first, sums-one, sums-twice}
-use Rattle.accumulator.specs.Bytes.{accumulateFrom}
+use Rattle.bits.proofs.Laws.Choice.{bit-cases}
+use Rattle.bits.proofs.Laws.Sum.{xor-assoc, xor-digit}
+use Rattle.bits.proofs.Laws.Table.{below-all}
+use Rattle.bits.specs.Pack.{val, bitOf}
+use Rattle.bits.proofs.Laws.Pack.{val-same, val-bits}
+use Rattle.bits.specs.Count.{xorSum}
+use Rattle.bits.proofs.Laws.XorSum.{xor-sum-same, xor-sum-none}
+use Rattle.bits.proofs.Laws.Doubling.{digit, Sums, xor-sum-first, sums-one, sums-twice}
+use Rattle.accumulator.specs.Inner.{accumulateFrom}
 use Rattle.accumulator.proofs.summed_64.Statement.{statement}
 use Rattle.accumulator.proofs.summed_64.Tie as tie
 

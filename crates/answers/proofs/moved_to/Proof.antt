@@ -1,6 +1,6 @@
 -- By cases.
 use mathlib.Core.Path.{sym, ap}
-use Rattle.answers.specs.Answer.{movedTo}
+use Rattle.answers.specs.Inner.{movedTo}
 use borrow.Author.Needs.{needs}
 use Rattle.answers.proofs.moved_to.Statement.{statement}
 use Rattle.answers.proofs.moved_to.Tie as tie

@@ -5,7 +5,7 @@ use Prim.Native.Nat.{ℕ}
 use native.Mathlib.Omega.{arith}
 use borrow.Author.Needs.{needs}
 use Rattle.bits.specs.Pack.{bitAt}
-use Rattle.bits.specs.Table.{tab}
+use Rattle.bits.specs.Basics.{tab}
 use Rattle.sizes.specs.Sizes.{wordBits}
 use Rattle.convolution.specs.Code.{encode}
 use Rattle.convolution.proofs.Rates.{encodes-third, encodes-half, encodes-two-thirds}

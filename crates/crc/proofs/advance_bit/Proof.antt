@@ -3,7 +3,7 @@ use mathlib.Core.Path.{refl}
 use Prim.Native.Nat.{_/_, _^_, _<_}
 use native.Mathlib.Omega.{arith}
 use lib.Bits.{bitXor}
-use Rattle.bits.specs.Sum.{xor-bit}
+use Rattle.bits.proofs.Laws.Sum.{xor-bit}
 use Rattle.crc.specs.Check.{advance}
 use Rattle.crc.proofs.advance_bit.Statement.{statement}
 use Rattle.crc.proofs.advance_bit.Tie as tie

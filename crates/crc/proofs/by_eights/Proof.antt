@@ -4,9 +4,11 @@ use Prim.Native.Nat.{ℕ, _*_, _-_, _%_, _^_, _≤_}
 use native.Mathlib.Omega.{arith}
 use lib.Bits.{bitXor}
 use borrow.Author.Needs.{needs}
-use Rattle.bits.specs.Pack.{bitAt, bitOf, bit-lt}
-use Rattle.crc.specs.Check.{register, register-lt}
-use Rattle.crc.specs.Bytes.{advances}
+use Rattle.bits.specs.Pack.{bitAt, bitOf}
+use Rattle.bits.proofs.Laws.Pack.{bit-lt}
+use Rattle.crc.specs.Check.{register}
+use Rattle.crc.proofs.Laws.Check.{register-lt}
+use Rattle.crc.specs.Inner.{advances}
 use Rattle.crc.proofs.Ahead.{register-eight}
 use Rattle.crc.proofs.by_eights.Statement.{statement}
 use Rattle.crc.proofs.by_eights.Tie as tie

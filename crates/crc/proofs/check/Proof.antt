@@ -4,7 +4,8 @@ use Prim.Native.Nat.{_-_, _≤_}
 use native.Mathlib.Omega.{arith}
 use native.Mathlib.Numerals.{add-one}
 use borrow.Author.Needs.{needs}
-use Rattle.bits.specs.Pack.{bitAt, bit-lt}
+use Rattle.bits.specs.Pack.{bitAt}
+use Rattle.bits.proofs.Laws.Pack.{bit-lt}
 use Rattle.crc.specs.Check.{advance, register}
 use Rattle.crc.proofs.check.Statement.{statement}
 use Rattle.crc.proofs.check.Tie as tie

@@ -1,12 +1,13 @@
 -- At the loop's head r is the sum over the first k sixes.
 use mathlib.Core.Path.{_≡_, refl, sym, ap, ap₂, _∙_}
-use Prim.Native.Nat.{_-_, _≤_}
+use Prim.Native.Nat.{ℕ, _+_, _-_, _*_, _/_, _^_, _≤_}
 use native.Mathlib.Omega.{arith}
 use native.Mathlib.Numerals.{add-one}
-use lib.Bits.{bitXor}
+use lib.Bits.{bitXor, and-mask, mask-lt}
+use lib.ListN.{getD}
 use borrow.Author.Needs.{needs}
-use Rattle.bits.specs.XorSum.{xorSum}
-use Rattle.crc.specs.Tables.{changeOf}
+use Rattle.bits.specs.Count.{xorSum}
+use Rattle.crc.specs.Inner.{changeOf}
 use Rattle.crc.proofs.Sixes.{sixAt, eleven-sixes}
 use Rattle.crc.proofs.eleven.Statement.{statement}
 use Rattle.crc.proofs.eleven.Tie as tie
@@ -31,13 +32,15 @@ shr-r : tie.Need-shr-r Inv-loop μ-loop
 shr-r c = search needs
 
 add-r : tie.Need-add-r Inv-loop μ-loop
-add-r c = search needs
+add-r c = omega (arith, mask-lt (c .before .before .args .v / 2 ^ (6 * c .before .loop .k)) 6)
 
 mul-r-3 : tie.Need-mul-r-3 Inv-loop μ-loop
-mul-r-3 c = search needs
+mul-r-3 c = omega (arith, mask-lt (c .before .before .args .v / 2 ^ (6 * c .before .loop .k)) 6)
 
 shared-slice-read-r : tie.Need-shared-slice-read-r Inv-loop μ-loop
-shared-slice-read-r c = search needs
+shared-slice-read-r c =
+    let s = c .before .before .before in
+    omega (arith, s .pre .size, mask-lt (s .args .v / 2 ^ (6 * c .before .before .loop .k)) 6)
 
 add-k : tie.Need-add-k Inv-loop μ-loop
 add-k c = search needs
@@ -52,7 +55,9 @@ loop-again c =
     let s = c .before .before .before in
     let v = s .args .v in (
       search needs,
-      ap₂ bitXor (l .inv .1) (s .pre .entry (l .k) (sixAt v (l .k)) (search needs) (omega arith))
+      ap₂ bitXor (l .inv .1)
+          (ap (λ (six : ℕ). getD (s .args .table .now) (64 * l .k + six) 0) (and-mask (v / 2 ^ (6 * l .k)) 6)
+          ∙ s .pre .entry (l .k) (sixAt v (l .k)) (search needs) (omega arith))
           ∙ ap (xorSum (λ k. changeOf k (sixAt v k))) (sym (add-one (l .k))),
     )
 

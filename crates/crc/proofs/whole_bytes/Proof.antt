@@ -1,7 +1,7 @@
 -- The tables' rule is a test at each entry, which antt computes.
 use mathlib.Core.Path.{refl}
 use Rattle.crc.specs.Check.{advance}
-use Rattle.crc.specs.Bytes.{advances}
+use Rattle.crc.specs.Inner.{advances}
 use Rattle.crc.proofs.Entries.{tables-right}
 use Rattle.crc.proofs.whole_bytes.Statement.{statement}
 use Rattle.crc.proofs.whole_bytes.Tie as tie

@@ -6,10 +6,14 @@ use native.Mathlib.Omega.{arith}
 use lib.ListN.{length, take, drop, getD}
 use lib.Seq.{length-take-le, take-at, length-front}
 use borrow.Author.Needs.{needs}
-use Rattle.bits.specs.Pack.{bitAt, bit-bytes}
-use Rattle.bits.specs.Table.{tab, getD-tab, tab-bits}
-use Rattle.sizes.specs.Rate.{inputBits, input-room}
-use Rattle.convolution.specs.Code.{decode, decode-bits}
+use Rattle.bits.specs.Pack.{bitAt}
+use Rattle.bits.proofs.Laws.Pack.{bit-bytes}
+use Rattle.bits.specs.Basics.{tab}
+use Rattle.bits.proofs.Laws.Table.{getD-tab, tab-bits}
+use Rattle.sizes.specs.Inner.{inputBits}
+use Rattle.sizes.proofs.Laws.Rate.{input-room}
+use Rattle.convolution.specs.Code.{decode}
+use Rattle.convolution.proofs.Laws.Code.{decode-bits}
 use Rattle.decoder.proofs.packed.Statement.{statement}
 use Rattle.decoder.proofs.packed.Tie as tie
 

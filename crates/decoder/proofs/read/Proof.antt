@@ -4,10 +4,11 @@ use Prim.Native.Nat.{ℕ}
 use native.Mathlib.Omega.{arith}
 use lib.Dec.{eqb}
 use lib.ListN.{getD}
-use Rattle.bits.specs.First.{first-same}
+use Rattle.bits.proofs.Laws.First.{first-same}
 use Rattle.bits.specs.Pack.{bitAt}
 use Rattle.sizes.specs.Sizes.{wordBits}
-use Rattle.convolution.specs.Code.{encode, decode, encode-same}
+use Rattle.convolution.specs.Code.{encode, decode}
+use Rattle.convolution.proofs.Laws.Code.{encode-same}
 use Rattle.decoder.proofs.Agreeing.{made-bits, made-all}
 use borrow.Author.Needs.{needs}
 use Rattle.decoder.proofs.read.Statement.{statement}

@@ -5,8 +5,9 @@ use Prim.Native.Nat.{ℕ}
 use native.Mathlib.Omega.{arith}
 use borrow.Author.Needs.{needs}
 use lib.ListN.{getD}
-use Rattle.bits.specs.Table.{tab}
-use Rattle.sizes.specs.Rate.{infoBits, inputBits}
+use Rattle.bits.specs.Basics.{tab}
+use Rattle.sizes.specs.Sizes.{infoBits}
+use Rattle.sizes.specs.Inner.{inputBits}
 use Rattle.convolution.specs.Code.{decode}
 use Rattle.decoder.proofs.Rates.{unpacks-third, unpacks-half, unpacks-two-thirds}
 use Rattle.decoder.proofs.unpacked.Statement.{statement}

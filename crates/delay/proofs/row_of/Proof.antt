@@ -3,8 +3,8 @@ use mathlib.Core.Path.{_≡_, refl}
 use Prim.Native.Nat.{ℕ, _-_, _*_, _/_, _≤_, _<_}
 use native.Mathlib.Omega.{arith}
 use native.Mathlib.Nat.{mul-le-mul}
-use Rattle.delay.specs.Needs.{RowOf}
-use Rattle.delay.specs.Laws.{square-least, write-begin, read-begin}
+use Rattle.delay.specs.Inner.{RowOf}
+use Rattle.delay.proofs.Laws.Delay.{square-least, write-begin, read-begin}
 use Rattle.delay.specs.declared.Side.{Side}
 use Rattle.delay.specs.declared.Side.the-variants.{Writing, Reading}
 use borrow.Author.Needs.{needs}

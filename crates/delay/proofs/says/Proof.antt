@@ -11,10 +11,10 @@ use Rattle.answers.specs.declared.Answer.the-variants.{Done, No}
 use Rattle.answers.proofs.Refused.{stands}
 use Rattle.header.specs.Header.{fieldsOf}
 use Rattle.header.specs.declared.Fields.{Fields}
-use Rattle.quantities.specs.Quantities.{pulseOrder, spread}
-use Rattle.quantities.specs.Valid.{Shaped}
-use Rattle.questions.specs.Questions.{headerSays}
-use Rattle.questions.specs.Good.{header-good}
+use Rattle.header_sizes.specs.Quantities.{pulseOrder, interleaverDelay}
+use Rattle.header_sizes.specs.Inner.{Shaped}
+use Rattle.header_questions.specs.Questions.{headerSays}
+use Rattle.header_questions.proofs.Laws.Good.{header-good}
 use Rattle.delay.specs.Delay.{areaBytes, stepSays}
 use borrow.Author.Needs.{needs}
 use Rattle.delay.proofs.says.Statement.{statement}
@@ -27,7 +27,7 @@ refused header q n a e stand =
     stand rest ∙ ap (λ (x : Answer). then x rest) e
 
 -- a good header leaves the two questions, of the fields that were read
-module _ (header : List ℕ) (q n : ℕ) (e : headerSays header ≡ Done) (f : Fields) (ef : f ≡ fieldsOf header) (all : ℕ) (ea : all ≡ spread f) where
+module _ (header : List ℕ) (q n : ℕ) (e : headerSays header ≡ Done) (f : Fields) (ef : f ≡ fieldsOf header) (all : ℕ) (ea : all ≡ interleaverDelay f) where
   shaped : Shaped f
   shaped = rw ef (header-good header e .valid .shaped)
 
@@ -77,8 +77,8 @@ read-requires c κs =
     let g = header-good (a .header .now) (sym (h .ensures) ∙ c .enum-told .given .1) .long in
     omega arith
 
-spread-requires : tie.Need-spread-requires
-spread-requires c κs =
+interleaver-delay-requires : tie.Need-interleaver-delay-requires
+interleaver-delay-requires c κs =
     let a = (c .before .before .before .before .before) .args in
     let h = (c .before .before .before) .header-says in
     shaped (a .header .now) 0 0 (sym (h .ensures) ∙ c .before .enum-told .given .1) (c .read .result) (c .read .ensures) _ refl
@@ -89,7 +89,7 @@ returns-2 c =
     let h = (c .before .before .before .before .before) .header-says in
     let done = sym (h .ensures) ∙ (c .before .before .before) .enum-told .given .1 in
     let f = (c .before .before) .read in
-    let s = c .before .spread in
+    let s = c .before .interleaver-delay in
     other-length (a .header .now) (a .symbol) (a .length) done (f .result) (f .ensures) (s .result) (s .ensures) (c .if1 .taken)
 
 pulse-order-requires : tie.Need-pulse-order-requires
@@ -106,7 +106,7 @@ returns-3 c =
     let h = (c .before .before .before .before .before .before .before) .header-says in
     let done = sym (h .ensures) ∙ (c .before .before .before .before .before) .enum-told .given .1 in
     let f = (c .before .before .before .before) .read in
-    let s = (c .before .before .before) .spread in
+    let s = (c .before .before .before) .interleaver-delay in
     let o = c .before .pulse-order in
     too-large (a .header .now) (a .symbol) (a .length) done (f .result) (f .ensures) (s .result) (s .ensures) (o .result) (o .ensures) (omega arith) (c .if2 .taken)
 
@@ -116,7 +116,7 @@ returns-4 c =
     let h = (c .before .before .before .before .before .before .before) .header-says in
     let done = sym (h .ensures) ∙ (c .before .before .before .before .before) .enum-told .given .1 in
     let f = (c .before .before .before .before) .read in
-    let s = (c .before .before .before) .spread in
+    let s = (c .before .before .before) .interleaver-delay in
     let o = c .before .pulse-order in
     taken (a .header .now) (a .symbol) (a .length) done (f .result) (f .ensures) (s .result) (s .ensures) (o .result) (o .ensures) (omega arith) (c .if2 .left)
 
@@ -129,7 +129,7 @@ says-spec =
     enum-told-2
     returns
     read-requires
-    spread-requires
+    interleaver-delay-requires
     returns-2
     pulse-order-requires
     returns-3

@@ -6,18 +6,18 @@ use native.Mathlib.Omega.{arith}
 use native.Mathlib.Nat.{mod-lt}
 use lib.Dec.{eqb}
 use lib.ListN.{length, getD, set}
-use Rattle.bits.specs.Choice.{pick}
+use Rattle.bits.specs.Basics.{pick}
 use Rattle.answers.specs.Answer.{after}
 use Rattle.answers.specs.declared.Answer.{Answer}
 use Rattle.answers.specs.declared.Answer.the-variants.{Done}
 use Rattle.answers.proofs.Refused.{not-done, kept}
 use Rattle.header.specs.Header.{fieldsOf}
 use Rattle.header.specs.declared.Fields.{Fields}
-use Rattle.quantities.specs.Shape.{order-most}
-use Rattle.quantities.specs.Valid.{Shaped}
+use Rattle.header_sizes.proofs.Laws.Shape.{order-most}
+use Rattle.header_sizes.specs.Inner.{Shaped}
 use Rattle.delay.specs.Delay.{lag, begin, byteOf, given, moved, areaBytes, stepSays, lines, gives, leaves}
-use Rattle.delay.specs.Needs.{Rows, RowOf}
-use Rattle.delay.specs.Laws.{row-end, begin-all, Accepted, step-accepted}
+use Rattle.delay.specs.Inner.{Rows, RowOf}
+use Rattle.delay.proofs.Laws.Delay.{row-end, begin-all, Accepted, step-accepted}
 use Rattle.delay.specs.declared.Side.{Side}
 use borrow.Author.Needs.{needs}
 use Rattle.delay.proofs.step.Statement.{statement}
@@ -98,22 +98,22 @@ row-of-requires c κs =
     let s = (c .before .before .before) .says in
     row (a .side) (a .header .now) (a .n) (a .symbol) (a .area .now) (s .result) (s .ensures) (c .before .enum-told .given .1) (c .read .result) (c .read .ensures)
 
-div-pass : tie.Need-div-pass
-div-pass c =
+div-exchange : tie.Need-div-exchange
+div-exchange c =
     let a = (c .before .before .before .before .before .before .before .before) .args in
     let s = (c .before .before .before .before .before) .says in
     let f = (c .before .before) .read in
     shaped (a .side) (a .header .now) (a .n) (a .symbol) (a .area .now) (s .result) (s .ensures) ((c .before .before .before) .enum-told .given .1) (f .result) (f .ensures) .rows-least
 
-cast-pass : tie.Need-cast-pass
-cast-pass c =
+cast-exchange : tie.Need-cast-exchange
+cast-exchange c =
     let a = (c .before .before .before .before .before .before .before .before) .args in
     let s = (c .before .before .before .before .before) .says in
     let b = byte (a .side) (a .header .now) (a .n) (a .symbol) (a .area .now) (s .result) (s .ensures) ((c .before .before .before) .enum-told .given .1) in
     omega arith
 
-pass-requires : tie.Need-pass-requires
-pass-requires c κs =
+exchange-requires : tie.Need-exchange-requires
+exchange-requires c κs =
     let a = (c .before .before .before .before .before .before .before .before) .args in
     let s = (c .before .before .before .before .before) .says in
     let f = (c .before .before) .read in
@@ -130,7 +130,7 @@ returns-2 c =
     let s = (c .before .before .before .before .before .before .before .before) .says in
     let f = (c .before .before .before .before .before) .read in
     let r = (c .before .before .before .before) .row-of in
-    let p = (c .before .before) .pass in
+    let p = (c .before .before) .exchange in
     let done = (c .before .before .before .before .before .before) .enum-told .given .1 in (
       s .ensures,
       (
@@ -152,8 +152,8 @@ step-spec =
     read-requires
     rem-row-of
     row-of-requires
-    div-pass
-    cast-pass
-    pass-requires
+    div-exchange
+    cast-exchange
+    exchange-requires
     same-length
     returns-2)

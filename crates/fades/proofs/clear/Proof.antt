@@ -3,7 +3,7 @@ use mathlib.Core.Path.{_≡_, refl}
 use Prim.Native.Nat.{ℕ, _-_, _≤_, _<_}
 use native.Mathlib.Omega.{arith}
 use lib.ListN.{length, getD, length-set}
-use Rattle.bits.specs.Table.{fill}
+use Rattle.bits.proofs.Laws.Table.{fill}
 use borrow.Author.Needs.{needs}
 use Rattle.fades.proofs.clear.Statement.{statement}
 use Rattle.fades.proofs.clear.Tie as tie

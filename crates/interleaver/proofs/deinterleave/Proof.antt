@@ -1,6 +1,6 @@
 -- `deinterleave` meets its contract: the planes hold seven bits of the word in a number, and the columns take them to the coded bits.
 use mathlib.Core.Path.{_∙_}
-use Rattle.bits.specs.Table.{tab-made}
+use Rattle.bits.proofs.Laws.Table.{tab-made}
 use Rattle.bits.specs.Pack.{bitAt}
 use Rattle.sizes.specs.Sizes.{wordBits}
 use Rattle.interleaver.specs.Interleaver.{deinterleave}
@@ -10,11 +10,11 @@ use borrow.Author.Needs.{needs}
 use Rattle.interleaver.proofs.deinterleave.Statement.{statement}
 use Rattle.interleaver.proofs.deinterleave.Tie as tie
 
-slice-aggregate-first-row : tie.Need-slice-aggregate-first-row
-slice-aggregate-first-row c = search needs
+slice-aggregate-first-line : tie.Need-slice-aggregate-first-line
+slice-aggregate-first-line c = search needs
 
-first-row-requires : tie.Need-first-row-requires
-first-row-requires c κs = search needs
+first-line-requires : tie.Need-first-line-requires
+first-line-requires c κs = search needs
 
 slice-aggregate-nines : tie.Need-slice-aggregate-nines
 slice-aggregate-nines c = search needs
@@ -49,7 +49,7 @@ slice-aggregate-given-3 c = search needs
 given-requires : tie.Need-given-requires
 given-requires c κs =
     let row = c .before .before .before .before .before .before .before .before .before .before .before .before .before .before .before in
-    (search needs, row-made (row .first-row .last .0) (row .first-row .ensures), search needs, row .before .before .before .before .pre .1)
+    (search needs, row-made (row .first-line .last .0) (row .first-line .ensures), search needs, row .before .before .before .before .pre .1)
 
 same-length : tie.Need-same-length
 same-length c = search needs
@@ -71,8 +71,8 @@ pub deinterleave-spec : {M : Type 1} → statement M
 deinterleave-spec =
     tie.close
     (tie.spec
-    slice-aggregate-first-row
-    first-row-requires
+    slice-aggregate-first-line
+    first-line-requires
     slice-aggregate-nines
     nines-requires
     slice-aggregate-transposed

@@ -8,11 +8,11 @@ use borrow.Author.Needs.{needs}
 use Rattle.interleaver.proofs.interleave.Statement.{statement}
 use Rattle.interleaver.proofs.interleave.Tie as tie
 
-slice-aggregate-first-row : tie.Need-slice-aggregate-first-row
-slice-aggregate-first-row c = search needs
+slice-aggregate-first-line : tie.Need-slice-aggregate-first-line
+slice-aggregate-first-line c = search needs
 
-first-row-requires : tie.Need-first-row-requires
-first-row-requires c κs = search needs
+first-line-requires : tie.Need-first-line-requires
+first-line-requires c κs = search needs
 
 slice-aggregate-taken : tie.Need-slice-aggregate-taken
 slice-aggregate-taken c = search needs
@@ -24,7 +24,7 @@ taken-requires : tie.Need-taken-requires
 taken-requires c κs =
     let row = c .before .before .before in
     let s = row .before .before .before .before in
-    (record { size = s .pre .0; bits = s .pre .1 }, row-made (row .first-row .last .0) (row .first-row .ensures), search needs)
+    (record { size = s .pre .0; bits = s .pre .1 }, row-made (row .first-line .last .0) (row .first-line .ensures), search needs)
 
 slice-aggregate-columns : tie.Need-slice-aggregate-columns
 slice-aggregate-columns c = search needs
@@ -38,7 +38,7 @@ slice-aggregate-columns-3 c = search needs
 columns-requires : tie.Need-columns-requires
 columns-requires c κs =
     let row = c .before .before .before .before .before .before .before .before in
-    (search needs, row-made (row .first-row .last .0) (row .first-row .ensures), search needs)
+    (search needs, row-made (row .first-line .last .0) (row .first-line .ensures), search needs)
 
 slice-aggregate-transposed : tie.Need-slice-aggregate-transposed
 slice-aggregate-transposed c = search needs
@@ -75,8 +75,8 @@ pub interleave-spec : {M : Type 1} → statement M
 interleave-spec =
     tie.close
     (tie.spec
-    slice-aggregate-first-row
-    first-row-requires
+    slice-aggregate-first-line
+    first-line-requires
     slice-aggregate-taken
     slice-aggregate-taken-2
     taken-requires

@@ -4,10 +4,11 @@ use Prim.Native.Nat.{ℕ, _-_, _≤_, _<_}
 use native.Mathlib.Omega.{arith}
 use lib.ListN.{length, getD, length-set, getD-replicate}
 use borrow.Author.Needs.{needs}
-use Rattle.bits.specs.Pack.{cut, cut-past}
-use Rattle.parameters.specs.Marks.{lentMarks}
-use Rattle.parameters.specs.Accepted.{lent-most}
-use Rattle.parameters.proofs.Carried.{lent-le, cut-more, parameters-same}
+use Rattle.bits.specs.Pack.{cut}
+use Rattle.bits.proofs.Laws.Pack.{cut-past}
+use Rattle.header_questions.specs.Questions.{lentMarks}
+use Rattle.header_questions.proofs.Laws.Marks.{lent-le, lent-most}
+use Rattle.parameters.proofs.Carried.{cut-more, parameters-same}
 use Rattle.parameters.proofs.carry.Statement.{statement}
 use Rattle.parameters.proofs.carry.Tie as tie
 

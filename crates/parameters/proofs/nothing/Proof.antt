@@ -1,7 +1,7 @@
 -- It is the definition: an array of 32 zeros.
 use mathlib.Core.Path.{refl}
-use Rattle.bits.specs.Table.{tab}
-use Rattle.parameters.specs.Marks.{noParameters}
+use Rattle.bits.specs.Basics.{tab}
+use Rattle.parameters.specs.Inner.{noParameters}
 use Rattle.parameters.proofs.nothing.Statement.{statement}
 use Rattle.parameters.proofs.nothing.Tie as tie
 

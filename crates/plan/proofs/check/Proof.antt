@@ -5,19 +5,23 @@ use mathlib.Core.List.{List}
 use Prim.Native.Nat.{ℕ, _≤_}
 use lib.ListN.{length}
 use borrow.Author.Tests.{not-true, not-false}
-use Rattle.answers.specs.Answer.{ask, then, no-done}
+use Rattle.answers.specs.Answer.{ask, then}
+use Rattle.answers.proofs.Laws.Answer.{no-done}
 use Rattle.answers.specs.declared.Answer.{Answer}
 use Rattle.answers.specs.declared.Answer.the-variants.{Done}
 use Rattle.answers.proofs.Refused.{not-done, stands}
 use Rattle.header.specs.Header.{fieldsOf}
-use Rattle.parameters.specs.Marks.{runSays, parametersOf, checked}
-use Rattle.quantities.specs.Valid.{Valid}
-use Rattle.questions.specs.Good.{header-good, copies-range}
-use Rattle.parameters.specs.Accepted.{run-good, check-answer, check-parameters}
-use Rattle.header.specs.declared.Fields.{Fields}
+use Rattle.header_questions.specs.Questions.{runSays}
+use Rattle.parameters.specs.Parameters.{parametersOf}
+use Rattle.parameters.specs.Inner.{checked}
+use Rattle.header_questions.proofs.Laws.Marks.{run-good}
+use Rattle.parameters.proofs.Laws.Accepted.{check-answer, check-parameters}
 use Rattle.parameters.specs.declared.Parameters.{Parameters}
 use Rattle.parameters.specs.declared.Checked.{Checked}
-use Rattle.plan.specs.Lengths.{lengthsRight, callSays}
+use Rattle.header_sizes.specs.Inner.{Valid}
+use Rattle.header_questions.proofs.Laws.Good.{header-good, copies-range}
+use Rattle.header.specs.declared.Fields.{Fields}
+use Rattle.plan.specs.Lengths.{runLengthsRight, callSays}
 use borrow.Author.Needs.{needs}
 use Rattle.plan.proofs.check.Statement.{statement}
 use Rattle.plan.proofs.check.Tie as tie
@@ -30,7 +34,7 @@ module _ (header marker : List ℕ) (c : Checked) (e : c ≡ checked header mark
   refused : (n s : ℕ) → ((rest : Answer) → c .answer ≡ then (c .answer) rest) → c .answer ≡ callSays header marker n s
   unfolding callSays
   refused n s stand =
-      let rest : Answer = ask (lengthsRight (fieldsOf header) (length marker) n s) 8 0 in
+      let rest : Answer = ask (runLengthsRight (fieldsOf header) (length marker) n s) 8 0 in
       stand rest ∙ ap (λ (a : Answer). then a rest) said
 
   module _ (g : c .answer ≡ Done) where
@@ -43,10 +47,10 @@ module _ (header marker : List ℕ) (c : Checked) (e : c ≡ checked header mark
         let h = header-good header (run-good header marker (sym said ∙ g) .0) in
         rw fields-are (h .valid, copies-range (fieldsOf header .copies) (h .copies) .1)
 
-    asked : (n s : ℕ) (b : Bool) → b ≡ lengthsRight (c .parameters .fields) (length marker) n s → callSays header marker n s ≡ ask b 8 0
+    asked : (n s : ℕ) (b : Bool) → b ≡ runLengthsRight (c .parameters .fields) (length marker) n s → callSays header marker n s ≡ ask b 8 0
     unfolding callSays
     asked n s b l =
-        rw (sym said ∙ g) (ap (λ (t : Bool). ask t 8 0) (ap (λ (f : Fields). lengthsRight f (length marker) n s) (sym fields-are) ∙ sym l))
+        rw (sym said ∙ g) (ap (λ (t : Bool). ask t 8 0) (ap (λ (f : Fields). runLengthsRight f (length marker) n s) (sym fields-are) ∙ sym l))
 
 check-requires : tie.Need-check-requires
 check-requires c κs = search needs
@@ -66,8 +70,8 @@ returns c =
       λ d. absurd (not-done (k .result .answer) keys d),
     )
 
-lengths-right-requires : tie.Need-lengths-right-requires
-lengths-right-requires c κs =
+run-lengths-right-requires : tie.Need-run-lengths-right-requires
+run-lengths-right-requires c κs =
     let a = c .before .before .before .before .before .before .before .args in
     let k = c .before .before .before .before .check in
     fields-valid (a .header .now) (a .marker .now) (k .result) (k .ensures) (c .before .before .enum-told .given .1)
@@ -76,7 +80,7 @@ returns-2 : tie.Need-returns-2
 returns-2 c =
     let a = c .before .before .before .before .before .before .before .before .before .args in
     let k = c .before .before .before .before .before .before .check in
-    let l = c .before .lengths-right in
+    let l = c .before .run-lengths-right in
     let e = asked (a .header .now) (a .marker .now) (k .result) (k .ensures) (c .before .before .before .before .enum-told .given .1) (a .frames-length) (a .slots-length) (l .result) (l .ensures) in (
       sym (e ∙ ap (λ (t : Bool). ask t 8 0) (not-true (l .result) (c .if1 .taken))),
       λ d. absurd (no-done d),
@@ -86,7 +90,7 @@ returns-3 : tie.Need-returns-3
 returns-3 c =
     let a = c .before .before .before .before .before .before .before .before .before .args in
     let k = c .before .before .before .before .before .before .check in
-    let l = c .before .lengths-right in
+    let l = c .before .run-lengths-right in
     let done = c .before .before .before .before .enum-told .given .1 in
     let e = asked (a .header .now) (a .marker .now) (k .result) (k .ensures) done (a .frames-length) (a .slots-length) (l .result) (l .ensures) in (
       done ∙ sym (e ∙ ap (λ (t : Bool). ask t 8 0) (not-false (l .result) (c .if1 .left))),
@@ -101,6 +105,6 @@ check-spec =
     enum-told
     enum-told-2
     returns
-    lengths-right-requires
+    run-lengths-right-requires
     returns-2
     returns-3)

@@ -5,8 +5,9 @@ use native.Mathlib.Omega.{arith}
 use borrow.Author.Needs.{needs}
 use lib.Dec.{ltb}
 use borrow.Author.Tests.{lt-ltb, le-ltb}
-use Rattle.bits.specs.First.{upTo, first-on, first-here, first-end}
-use Rattle.pool.specs.Needs.{fewer}
+use Rattle.bits.specs.Basics.{upTo}
+use Rattle.bits.proofs.Laws.First.{first-on, first-here, first-end}
+use Rattle.pool.proofs.Laws.Pooled.{fewer}
 use Rattle.pool.specs.Pooled.{decided}
 use Rattle.pool.proofs.first_undecided.Statement.{statement}
 use Rattle.pool.proofs.first_undecided.Tie as tie

@@ -4,11 +4,11 @@ use Prim.Native.Nat.{ℕ}
 use native.Mathlib.Omega.{arith}
 use borrow.Author.Needs.{needs}
 use lib.Dec.{ltb}
-use Rattle.bits.specs.Choice.{pick}
-use Rattle.bits.specs.Window.{lesser}
-use Rattle.pool.specs.Joined.{lit}
-use Rattle.pool.proofs.Single.{pooled-alone}
+use Rattle.bits.specs.Basics.{pick}
+use Rattle.bits.specs.Inner.{lesser}
+use Rattle.pool.specs.Inner.{lit}
 use Rattle.pool.specs.Pooled.{pooled}
+use Rattle.pool.proofs.Single.{pooled-alone}
 use Rattle.pool.proofs.pooled.Statement.{statement}
 use Rattle.pool.proofs.pooled.Tie as tie
 

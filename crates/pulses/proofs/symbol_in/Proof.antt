@@ -3,7 +3,7 @@ use mathlib.Core.Path.{refl}
 use Prim.Native.Nat.{ℕ, _+_, _*_}
 use native.Mathlib.Omega.{arith}
 use borrow.Author.Tests.{lt-ltb, le-ltb, eq-eqb, ne-eqb}
-use Rattle.bits.specs.Window.{one-in}
+use Rattle.bits.proofs.Laws.Window.{one-in}
 use Rattle.pulses.specs.Pulses.{symbolIn}
 use borrow.Author.Needs.{needs}
 use Rattle.pulses.proofs.symbol_in.Statement.{statement}

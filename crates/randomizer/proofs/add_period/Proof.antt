@@ -6,7 +6,7 @@ use native.Mathlib.Nat.{add-zero}
 use borrow.Author.Needs.{needs}
 use Rattle.bits.specs.Pack.{val}
 use Rattle.randomizer.specs.Randomizer.{next, window}
-use Rattle.randomizer.specs.Bytes.{Added}
+use Rattle.randomizer.specs.Inner.{Added}
 use Rattle.randomizer.proofs.Period.{Period, added-none, table-right, added-entry}
 use Rattle.randomizer.proofs.add_period.Statement.{statement}
 use Rattle.randomizer.proofs.add_period.Tie as tie

@@ -4,7 +4,7 @@ use Prim.Native.Nat.{_+_, _-_, _%_, _≤_}
 use native.Mathlib.Omega.{arith}
 use lib.ListN.{length}
 use borrow.Author.Needs.{needs}
-use Rattle.randomizer.specs.Bytes.{Added}
+use Rattle.randomizer.specs.Inner.{Added}
 use Rattle.randomizer.proofs.Period.{added-none, added-part, added-all}
 use Rattle.randomizer.proofs.randomize.Statement.{statement}
 use Rattle.randomizer.proofs.randomize.Tie as tie

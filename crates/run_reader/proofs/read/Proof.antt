@@ -7,12 +7,12 @@ use Rattle.answers.specs.declared.Answer.{Answer}
 use Rattle.answers.specs.Answer.{after, then}
 use Rattle.answers.proofs.Refused.{kept, stands}
 use Rattle.header.specs.Header.{fieldsOf}
-use Rattle.parameters.specs.Marks.{parametersOf}
+use Rattle.parameters.specs.Parameters.{parametersOf}
 use Rattle.parameters.specs.declared.Parameters.{Parameters}
 use Rattle.plan.specs.Plan.{planIn, planOf}
 use Rattle.plan.specs.Lengths.{callSays}
-use Rattle.plan.specs.Accepted.{entered}
-use Rattle.capture.specs.Capture.{wordOut}
+use Rattle.plan.proofs.Laws.Accepted.{entered}
+use Rattle.slots.specs.Reading.{wordOut}
 use Rattle.run.specs.Run.{framesOf, framesRead, bufferSays, readSays}
 use Rattle.answers.specs.declared.Answer.the-variants.{Done}
 use borrow.Author.Needs.{needs}

@@ -3,13 +3,12 @@ use mathlib.Core.Path.{_≡_, sym, ap, _∙_}
 use mathlib.Core.List.{List}
 use Prim.Native.Nat.{ℕ, _<_}
 use native.Mathlib.Omega.{arith}
-use Rattle.bits.specs.Pieces.{piece}
-use Rattle.capture.specs.Capture.{wordOut}
+use Rattle.bits.specs.Pack.{piece}
+use Rattle.slots.specs.Reading.{wordOut}
 use Rattle.answers.specs.Answer.{after}
-use Rattle.quantities.specs.Quantities.{blockCount}
+use Rattle.header_sizes.specs.Quantities.{blockCount}
 use Rattle.plan.specs.Plan.{planOf}
-use Rattle.sizes.specs.Rate.{blockBytes}
-use Rattle.sizes.specs.Sizes.{wordBytes}
+use Rattle.sizes.specs.Sizes.{blockBytes, wordBytes}
 use Rattle.word.specs.Word.{blockIn}
 use Rattle.run.specs.Run.{framesOf}
 use Rattle.run_reader.proofs.Reading as reading
@@ -21,11 +20,11 @@ use Rattle.run_reader.proofs.read_in.Tie as tie
 plan-of-requires : tie.Need-plan-of-requires
 plan-of-requires c κs = search needs
 
-judge-requires : tie.Need-judge-requires
-judge-requires c κs =
+slots-say-requires : tie.Need-slots-say-requires
+slots-say-requires c κs =
     let s = c .before .before .before .before .before .before .before in
     let p = (c .before) .plan-of in
-    (reading.plan-captured (s .args .q) _ (p .ensures) _ (s .pre .entered), reading.plan-cleared (s .args .q) _ (p .ensures) (s .args .slots .now) _ (s .pre .words-fit) (s .pre .empty))
+    (reading.plan-slots (s .args .q) _ (p .ensures) _ (s .pre .entered), reading.plan-cleared (s .args .q) _ (p .ensures) (s .args .slots .now) _ (s .pre .words-fit) (s .pre .empty))
 
 enum-told : tie.Need-enum-told
 enum-told c = search needs
@@ -41,7 +40,7 @@ returns c =
     let s = c .before .before .before .before .before .before .before .before .before .before .before .before in
     let q = s .args .q in
     let p = (c .before .before .before .before .before .before) .plan-of in
-    let j = (c .before .before .before .before) .judge in
+    let j = (c .before .before .before .before) .slots-say in
     let keys = (c .before) .match .keys2 in (
       reading.buffer-slots q _ (p .ensures) (s .args .slots .now) (j .result) (j .ensures .0) keys,
       kept (j .result) (framesOf (q .fields) (wordOut (planOf q) (s .args .slots .now))) (s .args .frames .now) keys,
@@ -50,7 +49,7 @@ returns c =
 read-words-requires : tie.Need-read-words-requires
 read-words-requires c κs =
     let s = c .before .before .before .before .before .before .before .before .before .before .before .before .before .before in
-    let j = (c .before .before .before .before .before .before) .judge in
+    let j = (c .before .before .before .before .before .before) .slots-say in
     record {
       valid = s .pre .entered .valid;
       words-fit = let k = j .kept .1 .1 .0 in let h = s .pre .words-fit in omega arith;
@@ -74,7 +73,7 @@ returns-2 c =
     let s = c .before .before .before .before .before .before .before .before .before .before .before .before .before .before .before .before .before .before .before in
     let q = s .args .q in
     let p = (c .before .before .before .before .before .before .before .before .before .before .before .before .before) .plan-of in
-    let j = (c .before .before .before .before .before .before .before .before .before .before .before) .judge in
+    let j = (c .before .before .before .before .before .before .before .before .before .before .before) .slots-say in
     let w = (c .before .before .before .before) .read-words in
     let done = (c .before .before .before .before .before .before .before) .enum-told .given .1 in
     let good = sym (j .ensures .0) ∙ done in
@@ -110,7 +109,7 @@ returns-3 c =
     let q = s .args .q in
     let slots = s .args .slots .now in
     let p = (c .before .before .before .before .before .before .before .before .before .before .before .before .before .before .before .before .before .before) .plan-of in
-    let j = (c .before .before .before .before .before .before .before .before .before .before .before .before .before .before .before .before) .judge in
+    let j = (c .before .before .before .before .before .before .before .before .before .before .before .before .before .before .before .before) .slots-say in
     let w = (c .before .before .before .before .before .before .before .before .before) .read-words in
     let found = (c .before .before .before .before .before .before .before .before .before .before .before .before) .enum-told .given .1 in
     let good = sym (j .ensures .0) ∙ found in
@@ -129,7 +128,7 @@ read-in-spec =
     tie.close
     (tie.spec
     plan-of-requires
-    judge-requires
+    slots-say-requires
     enum-told
     enum-told-2
     same-length

@@ -1,18 +1,19 @@
--- The rooms have their lengths, and hold nothing yet.
+-- The buffers are long enough, and hold nothing yet.
+use mathlib.Core.Path.{sym}
 use Prim.Native.Nat.{ℕ}
 use native.Mathlib.Omega.{arith}
 use lib.ListN.{length-replicate}
-use Rattle.quantities.specs.Bounds.{blocks-most}
-use Rattle.run_reader.proofs.Reading.{most-blocks, empty-room}
-use borrow.Author.Needs.{needs}
+use Rattle.bits.proofs.Laws.Buffers.{buffer-holds, buffer-empty}
+use Rattle.header_sizes.proofs.Laws.Bounds.{blocks-most}
+use Rattle.run_reader.proofs.Reading.{most-blocks}
 use Rattle.run_reader.proofs.read_many.Statement.{statement}
 use Rattle.run_reader.proofs.read_many.Tie as tie
 
 slice-aggregate-read-in : tie.Need-slice-aggregate-read-in
-slice-aggregate-read-in c = search needs
+slice-aggregate-read-in c = sym (length-replicate {A = ℕ} _ 0)
 
 slice-aggregate-read-in-2 : tie.Need-slice-aggregate-read-in-2
-slice-aggregate-read-in-2 c = search needs
+slice-aggregate-read-in-2 c = sym (length-replicate {A = ℕ} _ 0)
 
 read-in-requires : tie.Need-read-in-requires
 read-in-requires c κs =
@@ -21,16 +22,16 @@ read-in-requires c κs =
     let v = s .pre .valid in
     record {
       entered = s .pre;
-      words-fit = let n = blocks-most f v in let l = length-replicate {A = ℕ} 396901 0 in omega arith;
-      empty = empty-room 396901;
-      blocks-fit = let n = most-blocks f v in let l = length-replicate {A = ℕ} 131880 0 in omega arith;
+      words-fit = let n = blocks-most f v in buffer-holds _ 396901 (omega arith);
+      empty = buffer-empty 396901;
+      blocks-fit = buffer-holds _ 131880 (most-blocks f v);
     }
 
 same-length : tie.Need-same-length
-same-length c = search needs
+same-length c = c .before .before .before .before .read-in .kept .1 .1 .1 .1 .0
 
 returns : tie.Need-returns
-returns c = search needs
+returns c = c .before .before .before .before .read-in .ensures
 
 pub read-many-spec : {M : Type 1} → statement M
 read-many-spec =

@@ -4,10 +4,9 @@ use mathlib.Core.List.{List}
 use Prim.Native.Nat.{ℕ, _+_, _-_, _*_}
 use native.Mathlib.Omega.{arith}
 use lib.ListN.{take, drop}
-use Rattle.bits.specs.Pieces.{piece}
+use Rattle.bits.specs.Pack.{piece}
 use Rattle.sizes.specs.Sizes.{wordBytes}
-use Rattle.word.specs.Word.{blockIn}
-use Rattle.word.specs.Word.{readSays as wordReads}
+use Rattle.word.specs.Word.{blockIn, readSays as wordReads}
 use Rattle.answers.specs.Answer.{after}
 use Rattle.run.specs.Run.{wordSays}
 use borrow.Author.Needs.{needs}

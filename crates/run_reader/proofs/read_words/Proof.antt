@@ -8,20 +8,21 @@ use native.Mathlib.Omega.{arith}
 use native.Mathlib.Nat.{mul-le-mul, le-refl}
 use lib.ListN.{length, take, drop}
 use borrow.Rule.Slice.PartMut.{putMid, mid-len, same-len-mid}
-use Rattle.bits.specs.First.{upTo, first-on}
-use Rattle.sizes.specs.Rate.{blockBytes}
+use Rattle.bits.specs.Basics.{upTo}
+use Rattle.bits.proofs.Laws.First.{first-on}
+use Rattle.bits.specs.Pack.{piece}
+use Rattle.bits.proofs.Laws.Pieces.{pieces-more}
+use Rattle.sizes.specs.Sizes.{blockBytes, wordBytes}
 use Rattle.word.specs.Word.{blockIn}
 use Rattle.answers.specs.declared.Answer.{Answer}
-use Rattle.answers.specs.Answer.{after, isDone, no-done}
-use Rattle.answers.specs.InOrder.{order-no, order-yes}
+use Rattle.answers.specs.Answer.{after, isDone}
+use Rattle.answers.proofs.Laws.Answer.{no-done, order-no, order-yes}
+use Rattle.answers.specs.declared.Answer.the-variants.{Done}
 use Rattle.answers.proofs.Refused.{is-not-done, moved}
 use Rattle.header.specs.declared.Fields.{Fields}
-use Rattle.quantities.specs.Quantities.{blockCount}
+use Rattle.header_sizes.specs.Quantities.{blockCount}
 use Rattle.run.specs.Run.{wordSays, wordsSay}
-use Rattle.bits.specs.Pieces.{piece, pieces-more}
-use Rattle.sizes.specs.Sizes.{wordBytes}
 use Rattle.run_reader.proofs.Reading.{most-blocks}
-use Rattle.answers.specs.declared.Answer.the-variants.{Done}
 use Rattle.run_reader.proofs.read_words.Statement.{statement}
 use Rattle.run_reader.proofs.read_words.Tie as tie
 

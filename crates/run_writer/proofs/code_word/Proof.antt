@@ -5,8 +5,9 @@ use Prim.Native.Nat.{ℕ, _≤_}
 use native.Mathlib.Omega.{arith}
 use lib.ListN.{length, take, drop}
 use lib.Seq.{length-take-le, take-at, length-front}
-use Rattle.sizes.specs.Rate.{blockBytes, block-room}
-use Rattle.quantities.specs.Bounds.{blocks-most}
+use Rattle.sizes.specs.Sizes.{blockBytes}
+use Rattle.sizes.proofs.Laws.Rate.{block-room}
+use Rattle.header_sizes.proofs.Laws.Bounds.{blocks-most}
 use Rattle.run_writer.proofs.Coding.{coded, frames-lent}
 use borrow.Author.Needs.{needs}
 use Rattle.run_writer.proofs.code_word.Statement.{statement}

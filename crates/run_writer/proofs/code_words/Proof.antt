@@ -6,10 +6,11 @@ use Prim.Native.Nat.{ℕ, _+_, _-_, _*_, _≤_, _<_}
 use native.Mathlib.Omega.{arith}
 use lib.ListN.{length}
 use borrow.Rule.Slice.PartMut.{putMid, mid-len, same-len-mid}
-use Rattle.quantities.specs.Quantities.{blockCount}
-use Rattle.quantities.specs.Bounds.{blocks-most}
+use Rattle.header_sizes.specs.Quantities.{blockCount}
+use Rattle.header_sizes.proofs.Laws.Bounds.{blocks-most}
 use Rattle.run.specs.Run.{wordAt}
-use Rattle.bits.specs.Pieces.{piece, pieces-more}
+use Rattle.bits.specs.Pack.{piece}
+use Rattle.bits.proofs.Laws.Pieces.{pieces-more}
 use Rattle.sizes.specs.Sizes.{wordBytes}
 use Rattle.run_writer.proofs.code_words.Statement.{statement}
 use Rattle.run_writer.proofs.code_words.Tie as tie

@@ -6,11 +6,11 @@ use Rattle.answers.specs.declared.Answer.{Answer}
 use Rattle.answers.specs.Answer.{after}
 use Rattle.answers.proofs.Refused.{kept}
 use Rattle.header.specs.Header.{fieldsOf}
-use Rattle.parameters.specs.Marks.{parametersOf}
+use Rattle.parameters.specs.Parameters.{parametersOf}
 use Rattle.parameters.specs.declared.Parameters.{Parameters}
 use Rattle.plan.specs.Plan.{planOf}
-use Rattle.plan.specs.Accepted.{entered}
-use Rattle.slots.specs.Slots.{slotsOf}
+use Rattle.plan.proofs.Laws.Accepted.{entered}
+use Rattle.slots.specs.Writing.{slotsOf}
 use Rattle.run.specs.Run.{wordAt, runOf, writeSays}
 use borrow.Author.Needs.{needs}
 use Rattle.run_writer.proofs.write.Statement.{statement}

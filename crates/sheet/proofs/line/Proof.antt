@@ -4,8 +4,8 @@ use native.Mathlib.Omega.{arith}
 use Rattle.answers.specs.declared.Answer.the-variants.{Done}
 use Rattle.answers.proofs.Refused.{not-done}
 use Rattle.header.specs.Header.{fieldsOf}
-use Rattle.questions.specs.Questions.{headerSays}
-use Rattle.questions.specs.Good.{header-good, copies-range}
+use Rattle.header_questions.specs.Questions.{headerSays}
+use Rattle.header_questions.proofs.Laws.Good.{header-good, copies-range}
 use Rattle.sheet.proofs.Pieces.{put-counts}
 use Rattle.sheet.specs.Line.{noLine, runLine}
 use Rattle.sheet.proofs.Pieces.{printed, line-no, line-run}

@@ -1,7 +1,7 @@
 -- Each arm has the fraction of its rate, and below 3 the last arm is rate 2.
 use mathlib.Core.Path.{_≡_, sym, ap}
 use native.Mathlib.Omega.{arith}
-use Rattle.sizes.specs.Rate.{inputsPer, codedPer}
+use Rattle.sizes.specs.Sizes.{inputsPer, codedPer}
 use Rattle.sheet.specs.Line.{rateText}
 use Rattle.sheet.proofs.rate_text.Statement.{statement}
 use Rattle.sheet.proofs.rate_text.Tie as tie

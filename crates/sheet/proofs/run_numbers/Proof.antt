@@ -2,7 +2,7 @@
 use mathlib.Core.Path.{ap₂, _∙_}
 use mathlib.Core.List.{[], _∷_}
 use Prim.Native.Nat.{ℕ}
-use Rattle.quantities.specs.Quantities.{pulseOrder, blockCount}
+use Rattle.header_sizes.specs.Quantities.{pulseOrder, blockCount}
 use Rattle.sheet.specs.Line.{runNumbers}
 use borrow.Author.Needs.{needs}
 use Rattle.sheet.proofs.run_numbers.Statement.{statement}

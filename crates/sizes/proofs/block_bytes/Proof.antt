@@ -1,7 +1,8 @@
 -- `block_bytes` meets its contract: it computes `blockBytes` from what `info_bits` answers, and no sum wraps, since a block is at most 10,046 bits long.
 use native.Mathlib.Omega.{arith}
 use borrow.Author.Needs.{needs}
-use Rattle.sizes.specs.Rate.{blockBytes, info-le}
+use Rattle.sizes.specs.Sizes.{blockBytes}
+use Rattle.sizes.proofs.Laws.Rate.{info-le}
 use Rattle.sizes.proofs.block_bytes.Statement.{statement}
 use Rattle.sizes.proofs.block_bytes.Tie as tie
 

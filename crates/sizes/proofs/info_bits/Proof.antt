@@ -1,7 +1,7 @@
 -- `info_bits` meets its contract: each arm answers what `infoBits` has at its number, and below 3 the last arm's number is 2.
 use mathlib.Core.Path.{_≡_, sym, ap}
 use native.Mathlib.Omega.{arith}
-use Rattle.sizes.specs.Rate.{infoBits}
+use Rattle.sizes.specs.Sizes.{infoBits}
 use Rattle.sizes.proofs.info_bits.Statement.{statement}
 use Rattle.sizes.proofs.info_bits.Tie as tie
 

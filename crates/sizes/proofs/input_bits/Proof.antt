@@ -1,7 +1,8 @@
 -- `input_bits` meets its contract: it computes `inputBits` from what `info_bits` answers, and no sum wraps, since a block is at most 10,046 bits long.
 use native.Mathlib.Omega.{arith}
 use borrow.Author.Needs.{needs}
-use Rattle.sizes.specs.Rate.{inputBits, info-le}
+use Rattle.sizes.specs.Inner.{inputBits}
+use Rattle.sizes.proofs.Laws.Rate.{info-le}
 use Rattle.sizes.proofs.input_bits.Statement.{statement}
 use Rattle.sizes.proofs.input_bits.Tie as tie
 

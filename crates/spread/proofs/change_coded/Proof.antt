@@ -1,10 +1,11 @@
 -- The code makes of the input bits that change the coded bits that change.
 use mathlib.Core.Path.{_∙_}
 use Rattle.bits.specs.Pack.{bitAt}
-use Rattle.bits.specs.Table.{tab-same}
+use Rattle.bits.proofs.Laws.Table.{tab-same}
 use Rattle.sizes.specs.Sizes.{wordBits}
-use Rattle.convolution.specs.Code.{encode, encode-same}
-use Rattle.spread.specs.Theorems.{inputChange}
+use Rattle.convolution.specs.Code.{encode}
+use Rattle.convolution.proofs.Laws.Code.{encode-same}
+use Rattle.spread.specs.Inner.{inputChange}
 use borrow.Author.Needs.{needs}
 use Rattle.spread.proofs.change_coded.Statement.{statement}
 use Rattle.spread.proofs.change_coded.Tie as tie

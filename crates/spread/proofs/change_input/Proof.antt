@@ -1,6 +1,7 @@
 -- The input bits are zeros, the bit itself, and the sum of the two checks, as `inputChange` has them.
 use native.Mathlib.Omega.{arith}
-use Rattle.sizes.specs.Rate.{inputBits, info-le, info-ge}
+use Rattle.sizes.specs.Inner.{inputBits}
+use Rattle.sizes.proofs.Laws.Rate.{info-le, info-ge}
 use Rattle.spread.proofs.Changed.{changed}
 use borrow.Author.Needs.{needs}
 use Rattle.spread.proofs.change_input.Statement.{statement}

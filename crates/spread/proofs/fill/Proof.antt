@@ -5,12 +5,16 @@ use Prim.Native.Nat.{ℕ, _+_, _*_, _≤_}
 use native.Mathlib.Omega.{arith}
 use lib.ListN.{getD, length-replicate}
 use lib.Seq.{length-take-le}
-use Rattle.bits.specs.Pack.{bytesOf, bytes-same}
-use Rattle.bits.specs.Table.{getD-tab, tab-bits}
-use Rattle.sizes.specs.Rate.{inputBits, blockBytes, block-size, block-room}
-use Rattle.sizes.specs.Sizes.{wordBits, wordBytes}
-use Rattle.convolution.specs.Code.{encode, encode-bits}
-use Rattle.spread.specs.Theorems.{inputChange, change-input-bits}
+use Rattle.bits.specs.Pack.{bytesOf}
+use Rattle.bits.proofs.Laws.Pack.{bytes-same}
+use Rattle.bits.proofs.Laws.Table.{getD-tab, tab-bits}
+use Rattle.sizes.specs.Inner.{inputBits}
+use Rattle.sizes.specs.Sizes.{blockBytes, wordBits, wordBytes}
+use Rattle.sizes.proofs.Laws.Rate.{block-size, block-room}
+use Rattle.convolution.specs.Code.{encode}
+use Rattle.convolution.proofs.Laws.Code.{encode-bits}
+use Rattle.spread.specs.Inner.{inputChange}
+use Rattle.spread.proofs.Laws.Spread.{change-input-bits}
 use Rattle.spread.proofs.Changed.{front-zeros, spread-made}
 use borrow.Author.Needs.{needs}
 use Rattle.spread.proofs.fill.Statement.{statement}

@@ -9,8 +9,8 @@ use borrow.Author.Needs.{needs}
 use Rattle.spread.proofs.mark.Statement.{statement}
 use Rattle.spread.proofs.mark.Tie as tie
 
-judge-requires : tie.Need-judge-requires
-judge-requires c κs = search needs
+spread-says-requires : tie.Need-spread-says-requires
+spread-says-requires c κs = search needs
 
 enum-told : tie.Need-enum-told
 enum-told c = search needs
@@ -24,7 +24,7 @@ returns c = search needs
 fill-requires : tie.Need-fill-requires
 fill-requires c κs =
     let s = c .before .before .before .before .before in
-    let j = c .before .before .before .judge in
+    let j = c .before .before .before .spread-says in
     spread-accepted (s .args .rate) (s .args .bit) (length (s .args .places .now)) (sym (j .ensures) ∙ c .before .enum-told .given .1)
 
 same-length : tie.Need-same-length
@@ -33,7 +33,7 @@ same-length c = search needs
 returns-2 : tie.Need-returns-2
 returns-2 c =
     let s = c .before .before .before .before .before .before .before .before in
-    let j = c .before .before .before .before .before .before .judge in
+    let j = c .before .before .before .before .before .before .spread-says in
     let done = c .before .before .before .before .enum-told .given .1 in (
       j .ensures,
       c .before .before .fill .ensures
@@ -43,4 +43,4 @@ returns-2 c =
 pub mark-spec : {M : Type 1} → statement M
 mark-spec =
     tie.close
-    (tie.spec judge-requires enum-told enum-told-2 returns fill-requires same-length returns-2)
+    (tie.spec spread-says-requires enum-told enum-told-2 returns fill-requires same-length returns-2)

@@ -4,7 +4,8 @@ use mathlib.Core.Bool.{Bool}
 use Prim.Native.Nat.{ℕ, _-_, _≤_}
 use native.Mathlib.Omega.{arith}
 use borrow.Author.Tests.{not-true, not-false}
-use Rattle.bits.specs.First.{upTo, first-on, first-here, first-end}
+use Rattle.bits.specs.Basics.{upTo}
+use Rattle.bits.proofs.Laws.First.{first-on, first-here, first-end}
 use Rattle.ldpc.specs.Code.{isCodeword}
 use Rattle.uplink.specs.Uplink.{received, blockCount, firstBadBlock}
 use borrow.Author.Needs.{needs}

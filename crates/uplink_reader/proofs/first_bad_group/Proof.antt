@@ -3,7 +3,8 @@ use mathlib.Core.Path.{_≡_, refl, sym, ap, _∙_}
 use Prim.Native.Nat.{_-_, _*_, _≤_}
 use native.Mathlib.Omega.{arith}
 use borrow.Author.Tests.{not-true, not-false}
-use Rattle.bits.specs.First.{upTo, first-on, first-here, first-end}
+use Rattle.bits.specs.Basics.{upTo}
+use Rattle.bits.proofs.Laws.First.{first-on, first-here, first-end}
 use Rattle.uplink.specs.Uplink.{isBit, blockCount, firstBadGroup}
 use borrow.Author.Needs.{needs}
 use Rattle.uplink_reader.proofs.first_bad_group.Statement.{statement}

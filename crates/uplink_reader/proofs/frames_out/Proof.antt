@@ -3,7 +3,8 @@ use mathlib.Core.Path.{_≡_, ap, _∙_}
 use Prim.Native.Nat.{ℕ, _-_, _*_, _/_, _%_, _≤_}
 use native.Mathlib.Omega.{arith}
 use Rattle.bits.specs.Pack.{bytesOf}
-use Rattle.bits.specs.Stretch.{Laid, laid-none, laid-all}
+use Rattle.bits.specs.Inner.{Laid}
+use Rattle.bits.proofs.Laws.Stretch.{laid-none, laid-all}
 use Rattle.uplink.specs.Uplink.{received, blockCount, framesOf}
 use Rattle.uplink_reader.proofs.Reading.{frames-more}
 use borrow.Author.Needs.{needs}

@@ -11,19 +11,19 @@ use borrow.Author.Needs.{needs}
 use Rattle.uplink_reader.proofs.read.Statement.{statement}
 use Rattle.uplink_reader.proofs.read.Tie as tie
 
-lengths-right-requires : tie.Need-lengths-right-requires
-lengths-right-requires c κs = search needs
+uplink-lengths-right-requires : tie.Need-uplink-lengths-right-requires
+uplink-lengths-right-requires c κs = search needs
 
 returns : tie.Need-returns
 returns c =
     let a = c .before .before .before .before .args in
-    let t = c .before .lengths-right in
+    let t = c .before .uplink-lengths-right in
     (read-no (a .slots .now) (length (a .frames .now)) (t .result) (t .ensures) (not-true (t .result) (c .if1 .taken)), refl)
 
-judge-requires : tie.Need-judge-requires
-judge-requires c κs =
+uplink-slots-say-requires : tie.Need-uplink-slots-say-requires
+uplink-slots-say-requires c κs =
     let a = c .before .before .before .before .args in
-    let t = c .before .lengths-right in
+    let t = c .before .uplink-lengths-right in
     slotted (a .slots .now) (length (a .frames .now)) (t .result) (t .ensures) (not-false (t .result) (c .if1 .left))
 
 enum-told : tie.Need-enum-told
@@ -35,8 +35,8 @@ enum-told-2 c = search needs
 returns-2 : tie.Need-returns-2
 returns-2 c =
     let a = c .before .before .before .before .before .before .before .args in
-    let j = c .before .before .judge in
-    let t = c .before .before .before .before .lengths-right in (
+    let j = c .before .before .uplink-slots-say in
+    let t = c .before .before .before .before .uplink-lengths-right in (
       j .ensures ∙ read-on (a .slots .now) (length (a .frames .now)) (t .result) (t .ensures)
           (not-false (t .result) (c .before .before .before .if1 .left)),
       kept (j .result) (framesOf (a .slots .now)) (a .frames .now) (c .before .match .keys2),
@@ -45,7 +45,7 @@ returns-2 c =
 frames-out-requires : tie.Need-frames-out-requires
 frames-out-requires c κs =
     let a = c .before .before .before .before .before .before .before .before .args in
-    let t = c .before .before .before .before .before .lengths-right in
+    let t = c .before .before .before .before .before .uplink-lengths-right in
     let yes = not-false (t .result) (c .before .before .before .before .if1 .left) in
     let m = length (a .frames .now) in
     (slotted (a .slots .now) m (t .result) (t .ensures) yes, frames-slotted (a .slots .now) m (t .result) (t .ensures) (a .frames .now) refl yes)
@@ -56,8 +56,8 @@ same-length c = search needs
 returns-3 : tie.Need-returns-3
 returns-3 c =
     let a = c .before .before .before .before .before .before .before .before .before .before .before .args in
-    let j = c .before .before .before .before .before .before .judge in
-    let t = c .before .before .before .before .before .before .before .before .lengths-right in (
+    let j = c .before .before .before .before .before .before .uplink-slots-say in
+    let t = c .before .before .before .before .before .before .before .before .uplink-lengths-right in (
       j .ensures ∙ read-on (a .slots .now) (length (a .frames .now)) (t .result) (t .ensures)
           (not-false (t .result) (c .before .before .before .before .before .before .before .if1 .left)),
       c .before .before .frames-out .ensures
@@ -68,9 +68,9 @@ pub read-spec : {M : Type 1} → statement M
 read-spec =
     tie.close
     (tie.spec
-    lengths-right-requires
+    uplink-lengths-right-requires
     returns
-    judge-requires
+    uplink-slots-say-requires
     enum-told
     enum-told-2
     returns-2

@@ -3,7 +3,8 @@ use mathlib.Core.Path.{_≡_, refl}
 use Prim.Native.Nat.{ℕ, _+_, _-_, _*_, _≤_}
 use native.Mathlib.Omega.{arith}
 use Rattle.bits.specs.Pack.{bitOf}
-use Rattle.bits.specs.Stretch.{Laid, laid-none, laid-one, laid-on}
+use Rattle.bits.specs.Inner.{Laid}
+use Rattle.bits.proofs.Laws.Stretch.{laid-none, laid-one, laid-on}
 use Rattle.uplink.specs.Uplink.{slotOf}
 use borrow.Author.Needs.{needs}
 use Rattle.uplink_writer.proofs.put_slots.Statement.{statement}

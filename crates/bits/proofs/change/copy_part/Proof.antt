@@ -3,7 +3,7 @@ use mathlib.Core.Path.{_≡_}
 use Prim.Native.Nat.{_-_, _≤_}
 use native.Mathlib.Omega.{arith}
 use borrow.Author.Needs.{needs}
-use Rattle.bits.specs.Change.{Copied}
+use Rattle.bits.specs.Inner.{Copied}
 use Rattle.bits.proofs.Changing.{copied-none, copied-more}
 use Rattle.bits.proofs.change.copy_part.Statement.{statement}
 use Rattle.bits.proofs.change.copy_part.Tie as tie

@@ -5,7 +5,7 @@ use native.Mathlib.Omega.{arith}
 use lib.Bits.{bitXor, mask-lt}
 use lib.ListN.{getD, set}
 use borrow.Author.Needs.{needs}
-use Rattle.bits.specs.Change.{flipBit}
+use Rattle.bits.specs.Pack.{flipBit}
 use Rattle.bits.proofs.Changing.{one-byte}
 use Rattle.bits.proofs.change.flip.Statement.{statement}
 use Rattle.bits.proofs.change.flip.Tie as tie

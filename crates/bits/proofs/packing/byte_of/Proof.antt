@@ -4,7 +4,7 @@ use Prim.Native.Nat.{ℕ, _+_, _*_}
 use native.Mathlib.Omega.{arith}
 use lib.Bits.{bitAnd, mask-lt}
 use lib.ListN.{getD}
-use Rattle.bits.specs.Loops.{byte-mask}
+use Rattle.bits.proofs.Laws.Loops.{byte-mask}
 use borrow.Author.Needs.{needs}
 use Rattle.bits.proofs.packing.byte_of.Statement.{statement}
 use Rattle.bits.proofs.packing.byte_of.Tie as tie

@@ -6,8 +6,9 @@ use native.Mathlib.Omega.{arith}
 use lib.Bits.{bitOr}
 use lib.ListN.{getD}
 use lib.Pow.{shl-exact}
-use Rattle.bits.specs.Pack.{val, bitAt, Bits, Bytes, val-lt, bit-lt}
-use Rattle.bits.specs.Parts.{byte-val}
+use Rattle.bits.specs.Pack.{val, bitAt, Bits, Bytes}
+use Rattle.bits.proofs.Laws.Pack.{val-lt, bit-lt}
+use Rattle.bits.proofs.Laws.Parts.{byte-val}
 use Rattle.bits.proofs.Joining.{push-byte}
 use Rattle.bits.proofs.Joining.{join-byte}
 use borrow.Author.Needs.{needs}

@@ -4,8 +4,9 @@ use mathlib.Core.Path.{_≡_, refl, _∙_}
 use Prim.Native.Nat.{ℕ, _+_, _-_, _*_, _≤_, _<_}
 use native.Mathlib.Omega.{arith}
 use lib.ListN.{length, getD, length-set}
-use Rattle.bits.specs.Pack.{val, bytes-by-byte}
-use Rattle.bits.specs.Table.{fill}
+use Rattle.bits.specs.Pack.{val}
+use Rattle.bits.proofs.Laws.Pack.{bytes-by-byte}
+use Rattle.bits.proofs.Laws.Table.{fill}
 use Rattle.bits.proofs.packing.pack.Statement.{statement}
 use Rattle.bits.proofs.packing.pack.Tie as tie
 

@@ -1,7 +1,7 @@
 -- The byte with its bit set, by a shift.
 use mathlib.Core.Path.{refl}
 use borrow.Author.Needs.{needs}
-use Rattle.bits.specs.Put.{withBit}
+use Rattle.bits.specs.Inner.{withBit}
 use Rattle.bits.proofs.packing.put_bit.Statement.{statement}
 use Rattle.bits.proofs.packing.put_bit.Tie as tie
 

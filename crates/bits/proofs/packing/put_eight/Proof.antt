@@ -4,8 +4,9 @@ use Prim.Native.Nat.{ℕ, _+_, _-_, _*_, _/_, _^_, _≤_}
 use native.Mathlib.Omega.{arith}
 use lib.Bits.{and-mask, mask-lt}
 use Rattle.bits.specs.Pack.{bitOf}
-use Rattle.bits.specs.Field.{cut-out}
-use Rattle.bits.specs.Stretch.{Laid, laid-none, laid-one, laid-on}
+use Rattle.bits.proofs.Laws.Field.{cut-out}
+use Rattle.bits.specs.Inner.{Laid}
+use Rattle.bits.proofs.Laws.Stretch.{laid-none, laid-one, laid-on}
 use borrow.Author.Needs.{needs}
 use Rattle.bits.proofs.packing.put_eight.Statement.{statement}
 use Rattle.bits.proofs.packing.put_eight.Tie as tie

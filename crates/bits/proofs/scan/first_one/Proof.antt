@@ -4,8 +4,11 @@ use Prim.Native.Nat.{ℕ, _+_, _-_, _≤_}
 use native.Mathlib.Omega.{arith}
 use lib.ListN.{length}
 use borrow.Author.Needs.{needs}
-use Rattle.bits.specs.First.{upTo, first-end}
-use Rattle.bits.specs.Window.{clearAt, firstOne, lesser, lesser-le, lesser-some, reach, window-pass, window-stop}
+use Rattle.bits.specs.Basics.{upTo}
+use Rattle.bits.proofs.Laws.First.{first-end}
+use Rattle.bits.specs.Pack.{clearAt, firstOne}
+use Rattle.bits.specs.Inner.{lesser, reach}
+use Rattle.bits.proofs.Laws.Window.{lesser-le, lesser-some, window-pass, window-stop}
 use Rattle.bits.proofs.Windows.{reach-is}
 use Rattle.bits.proofs.scan.first_one.Statement.{statement}
 use Rattle.bits.proofs.scan.first_one.Tie as tie

@@ -3,7 +3,7 @@ use mathlib.Core.Path.{_≡_}
 use Prim.Native.Nat.{ℕ, suc, _+_, _-_, _^_, _≤_, _<_}
 use native.Mathlib.Omega.{arith}
 use lib.Count.{leadingZeros, leading-top, leading-le}
-use Rattle.bits.specs.Leading.{Leads}
+use Rattle.bits.specs.Inner.{Leads}
 use Rattle.bits.proofs.scan.leading.Statement.{statement}
 use Rattle.bits.proofs.scan.leading.Tie as tie
 

@@ -1,7 +1,7 @@
 -- The code is the definition.
 use mathlib.Core.Path.{refl}
 use borrow.Author.Tests.{lt-ltb, le-ltb}
-use Rattle.bits.specs.Window.{lesser}
+use Rattle.bits.specs.Inner.{lesser}
 use Rattle.bits.proofs.scan.least.Statement.{statement}
 use Rattle.bits.proofs.scan.least.Tie as tie
 

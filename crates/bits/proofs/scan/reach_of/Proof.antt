@@ -5,7 +5,7 @@ use native.Mathlib.Omega.{arith}
 use lib.ListN.{length}
 use borrow.Author.Needs.{needs}
 use borrow.Author.Tests.{le-leb, lt-leb}
-use Rattle.bits.specs.Window.{shown, reach}
+use Rattle.bits.specs.Inner.{shown, reach}
 use Rattle.bits.proofs.scan.reach_of.Statement.{statement}
 use Rattle.bits.proofs.scan.reach_of.Tie as tie
 

@@ -5,7 +5,7 @@ use native.Mathlib.Omega.{arith}
 use lib.ListN.{length}
 use borrow.Author.Needs.{needs}
 use borrow.Author.Tests.{le-leb, lt-leb}
-use Rattle.bits.specs.Window.{shown}
+use Rattle.bits.specs.Inner.{shown}
 use Rattle.bits.proofs.Windows.{one-byte, eight-bytes}
 use Rattle.bits.proofs.scan.window.Statement.{statement}
 use Rattle.bits.proofs.scan.window.Tie as tie

@@ -4,8 +4,9 @@ use Prim.Native.Nat.{ℕ, _+_, _*_, _/_, _%_}
 use native.Mathlib.Omega.{arith}
 use lib.ListN.{getD}
 use borrow.Author.Needs.{needs}
-use Rattle.bits.specs.Pack.{bitAt, val-same}
-use Rattle.bits.specs.Stretch.{eightOf}
+use Rattle.bits.specs.Pack.{bitAt}
+use Rattle.bits.proofs.Laws.Pack.{val-same}
+use Rattle.bits.specs.Inner.{eightOf}
 use Rattle.bits.proofs.Stretches.{eight-of}
 use Rattle.bits.proofs.stretch.byte_from.Statement.{statement}
 use Rattle.bits.proofs.stretch.byte_from.Tie as tie

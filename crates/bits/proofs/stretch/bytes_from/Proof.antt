@@ -4,7 +4,8 @@ use Prim.Native.Nat.{ℕ, _+_, _-_, _*_, _≤_}
 use native.Mathlib.Omega.{arith}
 use borrow.Author.Needs.{needs}
 use Rattle.bits.specs.Pack.{bitAt}
-use Rattle.bits.specs.Stretch.{Laid, laid-none, laid-one, laid-on}
+use Rattle.bits.specs.Inner.{Laid}
+use Rattle.bits.proofs.Laws.Stretch.{laid-none, laid-one, laid-on}
 use Rattle.bits.proofs.Stretches.{eight-of}
 use Rattle.bits.proofs.stretch.bytes_from.Statement.{statement}
 use Rattle.bits.proofs.stretch.bytes_from.Tie as tie

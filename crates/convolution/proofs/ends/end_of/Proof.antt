@@ -5,7 +5,8 @@ use native.Mathlib.Omega.{arith}
 use lib.Bits.{bitAnd}
 use lib.ListN.{length}
 use borrow.Author.Needs.{needs}
-use Rattle.bits.specs.Pack.{bitAt, val-same, bit-lt}
+use Rattle.bits.specs.Pack.{bitAt}
+use Rattle.bits.proofs.Laws.Pack.{val-same, bit-lt}
 use Rattle.convolution.proofs.Ending.{end-value}
 use Rattle.convolution.proofs.ends.end_of.Statement.{statement}
 use Rattle.convolution.proofs.ends.end_of.Tie as tie

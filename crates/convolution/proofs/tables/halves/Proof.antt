@@ -1,9 +1,9 @@
 -- The table has what the turns ask of it: computed tests of all its entries.
 use mathlib.Core.Path.{refl}
 use borrow.Author.Needs.{needs}
-use Rattle.sizes.specs.Rate.{inputsPer, codedPer}
+use Rattle.sizes.specs.Sizes.{inputsPer, codedPer}
 use Rattle.convolution.specs.Code.{stepOf}
-use Rattle.convolution.specs.Turns.{turnBit}
+use Rattle.convolution.specs.Inner.{turnBit}
 use Rattle.convolution.proofs.Turning.{entries-right}
 use Rattle.convolution.proofs.tables.halves.Statement.{statement}
 use Rattle.convolution.proofs.tables.halves.Tie as tie

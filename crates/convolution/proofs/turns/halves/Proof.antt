@@ -3,7 +3,8 @@ use mathlib.Core.Path.{refl, sym, _∙_}
 use Prim.Native.Nat.{_-_, _≤_}
 use native.Mathlib.Omega.{arith}
 use borrow.Author.Needs.{needs}
-use Rattle.bits.specs.Pack.{bitAt, bit-lt}
+use Rattle.bits.specs.Pack.{bitAt}
+use Rattle.bits.proofs.Laws.Pack.{bit-lt}
 use Rattle.convolution.proofs.Turning.{Coding, half-turns, coding-none, coding-small, push-byte, last-two, coding-on, coding-done}
 use Rattle.convolution.proofs.turns.halves.Statement.{statement}
 use Rattle.convolution.proofs.turns.halves.Tie as tie

@@ -4,7 +4,7 @@ use Prim.Native.Nat.{_-_, _*_, _/_, _^_, _≤_}
 use native.Mathlib.Omega.{arith}
 use lib.Bits.{and-mask, mask-lt}
 use borrow.Author.Needs.{needs}
-use Rattle.convolution.specs.Turns.{Put, byteOf}
+use Rattle.convolution.specs.Inner.{Put, byteOf}
 use Rattle.convolution.proofs.Filling.{put-none, put-more}
 use Rattle.convolution.proofs.turns.put_low_eight.Statement.{statement}
 use Rattle.convolution.proofs.turns.put_low_eight.Tie as tie

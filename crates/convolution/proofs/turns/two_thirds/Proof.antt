@@ -3,7 +3,8 @@ use mathlib.Core.Path.{refl, sym, _∙_}
 use Prim.Native.Nat.{_+_, _-_, _*_, _≤_}
 use native.Mathlib.Omega.{arith}
 use borrow.Author.Needs.{needs}
-use Rattle.bits.specs.Pack.{Bytes, bitAt, bit-lt}
+use Rattle.bits.specs.Pack.{Bytes, bitAt}
+use Rattle.bits.proofs.Laws.Pack.{bit-lt}
 use Rattle.convolution.proofs.Turning.{Coding, two-thirds-turns, coding-none, coding-small, push-byte, last-two, coding-on, coding-done}
 use Rattle.convolution.proofs.turns.two_thirds.Statement.{statement}
 use Rattle.convolution.proofs.turns.two_thirds.Tie as tie

@@ -6,9 +6,9 @@ use native.Mathlib.Omega.{arith}
 use lib.Bits.{bitAnd, and-mask, mask-lt}
 use lib.ListN.{getD}
 use borrow.Author.Needs.{needs}
-use Rattle.sizes.specs.Rate.{inputsPer, codedPer}
+use Rattle.sizes.specs.Sizes.{inputsPer, codedPer}
 use Rattle.convolution.specs.Code.{stepOf}
-use Rattle.convolution.specs.Turns.{bitIn, byteOf, turnBit, TwoThirds}
+use Rattle.convolution.specs.Inner.{bitIn, byteOf, turnBit, TwoThirds}
 use Rattle.convolution.proofs.Filling.{put-on, put-same}
 use Rattle.convolution.proofs.Turning.{group}
 use Rattle.convolution.proofs.turns.two_thirds_turn.Statement.{statement}

@@ -9,10 +9,10 @@ use Rattle.decoder.proofs.apart.apart.Statement.{statement}
 use Rattle.decoder.proofs.apart.apart.Tie as tie
 
 abbrev Inv-loop : tie.InvT-loop
-Inv-loop a b c p q step n joined₀ u₀ joined u = (u ≤ 45) × Cleared a b c p q u joined
+Inv-loop a b c s joined₀ u₀ joined u = (u ≤ 45) × Cleared a b c (s .second) (s .third) u joined
 
 abbrev μ-loop : tie.MeasureT-loop
-μ-loop a b c p q step n joined₀ u₀ joined u = 45 - u
+μ-loop a b c s joined₀ u₀ joined u = 45 - u
 
 loop-holds : tie.Need-loop-holds Inv-loop μ-loop
 loop-holds c = (search needs, cleared-none _ _ _ _ _ _ refl)
@@ -48,8 +48,8 @@ returns c =
     let l = c .before .before .before .loop in
     let s = c .before .before .before .before .before .before .before in
     λ z u m hu hm.
-    let more : m + 1 ≤ s .args .n = omega arith in
-    l .inv .1 .none (s .args .step * m) (omega (arith, mul-le-mul (le-refl (s .args .step)) more, s .pre .1)) (c .every .ensures z m hm) u (omega arith)
+    let more : m + 1 ≤ s .args .s .count = omega arith in
+    l .inv .1 .none (s .args .s .step * m) (omega (arith, mul-le-mul (le-refl (s .args .s .step)) more, s .pre .1)) (c .every .ensures z m hm) u (omega arith)
 
 pub apart-spec : {M : Type 1} → statement M
 apart-spec =

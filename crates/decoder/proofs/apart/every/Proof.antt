@@ -5,8 +5,8 @@ use Prim.Native.Nat.{ℕ, _+_, _-_, _*_, _≤_, _<_}
 use native.Mathlib.Omega.{arith}
 use native.Mathlib.Nat.{mul-le-mul, le-refl}
 use lib.ListN.{getD}
-use Rattle.bits.specs.Choice.{lt-or-le}
-use Rattle.bits.specs.Sum.{or-zero}
+use Rattle.bits.proofs.Laws.Choice.{lt-or-le}
+use Rattle.bits.proofs.Laws.Sum.{or-zero}
 use borrow.Author.Needs.{needs}
 use Rattle.decoder.proofs.apart.every.Statement.{statement}
 use Rattle.decoder.proofs.apart.every.Tie as tie

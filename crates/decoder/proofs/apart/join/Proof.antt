@@ -2,17 +2,17 @@
 use mathlib.Core.Path.{_≡_}
 use Prim.Native.Nat.{_-_, _≤_}
 use native.Mathlib.Omega.{arith}
-use Rattle.decoder.specs.Apart.{Joined}
+use Rattle.decoder.specs.Inner.{Joined}
 use Rattle.decoder.proofs.Joining.{joined-none, joined-more}
 use borrow.Author.Needs.{needs}
 use Rattle.decoder.proofs.apart.join.Statement.{statement}
 use Rattle.decoder.proofs.apart.join.Tie as tie
 
 abbrev Inv-loop : tie.InvT-loop
-Inv-loop a b c p q at joined₀ t₀ joined t = (t ≤ 48) × Joined a b c p q at t joined₀ joined
+Inv-loop a b c s at joined₀ t₀ joined t = (t ≤ 48) × Joined a b c (s .second) (s .third) at t joined₀ joined
 
 abbrev μ-loop : tie.MeasureT-loop
-μ-loop a b c p q at joined₀ t₀ joined t = 48 - t
+μ-loop a b c s at joined₀ t₀ joined t = 48 - t
 
 loop-holds : tie.Need-loop-holds Inv-loop μ-loop
 loop-holds c = (search needs, joined-none _ _ _ _ _ _ _)
@@ -55,8 +55,8 @@ loop-less c = search needs
 
 loop-again : tie.Need-loop-again Inv-loop μ-loop
 loop-again c =
-    let l = c .before .before .before .before .before .loop in
-    (search needs, joined-more _ _ _ _ _ _ _ _ (l .t) (omega (arith, l .inv .1 .long, c .before .before .before .before .before .before .pre .1 .1)) (l .inv .1))
+    let l = c .before .before .before .before .before .before .before .loop in
+    (search needs, joined-more _ _ _ _ _ _ _ _ (l .t) (omega (arith, l .inv .1 .long, c .before .before .before .before .before .before .before .before .pre .1 .1)) (l .inv .1))
 
 same-length : tie.Need-same-length Inv-loop μ-loop
 same-length c = c .before .loop .inv .1 .long

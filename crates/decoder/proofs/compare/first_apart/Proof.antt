@@ -4,9 +4,10 @@ use Prim.Native.Nat.{_-_, _≤_}
 use native.Mathlib.Omega.{arith}
 use borrow.Author.Needs.{needs}
 use borrow.Author.Tests.{eq-eqb, ne-eqb}
-use Rattle.bits.specs.First.{upTo, first-on, first-here, first-end}
+use Rattle.bits.specs.Basics.{upTo}
+use Rattle.bits.proofs.Laws.First.{first-on, first-here, first-end}
 use Rattle.sizes.specs.Sizes.{wordBits}
-use Rattle.decoder.specs.Compare.{sameAt}
+use Rattle.decoder.specs.Inner.{sameAt}
 use Rattle.decoder.proofs.compare.first_apart.Statement.{statement}
 use Rattle.decoder.proofs.compare.first_apart.Tie as tie
 

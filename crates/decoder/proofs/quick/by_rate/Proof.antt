@@ -3,7 +3,8 @@ use mathlib.Core.Path.{_≡_, sym, ap, _∙_}
 use Prim.Native.Nat.{ℕ}
 use native.Mathlib.Omega.{arith}
 use Rattle.bits.specs.Pack.{bitAt}
-use Rattle.sizes.specs.Rate.{infoBits, inputBits}
+use Rattle.sizes.specs.Sizes.{infoBits}
+use Rattle.sizes.specs.Inner.{inputBits}
 use Rattle.convolution.specs.Code.{encode}
 use borrow.Author.Needs.{needs}
 use Rattle.decoder.proofs.quick.by_rate.Statement.{statement}

@@ -1,7 +1,7 @@
 -- Joined differences are 0 only where both are.
 use mathlib.Core.Path.{_∙_}
 use lib.Bits.{and-mask}
-use Rattle.bits.specs.Sum.{or-zero, same-xor}
+use Rattle.bits.proofs.Laws.Sum.{or-zero, same-xor}
 use borrow.Author.Needs.{needs}
 use Rattle.decoder.proofs.quick.start_apart.Statement.{statement}
 use Rattle.decoder.proofs.quick.start_apart.Tie as tie

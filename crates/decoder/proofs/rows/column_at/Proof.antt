@@ -4,9 +4,9 @@ use Prim.Native.Nat.{ℕ, _-_, _*_, _%_, _^_, _≤_}
 use native.Mathlib.Omega.{arith}
 use lib.Bits.{bitOr}
 use Rattle.bits.specs.Pack.{val}
-use Rattle.bits.specs.Loops.{push}
-use Rattle.sevens.specs.Sevens.{column}
-use Rattle.decoder.specs.Rows.{bitsOf}
+use Rattle.bits.proofs.Laws.Loops.{push}
+use Rattle.word_columns.specs.Inner.{column}
+use Rattle.decoder.specs.Inner.{bitsOf}
 use Rattle.decoder.proofs.Columns.{rowBit}
 use borrow.Author.Needs.{needs}
 use Rattle.decoder.proofs.rows.column_at.Statement.{statement}

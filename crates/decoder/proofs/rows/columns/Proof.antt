@@ -1,5 +1,5 @@
 -- The columns of the rows, and behind them those of the next row.
-use Rattle.decoder.specs.Rows.{bitsOf}
+use Rattle.decoder.specs.Inner.{bitsOf}
 use Rattle.decoder.proofs.Columns.{coded-past, held-next}
 use borrow.Author.Needs.{needs}
 use Rattle.decoder.proofs.rows.columns.Statement.{statement}

@@ -2,14 +2,14 @@
 use mathlib.Core.Path.{_≡_, refl, sym, _∙_}
 use Prim.Native.Nat.{_-_, _≤_}
 use native.Mathlib.Omega.{arith}
-use Rattle.decoder.specs.Rows.{Held, sumFive}
+use Rattle.decoder.specs.Inner.{Held, sumFive}
 use Rattle.decoder.proofs.Columns.{held-none, held-more}
 use borrow.Author.Needs.{needs}
 use Rattle.decoder.proofs.rows.fives.Statement.{statement}
 use Rattle.decoder.proofs.rows.fives.Tie as tie
 
 abbrev Inv-loop : tie.InvT-loop
-Inv-loop v out₀ x₀ out x = (x ≤ 2164) × Held (sumFive v) x out
+Inv-loop v out₀ x₀ out x = (x ≤ 2164) × Held (sumFive v) out x
 
 abbrev μ-loop : tie.MeasureT-loop
 μ-loop v out₀ x₀ out x = 2164 - x

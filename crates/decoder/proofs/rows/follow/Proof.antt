@@ -3,7 +3,7 @@ use mathlib.Core.Path.{_≡_, ap}
 use Prim.Native.Nat.{ℕ, _-_, _/_, _≤_}
 use native.Mathlib.Omega.{arith}
 use lib.ListN.{getD}
-use Rattle.convolution.specs.Turns.{Put}
+use Rattle.convolution.specs.Inner.{Put}
 use Rattle.convolution.proofs.Filling.{put-none, put-more}
 use borrow.Author.Needs.{needs}
 use Rattle.decoder.proofs.rows.follow.Statement.{statement}

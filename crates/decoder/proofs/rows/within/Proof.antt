@@ -2,15 +2,15 @@
 use mathlib.Core.Path.{_≡_, sym, _∙_}
 use Prim.Native.Nat.{_-_, _≤_}
 use native.Mathlib.Omega.{arith}
-use Rattle.sevens.specs.Sevens.{column}
-use Rattle.decoder.specs.Rows.{bitsOf, Held}
+use Rattle.word_columns.specs.Inner.{column}
+use Rattle.decoder.specs.Inner.{bitsOf, Held}
 use Rattle.decoder.proofs.Columns.{held-none, held-more}
 use borrow.Author.Needs.{needs}
 use Rattle.decoder.proofs.rows.within.Statement.{statement}
 use Rattle.decoder.proofs.rows.within.Tie as tie
 
 abbrev Inv-loop : tie.InvT-loop
-Inv-loop coded v₀ x₀ v x = (x ≤ 2160) × Held (column (bitsOf coded)) x v
+Inv-loop coded v₀ x₀ v x = (x ≤ 2160) × Held (column (bitsOf coded)) v x
 
 abbrev μ-loop : tie.MeasureT-loop
 μ-loop coded v₀ x₀ v x = 2160 - x

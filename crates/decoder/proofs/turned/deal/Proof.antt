@@ -3,7 +3,7 @@ use mathlib.Core.Path.{_≡_, refl}
 use Prim.Native.Nat.{_-_, _≤_}
 use native.Mathlib.Omega.{arith}
 use borrow.Author.Needs.{needs}
-use Rattle.decoder.specs.Turned.{Dealt}
+use Rattle.decoder.specs.Inner.{Dealt}
 use Rattle.decoder.proofs.Transposing.{dealt-none, dealt-more}
 use Rattle.decoder.proofs.turned.deal.Statement.{statement}
 use Rattle.decoder.proofs.turned.deal.Tie as tie

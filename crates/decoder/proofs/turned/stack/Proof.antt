@@ -4,30 +4,30 @@ use Prim.Native.Nat.{_-_, _*_, _≤_}
 use native.Mathlib.Omega.{arith}
 use lib.ListN.{length}
 use borrow.Author.Needs.{needs}
-use Rattle.decoder.specs.Turned.{Stacked}
+use Rattle.decoder.specs.Inner.{Stacked}
 use Rattle.decoder.proofs.Transposing.{deals, stacked-more}
 use Rattle.decoder.proofs.turned.stack.Statement.{statement}
 use Rattle.decoder.proofs.turned.stack.Tie as tie
 
 abbrev Inv-loop : tie.InvT-loop
-Inv-loop a b x y s n room₀ j₀ room j = (j ≤ 4) × (length room ≡ 1440) × Stacked a b x y s n (2 * j) room
+Inv-loop a b t room₀ j₀ room j = (j ≤ 4) × (length room ≡ 1440) × Stacked a b (t .x) (t .y) (t .step) (t .groups) (2 * j) room
 
 abbrev μ-loop : tie.MeasureT-loop
-μ-loop a b x y s n room₀ j₀ room j = 4 - j
+μ-loop a b t room₀ j₀ room j = 4 - j
 
 loop-holds : tie.Need-loop-holds Inv-loop μ-loop
 loop-holds c = (search needs, search needs, λ u g h. absurd (omega arith))
 
 mul-deal : tie.Need-mul-deal Inv-loop μ-loop
 mul-deal c =
-    let s = c .before .before .before .before .before in
-    let d = deals (s .args .x) (s .args .y) (s .args .s) (s .args .n) (c .before .loop .j) (s .pre .0) (omega arith) in
+    let s = c .before .before .before .before .before .before in
+    let d = deals (s .args .t .x) (s .args .t .y) (s .args .t .step) (s .args .t .groups) (c .before .before .loop .j) (s .pre .0) (omega arith) in
     omega (arith, d .step, d .few, d .a-row, d .b-row)
 
 add-deal : tie.Need-add-deal Inv-loop μ-loop
 add-deal c =
-    let s = c .before .before .before .before .before in
-    let d = deals (s .args .x) (s .args .y) (s .args .s) (s .args .n) (c .before .loop .j) (s .pre .0) (omega arith) in
+    let s = c .before .before .before .before .before .before .before in
+    let d = deals (s .args .t .x) (s .args .t .y) (s .args .t .step) (s .args .t .groups) (c .before .before .before .loop .j) (s .pre .0) (omega arith) in
     omega (arith, d .step, d .few, d .a-row, d .b-row)
 
 mul-deal-2 : tie.Need-mul-deal-2 Inv-loop μ-loop
@@ -41,27 +41,27 @@ sub-deal c = search needs
 
 mul-deal-4 : tie.Need-mul-deal-4 Inv-loop μ-loop
 mul-deal-4 c =
-    let s = c .before .before .before .before .before .before in
-    let d = deals (s .args .x) (s .args .y) (s .args .s) (s .args .n) (c .before .before .loop .j) (s .pre .0) (omega arith) in
+    let s = c .before .before .before .before .before .before .before .before .before .before in
+    let d = deals (s .args .t .x) (s .args .t .y) (s .args .t .step) (s .args .t .groups) (c .before .before .before .before .before .before .loop .j) (s .pre .0) (omega arith) in
     omega (arith, d .step, d .few, d .a-row, d .b-row)
 
 deal-requires : tie.Need-deal-requires Inv-loop μ-loop
 deal-requires c κs =
-    let s = c .before .before .before .before .before .before in
-    let l = c .before .before .loop in
-    let d = deals (s .args .x) (s .args .y) (s .args .s) (s .args .n) (l .j) (s .pre .0) (omega arith) in
-    (λ g h. omega (arith, d .inside (s .args .x) g (s .pre .0 .x-few) h, s .pre .0 .a-size), omega (arith, d .a-row, l .inv .1))
+    let s = c .before .before .before .before .before .before .before .before .before .before in
+    let l = c .before .before .before .before .before .before .loop in
+    let d = deals (s .args .t .x) (s .args .t .y) (s .args .t .step) (s .args .t .groups) (l .j) (s .pre .0) (omega arith) in
+    (λ g h. omega (arith, d .inside (s .args .t .x) g (s .pre .0 .x-few) h, s .pre .0 .a-size), omega (arith, d .a-row, l .inv .1))
 
 mul-deal-5 : tie.Need-mul-deal-5 Inv-loop μ-loop
 mul-deal-5 c =
-    let s = c .before .before .before .before .before .before .before .before .before in
-    let d = deals (s .args .x) (s .args .y) (s .args .s) (s .args .n) (c .before .before .before .before .before .loop .j) (s .pre .0) (omega arith) in
+    let s = c .before .before .before .before .before .before .before .before .before .before .before .before .before .before in
+    let d = deals (s .args .t .x) (s .args .t .y) (s .args .t .step) (s .args .t .groups) (c .before .before .before .before .before .before .before .before .before .before .loop .j) (s .pre .0) (omega arith) in
     omega (arith, d .step, d .few, d .a-row, d .b-row)
 
 add-deal-2 : tie.Need-add-deal-2 Inv-loop μ-loop
 add-deal-2 c =
-    let s = c .before .before .before .before .before .before .before .before .before in
-    let d = deals (s .args .x) (s .args .y) (s .args .s) (s .args .n) (c .before .before .before .before .before .loop .j) (s .pre .0) (omega arith) in
+    let s = c .before .before .before .before .before .before .before .before .before .before .before .before .before .before .before in
+    let d = deals (s .args .t .x) (s .args .t .y) (s .args .t .step) (s .args .t .groups) (c .before .before .before .before .before .before .before .before .before .before .before .loop .j) (s .pre .0) (omega arith) in
     omega (arith, d .step, d .few, d .a-row, d .b-row)
 
 mul-deal-6 : tie.Need-mul-deal-6 Inv-loop μ-loop
@@ -75,16 +75,16 @@ sub-deal-2 c = search needs
 
 mul-deal-8 : tie.Need-mul-deal-8 Inv-loop μ-loop
 mul-deal-8 c =
-    let s = c .before .before .before .before .before .before .before .before .before .before in
-    let d = deals (s .args .x) (s .args .y) (s .args .s) (s .args .n) (c .before .before .before .before .before .before .loop .j) (s .pre .0) (omega arith) in
+    let s = c .before .before .before .before .before .before .before .before .before .before .before .before .before .before .before .before .before .before in
+    let d = deals (s .args .t .x) (s .args .t .y) (s .args .t .step) (s .args .t .groups) (c .before .before .before .before .before .before .before .before .before .before .before .before .before .before .loop .j) (s .pre .0) (omega arith) in
     omega (arith, d .step, d .few, d .a-row, d .b-row)
 
 deal-requires-2 : tie.Need-deal-requires-2 Inv-loop μ-loop
 deal-requires-2 c κs =
-    let s = c .before .before .before .before .before .before .before .before .before .before in
-    let l = c .before .before .before .before .before .before .loop in
-    let d = deals (s .args .x) (s .args .y) (s .args .s) (s .args .n) (l .j) (s .pre .0) (omega arith) in
-    (λ g h. omega (arith, d .inside (s .args .x) g (s .pre .0 .x-few) h, d .inside (s .args .y) g (s .pre .0 .y-few) h, s .pre .0 .a-size, s .pre .0 .b-size), omega (arith, d .b-row, l .inv .1))
+    let s = c .before .before .before .before .before .before .before .before .before .before .before .before .before .before .before .before .before .before in
+    let l = c .before .before .before .before .before .before .before .before .before .before .before .before .before .before .loop in
+    let d = deals (s .args .t .x) (s .args .t .y) (s .args .t .step) (s .args .t .groups) (l .j) (s .pre .0) (omega arith) in
+    (λ g h. omega (arith, d .inside (s .args .t .x) g (s .pre .0 .x-few) h, d .inside (s .args .t .y) g (s .pre .0 .y-few) h, s .pre .0 .a-size, s .pre .0 .b-size), omega (arith, d .b-row, l .inv .1))
 
 add-j : tie.Need-add-j Inv-loop μ-loop
 add-j c = search needs
@@ -95,8 +95,8 @@ loop-less c = search needs
 loop-again : tie.Need-loop-again Inv-loop μ-loop
 loop-again c =
     let second = c .before .before .deal2 .ensures in
-    let first = c .before .before .before .before .before .before .deal .ensures in
-    let l = c .before .before .before .before .before .before .before .before .before .loop in (
+    let first = c .before .before .before .before .before .before .before .before .before .before .deal .ensures in
+    let l = c .before .before .before .before .before .before .before .before .before .before .before .before .before .before .before .before .before .loop in (
       search needs,
       second .long ∙ first .long ∙ l .inv .1,
       stacked-more _ _ _ _ _ _ (l .j) _ _ _ (omega arith) first second (l .inv .2),

@@ -17,8 +17,8 @@ slice-aggregate-transposed c = search needs
 transposed-requires : tie.Need-transposed-requires
 transposed-requires c κs =
     let s = c .before .before .before .before .before .before .before in
-    let d = deals (s .args .x) (s .args .y) (s .args .s) (s .args .n) 0 (s .pre .0) (omega arith) in
-    let long = c .before .before .stack .kept .1 .1 .1 .1 .1 .1 .0 in
+    let d = deals (s .args .t .x) (s .args .t .y) (s .args .t .step) (s .args .t .groups) 0 (s .pre .0) (omega arith) in
+    let long = c .before .before .stack .kept .1 .1 .1 .0 in
     (d .some, omega (arith, d .few, long))
 
 slice-aggregate-copy-part : tie.Need-slice-aggregate-copy-part
@@ -29,10 +29,10 @@ mul-copy-part c = search needs
 
 copy-part-requires : tie.Need-copy-part-requires
 copy-part-requires c κs =
-    let s = c .before .before .before .before .before .before .before .before .before .before .before in
-    let d = deals (s .args .x) (s .args .y) (s .args .s) (s .args .n) 0 (s .pre .0) (omega arith) in
-    let t = c .before .before .before .transposed .ensures in
-    let long = c .before .before .before .before .before .before .stack .kept .1 .1 .1 .1 .1 .1 .0 in
+    let s = c .before .before .before .before .before .before .before .before .before .before .before .before in
+    let d = deals (s .args .t .x) (s .args .t .y) (s .args .t .step) (s .args .t .groups) 0 (s .pre .0) (omega arith) in
+    let t = c .before .before .before .before .transposed .ensures in
+    let long = c .before .before .before .before .before .before .before .stack .kept .1 .1 .1 .0 in
     (omega (arith, d .few, long, t .long), omega (arith, s .pre .1))
 
 same-length : tie.Need-same-length
@@ -40,8 +40,8 @@ same-length c = search needs
 
 returns : tie.Need-returns
 returns c =
-    let room = c .before .before .before .before .before .before .before .before .before .stack .ensures in
-    let turned = c .before .before .before .before .before .before .transposed .ensures in
+    let room = c .before .before .before .before .before .before .before .before .before .before .stack .ensures in
+    let turned = c .before .before .before .before .before .before .before .transposed .ensures in
     taken-made _ _ _ _ _ _ _ _ _ _ room turned (c .before .before .copy-part .ensures)
 
 pub take-spec : {M : Type 1} → statement M

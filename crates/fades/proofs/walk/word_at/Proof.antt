@@ -3,6 +3,7 @@ use mathlib.Core.Path.{ap, _∙_}
 use Prim.Native.Nat.{ℕ, _*_, _/_}
 use native.Mathlib.Omega.{arith}
 use Rattle.channel.specs.Channel.{hitBy}
+use Rattle.channel.proofs.Laws.Places.{own-numbers}
 use Rattle.fades.specs.Fades.{sourceOf}
 use Rattle.fades.proofs.Walked.{marker-word, source-word}
 use borrow.Author.Needs.{needs}
@@ -32,7 +33,7 @@ returns-2 c =
     let g = s .args .g in
     let a = s .args .a in
     let e = s .pre .1 .column-is in
-    ap (λ (t : ℕ). t / g .symbols) (c .hit-by .ensures ∙ ap (λ (x : ℕ). hitBy (g .rows) (g .step) (g .words * g .symbols) x) (s .pre .1 .place-is))
+    ap (λ (t : ℕ). t / g .symbols) (c .hit-by .ensures g (own-numbers g) ∙ ap (hitBy g) (s .pre .1 .place-is))
     ∙ source-word g (s .pre .0 .symbols-least) (a .symbol) (omega arith)
 
 pub word-at-spec : {M : Type 1} → statement M

@@ -1,6 +1,6 @@
 -- Starts and bytes of the columns, their numbers in order, and the bits of these.
 use borrow.Author.Needs.{needs}
-use Rattle.interleaver.specs.Columns.{upIn}
+use Rattle.interleaver.specs.Inner.{upIn}
 use Rattle.interleaver.proofs.Numbers.{masks-rolled}
 use Rattle.interleaver.proofs.Reading.{in-lt, starts-right, given-bits}
 use Rattle.interleaver.proofs.back.given.Statement.{statement}

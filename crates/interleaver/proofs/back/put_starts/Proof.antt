@@ -4,7 +4,7 @@ use Prim.Native.Nat.{ℕ, _-_, _≤_, _<_}
 use native.Mathlib.Omega.{arith}
 use lib.ListN.{length, getD}
 use borrow.Author.Needs.{needs}
-use Rattle.interleaver.specs.Columns.{takenBy, columnOf, startIn}
+use Rattle.interleaver.specs.Inner.{takenBy, columnOf, startIn}
 use Rattle.interleaver.proofs.Numbers.{column-lt}
 use Rattle.interleaver.proofs.Reading.{start-more}
 use Rattle.interleaver.proofs.back.put_starts.Statement.{statement}

@@ -1,7 +1,7 @@
 -- The numbers of the columns, and then each at its place.
 use native.Mathlib.Omega.{arith}
 use borrow.Author.Needs.{needs}
-use Rattle.interleaver.specs.Columns.{takenBy, upIn}
+use Rattle.interleaver.specs.Inner.{takenBy, upIn}
 use Rattle.interleaver.proofs.Numbers.{first-same}
 use Rattle.interleaver.proofs.Reading.{in-lt}
 use Rattle.interleaver.proofs.back.starts.Statement.{statement}

@@ -4,7 +4,7 @@ use Prim.Native.Nat.{ℕ, _-_, _%_, _^_, _≤_, _<_}
 use native.Mathlib.Omega.{arith}
 use lib.ListN.{length, getD}
 use borrow.Author.Needs.{needs}
-use Rattle.interleaver.specs.Columns.{takenBy, columnOf}
+use Rattle.interleaver.specs.Inner.{takenBy, columnOf}
 use Rattle.interleaver.proofs.Numbers.{column-lt, column-place, columns-more}
 use Rattle.interleaver.proofs.columns.put_masks.Statement.{statement}
 use Rattle.interleaver.proofs.columns.put_masks.Tie as tie

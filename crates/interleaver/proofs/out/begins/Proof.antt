@@ -4,14 +4,14 @@ use Prim.Native.Nat.{ℕ, _-_, _%_, _≤_}
 use native.Mathlib.Omega.{arith}
 use lib.ListN.{length}
 use borrow.Author.Needs.{needs}
-use Rattle.bits.specs.Table.{fill}
-use Rattle.sevens.specs.Sevens.{Filled}
-use Rattle.interleaver.specs.Interleaver.{place}
+use Rattle.bits.proofs.Laws.Table.{fill}
+use Rattle.bits.specs.Inner.{Filled}
+use Rattle.interleaver.specs.Interleaver.{sourceBit}
 use Rattle.interleaver.proofs.out.begins.Statement.{statement}
 use Rattle.interleaver.proofs.out.begins.Tie as tie
 
 abbrev Inv-loop : tie.InvT-loop
-Inv-loop off start₀ c₀ start c = (c ≤ 72) × (length start ≡ 72) × Filled (λ c. place c % 2160) start c
+Inv-loop off start₀ c₀ start c = (c ≤ 72) × (length start ≡ 72) × Filled (λ c. sourceBit c % 2160) start c
 
 abbrev μ-loop : tie.MeasureT-loop
 μ-loop off start₀ c₀ start c = 72 - c
@@ -41,7 +41,7 @@ loop-again : tie.Need-loop-again Inv-loop μ-loop
 loop-again c =
     let l = c .before .before .loop in
     let e = c .before .before .before .pre .0 .1 (l .c) (omega arith) in
-    (search needs, search needs, fill (l .start) (λ c. place c % 2160) (l .c) _ (omega arith) (ap (λ (j : ℕ). j % 2160) e) (l .inv .2))
+    (search needs, search needs, fill (l .start) (λ c. sourceBit c % 2160) (l .c) _ (omega arith) (ap (λ (j : ℕ). j % 2160) e) (l .inv .2))
 
 same-length : tie.Need-same-length Inv-loop μ-loop
 same-length c = search needs

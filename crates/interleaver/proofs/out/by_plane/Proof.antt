@@ -4,7 +4,7 @@ use Prim.Native.Nat.{ℕ, _-_, _/_, _%_, _≤_, _<_}
 use native.Mathlib.Omega.{arith}
 use lib.ListN.{length, getD}
 use borrow.Author.Needs.{needs}
-use Rattle.interleaver.specs.Columns.{columnAt, fromOut}
+use Rattle.interleaver.specs.Inner.{columnAt, fromOut}
 use Rattle.interleaver.proofs.Writing.{begin-more}
 use Rattle.interleaver.proofs.out.by_plane.Statement.{statement}
 use Rattle.interleaver.proofs.out.by_plane.Tie as tie

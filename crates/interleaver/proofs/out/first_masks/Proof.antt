@@ -1,7 +1,7 @@
 -- The numbers of the columns, and then each at its place.
 use native.Mathlib.Omega.{arith}
 use borrow.Author.Needs.{needs}
-use Rattle.interleaver.specs.Columns.{takenBy, upOut}
+use Rattle.interleaver.specs.Inner.{takenBy, upOut}
 use Rattle.interleaver.proofs.Numbers.{first-same, out-lt}
 use Rattle.interleaver.proofs.out.first_masks.Statement.{statement}
 use Rattle.interleaver.proofs.out.first_masks.Tie as tie

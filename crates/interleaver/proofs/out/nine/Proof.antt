@@ -4,9 +4,9 @@ use Prim.Native.Nat.{_+_, _-_, _*_, _≤_, _<_}
 use native.Mathlib.Omega.{arith}
 use lib.ListN.{length}
 use borrow.Author.Needs.{needs}
-use Rattle.bits.specs.Table.{fill}
-use Rattle.sevens.specs.Sevens.{Filled}
-use Rattle.interleaver.specs.Columns.{seenOut}
+use Rattle.bits.proofs.Laws.Table.{fill}
+use Rattle.bits.specs.Inner.{Filled}
+use Rattle.interleaver.specs.Inner.{seenOut}
 use Rattle.interleaver.proofs.Writing.{begin-lt, seen-made}
 use Rattle.interleaver.proofs.out.nine.Statement.{statement}
 use Rattle.interleaver.proofs.out.nine.Tie as tie

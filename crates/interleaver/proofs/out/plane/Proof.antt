@@ -4,8 +4,8 @@ use Prim.Native.Nat.{_+_, _-_, _*_, _≤_}
 use native.Mathlib.Omega.{arith}
 use lib.ListN.{length}
 use borrow.Author.Needs.{needs}
-use Rattle.sevens.specs.Sevens.{Filled}
-use Rattle.interleaver.specs.Columns.{seenOut}
+use Rattle.bits.specs.Inner.{Filled}
+use Rattle.interleaver.specs.Inner.{seenOut}
 use Rattle.interleaver.proofs.out.plane.Statement.{statement}
 use Rattle.interleaver.proofs.out.plane.Tie as tie
 

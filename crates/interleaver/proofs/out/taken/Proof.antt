@@ -1,7 +1,7 @@
 -- The columns' bytes, the rows, and the rows turned.
 use lib.ListN.{getD}
 use borrow.Author.Needs.{needs}
-use Rattle.interleaver.specs.Columns.{upOut}
+use Rattle.interleaver.specs.Inner.{upOut}
 use Rattle.interleaver.proofs.Numbers.{masks-rolled, masks-light, mixed-out, out-lt}
 use Rattle.interleaver.proofs.Writing.{out-turned}
 use Rattle.interleaver.proofs.out.taken.Statement.{statement}
@@ -19,11 +19,11 @@ slice-aggregate-rolled c = search needs
 rolled-requires : tie.Need-rolled-requires
 rolled-requires c κs = search needs
 
-slice-aggregate-all-rows : tie.Need-slice-aggregate-all-rows
-slice-aggregate-all-rows c = search needs
+slice-aggregate-all-lines : tie.Need-slice-aggregate-all-lines
+slice-aggregate-all-lines c = search needs
 
-all-rows-requires : tie.Need-all-rows-requires
-all-rows-requires c κs =
+all-lines-requires : tie.Need-all-lines-requires
+all-lines-requires c κs =
     let roll = c .before .before .before in
     let first = roll .before .before .before in
     let s = first .before .before .before .before .before in
@@ -45,9 +45,9 @@ returns c =
     let s = first .before .before .before .before .before in
     let mask = roll .rolled .last .0 in
     let masks = masks-rolled upOut out-lt _ mask (first .first-masks .ensures) (roll .rolled .ensures) in
-    let v = rows .all-rows .last .1 .1 .0 in
+    let v = rows .all-lines .last .1 .1 .0 in
     out-turned (λ j. getD (s .args .coded .now) j 0) (s .pre .0 .bits) v (last .turned .last .0)
-    (mixed-out (s .args .coded .now) mask v masks (rows .all-rows .ensures))
+    (mixed-out (s .args .coded .now) mask v masks (rows .all-lines .ensures))
     (last .turned .ensures)
 
 pub taken-spec : {M : Type 1} → statement M
@@ -58,8 +58,8 @@ taken-spec =
     first-masks-requires
     slice-aggregate-rolled
     rolled-requires
-    slice-aggregate-all-rows
-    all-rows-requires
+    slice-aggregate-all-lines
+    all-lines-requires
     turned-requires
     same-length
     returns)

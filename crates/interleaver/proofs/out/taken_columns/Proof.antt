@@ -4,10 +4,11 @@ use Prim.Native.Nat.{ℕ, _-_, _/_, _%_, _≤_, _<_}
 use native.Mathlib.Omega.{arith}
 use lib.ListN.{length, getD}
 use borrow.Author.Needs.{needs}
-use Rattle.bits.specs.Table.{fill}
-use Rattle.sevens.specs.Sevens.{Filled}
-use Rattle.interleaver.specs.Interleaver.{place, place-lt}
-use Rattle.interleaver.specs.Columns.{takenBy, upOut}
+use Rattle.bits.proofs.Laws.Table.{fill}
+use Rattle.bits.specs.Inner.{Filled}
+use Rattle.interleaver.specs.Interleaver.{sourceBit}
+use Rattle.interleaver.proofs.Laws.Interleaver.{source-lt}
+use Rattle.interleaver.specs.Inner.{takenBy, upOut}
 use Rattle.interleaver.proofs.Numbers.{out-place}
 use Rattle.interleaver.proofs.out.taken_columns.Statement.{statement}
 use Rattle.interleaver.proofs.out.taken_columns.Tie as tie
@@ -36,7 +37,7 @@ slice-write-column c = search needs
 sub-up : tie.Need-sub-up Inv-loop μ-loop
 sub-up c =
     let l = c .before .before .loop in
-    omega (arith, c .before .before .before .pre .0 .1 (l .c) (omega arith), place-lt (l .c))
+    omega (arith, c .before .before .before .pre .0 .1 (l .c) (omega arith), source-lt (l .c))
 
 mul-up : tie.Need-mul-up Inv-loop μ-loop
 mul-up c = search needs
@@ -55,7 +56,7 @@ loop-again c =
     let l = c .before .before .loop in
     let s = c .before .before .before in
     let h : l .c < 72 = omega arith in
-    let p : getD (s .args .off .now) (l .c) 0 ≡ place (l .c) = s .pre .0 .1 (l .c) h in (
+    let p : getD (s .args .off .now) (l .c) 0 ≡ sourceBit (l .c) = s .pre .0 .1 (l .c) h in (
       search needs,
       search needs,
       search needs,

@@ -5,8 +5,8 @@ use native.Mathlib.Omega.{arith}
 use borrow.Author.Needs.{needs}
 use lib.Bits.{bitOr}
 use lib.Dec.{eqb}
-use Rattle.bits.specs.Choice.{bool-lt}
-use Rattle.pulses.specs.Swept.{Swept, swept-none, swept-more}
+use Rattle.bits.proofs.Laws.Choice.{bool-lt}
+use Rattle.pulses.proofs.Laws.Swept.{Swept, swept-none, swept-more}
 use Rattle.pool.proofs.Joining.{numberOf, swept-alone}
 use Rattle.pool.proofs.alone.among_numbers.Statement.{statement}
 use Rattle.pool.proofs.alone.among_numbers.Tie as tie

@@ -3,8 +3,9 @@ use mathlib.Core.Path.{_≡_, ap, _∙_}
 use Prim.Native.Nat.{ℕ, _+_, _-_, _*_, _≤_}
 use native.Mathlib.Omega.{arith}
 use borrow.Author.Needs.{needs}
-use Rattle.bits.specs.Pack.{bitAt, bit-lt}
-use Rattle.bits.specs.Weight.{weight}
+use Rattle.bits.specs.Pack.{bitAt}
+use Rattle.bits.proofs.Laws.Pack.{bit-lt}
+use Rattle.bits.specs.Count.{weight}
 use Rattle.pool.specs.Pooled.{count}
 use Rattle.pool.proofs.Joining.{slot-lt, count-none, count-more}
 use Rattle.pool.proofs.counts.count_at.Statement.{statement}

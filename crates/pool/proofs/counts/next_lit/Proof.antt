@@ -4,8 +4,8 @@ use Prim.Native.Nat.{ℕ, _-_, _≤_, _<_}
 use native.Mathlib.Omega.{arith}
 use borrow.Author.Needs.{needs}
 use mathlib.Core.Logic.{⊎-elim}
-use Rattle.bits.specs.Choice.{lt-or-le}
-use Rattle.bits.specs.Window.{lesser-le, lesser-some}
+use Rattle.bits.proofs.Laws.Choice.{lt-or-le}
+use Rattle.bits.proofs.Laws.Window.{lesser-le, lesser-some}
 use Rattle.pool.specs.Pooled.{count}
 use Rattle.pool.proofs.Joining.{all-dark, lead-in, lead-dark}
 use Rattle.pool.proofs.counts.next_lit.Statement.{statement}

@@ -3,9 +3,9 @@ use mathlib.Core.Path.{ap, _∙_}
 use Prim.Native.Nat.{ℕ, _+_, _-_, _*_, _/_, _%_, _^_}
 use native.Mathlib.Omega.{arith}
 use borrow.Author.Needs.{needs}
-use Rattle.bits.specs.Pack.{bit-lt}
-use Rattle.bits.specs.Window.{bitsFrom}
-use Rattle.pulses.specs.Lone.{kept}
+use Rattle.bits.proofs.Laws.Pack.{bit-lt}
+use Rattle.bits.specs.Inner.{bitsFrom}
+use Rattle.pulses.proofs.Laws.Lone.{kept}
 use Rattle.pool.proofs.joined.front.Statement.{statement}
 use Rattle.pool.proofs.joined.front.Tie as tie
 

@@ -4,9 +4,10 @@ use Prim.Native.Nat.{ℕ, _+_, _-_, _*_, _≤_}
 use native.Mathlib.Omega.{arith}
 use borrow.Author.Needs.{needs}
 use native.Mathlib.Nat.{le-refl, mul-le-mul}
-use Rattle.bits.specs.Pack.{Bits, val, cut, bit-lt, cut-bits}
-use Rattle.bits.specs.Window.{bitsFrom}
-use Rattle.pool.specs.Joined.{some}
+use Rattle.bits.specs.Pack.{Bits, val, cut}
+use Rattle.bits.proofs.Laws.Pack.{bit-lt, cut-bits}
+use Rattle.bits.specs.Inner.{bitsFrom}
+use Rattle.pool.specs.Inner.{some}
 use Rattle.pool.proofs.Joining.{join-none, join-more}
 use Rattle.pool.proofs.joined.fronts.Statement.{statement}
 use Rattle.pool.proofs.joined.fronts.Tie as tie

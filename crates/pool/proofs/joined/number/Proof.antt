@@ -5,8 +5,8 @@ use native.Mathlib.Omega.{arith}
 use borrow.Author.Needs.{needs}
 use lib.ListN.{length}
 use Rattle.bits.specs.Pack.{val, cut}
-use Rattle.bits.specs.Window.{lesser-le, lesser-some}
-use Rattle.pool.specs.Joined.{lit}
+use Rattle.bits.proofs.Laws.Window.{lesser-le, lesser-some}
+use Rattle.pool.specs.Inner.{lit}
 use Rattle.pool.proofs.Joining.{few, bytes-room, number-lit}
 use Rattle.pool.proofs.joined.number.Statement.{statement}
 use Rattle.pool.proofs.joined.number.Tie as tie

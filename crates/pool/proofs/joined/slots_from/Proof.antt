@@ -4,8 +4,8 @@ use Prim.Native.Nat.{ℕ, _-_, _%_, _≤_}
 use native.Mathlib.Omega.{arith}
 use borrow.Author.Needs.{needs}
 use Rattle.bits.specs.Pack.{val, cut}
-use Rattle.bits.specs.Window.{bitsFrom}
-use Rattle.pool.specs.Joined.{some}
+use Rattle.bits.specs.Inner.{bitsFrom}
+use Rattle.pool.specs.Inner.{some}
 use Rattle.pool.proofs.Joining.{slot-lt, join-none, join-more, shownOf, shown-bits, joined-lit}
 use Rattle.pool.proofs.joined.slots_from.Statement.{statement}
 use Rattle.pool.proofs.joined.slots_from.Tie as tie

@@ -1,7 +1,7 @@
 -- Where all are good, none is bad.
 use mathlib.Core.Path.{sym}
 use borrow.Author.Tests.{lt-ltb}
-use Rattle.bits.specs.First.{found-none}
+use Rattle.bits.proofs.Laws.First.{found-none}
 use Rattle.pulses.specs.Pulses.{symbolIn, grouped}
 use borrow.Author.Needs.{needs}
 use Rattle.pulses.proofs.groups.bad_group_among.Statement.{statement}

@@ -5,8 +5,9 @@ use native.Mathlib.Omega.{arith}
 use lib.Dec.{ltb}
 use borrow.Author.Needs.{needs}
 use borrow.Author.Tests.{lt-ltb, le-ltb}
-use Rattle.bits.specs.First.{upTo, first-on, first-here, first-end}
-use Rattle.pulses.specs.Needs.{held}
+use Rattle.bits.specs.Basics.{upTo}
+use Rattle.bits.proofs.Laws.First.{first-on, first-here, first-end}
+use Rattle.pulses.proofs.Laws.Needs.{held}
 use Rattle.pulses.specs.Pulses.{grouped}
 use Rattle.pulses.proofs.groups.bad_group_in.Statement.{statement}
 use Rattle.pulses.proofs.groups.bad_group_in.Tie as tie

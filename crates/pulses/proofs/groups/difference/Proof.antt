@@ -4,8 +4,8 @@ use Prim.Native.Nat.{_+_, _-_, _≤_}
 use native.Mathlib.Omega.{arith}
 use lib.ListN.{getD}
 use borrow.Author.Needs.{needs}
-use Rattle.bits.specs.Sum.{same-more}
-use Rattle.pulses.specs.Zeros.{Same}
+use Rattle.bits.proofs.Laws.Sum.{same-more}
+use Rattle.pulses.specs.Inner.{Same}
 use Rattle.pulses.proofs.groups.difference.Statement.{statement}
 use Rattle.pulses.proofs.groups.difference.Tie as tie
 

@@ -4,8 +4,8 @@ use mathlib.Core.Logic.{⊎-elim}
 use Prim.Native.Nat.{ℕ, _*_, _-_, _≤_, _<_}
 use native.Mathlib.Omega.{arith}
 use borrow.Author.Needs.{needs}
-use Rattle.bits.specs.Choice.{eq-or-ne}
-use Rattle.pulses.specs.Zeros.{Same}
+use Rattle.bits.proofs.Laws.Choice.{eq-or-ne}
+use Rattle.pulses.specs.Inner.{Same}
 use Rattle.pulses.proofs.groups.past_zeros.Statement.{statement}
 use Rattle.pulses.proofs.groups.past_zeros.Tie as tie
 

@@ -6,8 +6,8 @@ use Prim.Native.Nat.{ℕ, _+_, _-_, _*_, _≤_, _<_}
 use native.Mathlib.Omega.{arith}
 use native.Mathlib.Nat.{le-refl, mul-le-mul}
 use borrow.Author.Needs.{needs}
-use Rattle.bits.specs.Choice.{eq-or-ne}
-use Rattle.pulses.specs.Needs.{fewer}
+use Rattle.bits.proofs.Laws.Choice.{eq-or-ne}
+use Rattle.pulses.proofs.Laws.Needs.{fewer}
 use Rattle.pulses.specs.Pulses.{symbolIn}
 use Rattle.pulses.proofs.numbers.all_good.Statement.{statement}
 use Rattle.pulses.proofs.numbers.all_good.Tie as tie

@@ -1,7 +1,7 @@
 -- The code is the definition.
 use mathlib.Core.Path.{sym, ap}
 use borrow.Author.Tests.{eq-eqb, ne-eqb}
-use Rattle.bits.specs.Choice.{bool}
+use Rattle.bits.specs.Basics.{bool}
 use Rattle.pulses.proofs.numbers.none.Statement.{statement}
 use Rattle.pulses.proofs.numbers.none.Tie as tie
 

@@ -5,8 +5,8 @@ use native.Mathlib.Omega.{arith}
 use lib.Bits.{bitOr}
 use lib.Dec.{eqb}
 use borrow.Author.Needs.{needs}
-use Rattle.bits.specs.Choice.{bool-lt}
-use Rattle.pulses.specs.Swept.{Swept, swept-none, swept-more}
+use Rattle.bits.proofs.Laws.Choice.{bool-lt}
+use Rattle.pulses.proofs.Laws.Swept.{Swept, swept-none, swept-more}
 use Rattle.pulses.proofs.Swept.{numberAt, swept-bits}
 use Rattle.pulses.proofs.numbers.only.Statement.{statement}
 use Rattle.pulses.proofs.numbers.only.Tie as tie

@@ -1,6 +1,6 @@
 -- Slot by slot near the end of the buffer; otherwise near or far.
 use native.Mathlib.Omega.{arith}
-use Rattle.pulses.specs.Needs.{held}
+use Rattle.pulses.proofs.Laws.Needs.{held}
 use Rattle.pulses.proofs.Lone.{is-near, is-far}
 use borrow.Author.Needs.{needs}
 use Rattle.pulses.proofs.numbers.seen.Statement.{statement}

@@ -4,9 +4,9 @@ use native.Mathlib.Omega.{arith}
 use native.Mathlib.Nat.{mul-left-comm}
 use lib.Dec.{eqb}
 use borrow.Author.Needs.{needs}
-use Rattle.bits.specs.Choice.{bool-lt}
-use Rattle.bits.specs.Pack.{val-lt, bit-lt}
-use Rattle.bits.specs.Window.{bitsFrom}
+use Rattle.bits.proofs.Laws.Choice.{bool-lt}
+use Rattle.bits.proofs.Laws.Pack.{val-lt, bit-lt}
+use Rattle.bits.specs.Inner.{bitsFrom}
 use Prim.Native.Nat.{ℕ, _+_, _-_, _*_, _/_, _^_, _≤_, _<_}
 use Rattle.pulses.specs.Pulses.{symbolIn}
 use Rattle.pulses.proofs.Swept.{numberAt}

@@ -1,0 +1,32 @@
+-- The code of the answer, which fits.
+use mathlib.Core.Path.{ap, _∙_}
+use lib.ListN.{length}
+use Rattle.answers.specs.declared.Answer.{Answer}
+use Rattle.answers.specs.Answer.{codeOf, after}
+use Rattle.run.specs.Run.{runOf}
+use Rattle.run.proofs.Laws.Return.{write-fits}
+use borrow.Author.Needs.{needs}
+use Rattle.c_calls.proofs.mahyrei_run_write.Statement.{statement}
+use Rattle.c_calls.proofs.mahyrei_run_write.Tie as tie
+
+write-requires : tie.Need-write-requires
+write-requires c κs = search needs
+
+code-requires : tie.Need-code-requires
+code-requires c κs =
+    let a = c .before .before .before .before .before .before .before .before .args in
+    rw (c .before .before .write .ensures .0) (write-fits (a .header .now) (a .marker .now) (a .frames .now) (length (a .slots .now)))
+
+same-length : tie.Need-same-length
+same-length c = search needs
+
+returns : tie.Need-returns
+returns c =
+    let a = c .before .before .before .before .before .before .before .before .before .args in
+    let r = c .before .before .before .write in (
+      c .code .ensures ∙ ap codeOf (r .ensures .0),
+      r .ensures .1 ∙ ap (λ (x : Answer). after x (runOf (a .header .now) (a .marker .now) (a .frames .now)) (a .slots .now)) (r .ensures .0),
+    )
+
+pub mahyrei-run-write-spec : {M : Type 1} → statement M
+mahyrei-run-write-spec = tie.close (tie.spec write-requires code-requires same-length returns)

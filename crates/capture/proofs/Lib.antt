@@ -1,4 +1,0 @@
-pub mod Taken
-pub mod Passing
-pub mod Once
-pub mod Said

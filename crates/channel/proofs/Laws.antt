@@ -1,0 +1,5 @@
+pub mod Markers
+pub mod Places
+pub mod Return
+pub mod Spacing
+pub mod Symbols

@@ -1,3 +1,0 @@
-pub mod Convert
-pub mod Needs
-pub mod Theorems

@@ -1,4 +1,0 @@
-pub mod Cut
-pub mod Needs
-pub mod Laws
-pub mod Theorems

@@ -1,4 +1,0 @@
-pub mod Rooms
-pub mod Bytes
-pub mod Fill
-pub mod Answers

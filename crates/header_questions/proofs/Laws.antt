@@ -1,0 +1,4 @@
+pub mod Edges
+pub mod Good
+pub mod InOrder
+pub mod Marks

@@ -1,0 +1,29 @@
+-- Each number of the layout is one of the header's quantities.
+use mathlib.Core.Path.{refl}
+use Rattle.header_sizes.specs.Quantities.{layoutOf}
+use borrow.Author.Needs.{needs}
+use Rattle.header_sizes.proofs.layout_of.Statement.{statement}
+use Rattle.header_sizes.proofs.layout_of.Tie as tie
+
+symbols-per-word-requires : tie.Need-symbols-per-word-requires
+symbols-per-word-requires c κs = search needs
+
+block-count-requires : tie.Need-block-count-requires
+block-count-requires c κs = search needs
+
+line-count-requires : tie.Need-line-count-requires
+line-count-requires c κs = search needs
+
+returns : tie.Need-returns
+unfolding layoutOf
+returns c =
+    let f = c .before .before .before .args .f in
+    let s = c .before .before .symbols-per-word in
+    let w = c .before .block-count in
+    let n = c .line-count in
+    rw (s .ensures, w .ensures, n .ensures) refl
+
+pub layout-of-spec : {M : Type 1} → statement M
+layout-of-spec =
+    tie.close
+    (tie.spec symbols-per-word-requires block-count-requires line-count-requires returns)

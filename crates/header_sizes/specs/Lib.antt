@@ -1,0 +1,2 @@
+pub mod Quantities
+pub mod Inner

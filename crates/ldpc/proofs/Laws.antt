@@ -1,0 +1,4 @@
+pub mod Code
+pub mod Exactly
+pub mod Passing
+pub mod Zero

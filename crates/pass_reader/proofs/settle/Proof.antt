@@ -1,0 +1,60 @@
+-- The blocks are read aside; they are copied on acceptance, and otherwise the slice is left alone.
+use borrow.Author.Needs.{needs}
+use mathlib.Core.Path.{_≡_, sym, ap, _∙_}
+use Rattle.bits.proofs.Laws.Table.{copied}
+use Rattle.answers.specs.declared.Answer.{Answer}
+use Rattle.answers.specs.declared.Answer.the-variants.{Done}
+use Rattle.answers.specs.Answer.{after}
+use Rattle.pass.specs.Pass.{blocksOf}
+use Rattle.pass_reader.proofs.settle.Statement.{statement}
+use Rattle.pass_reader.proofs.settle.Tie as tie
+
+read-all-requires : tie.Need-read-all-requires
+read-all-requires c κs = search needs
+
+enum-told : tie.Need-enum-told
+enum-told c = search needs
+
+enum-told-2 : tie.Need-enum-told-2
+enum-told-2 c = search needs
+
+same-length : tie.Need-same-length
+same-length c = search needs
+
+returns : tie.Need-returns
+returns c = search needs
+
+copy-requires : tie.Need-copy-requires
+copy-requires c κs = search needs
+
+same-length-2 : tie.Need-same-length-2
+same-length-2 c = search needs
+
+same-length-3 : tie.Need-same-length-3
+same-length-3 c = search needs
+
+returns-2 : tie.Need-returns-2
+returns-2 c =
+    let s = c .before .before .before .before .before .before .before .before .before .before .before .before .before .before in
+    let r = c .before .before .before .before .before .before .before .before .before .read-all in
+    let done : r .result ≡ Done = c .before .before .before .before .before .enum-told .given .1 in (
+      r .ensures .0,
+      c .before .before .copy .ensures .1
+          ∙ copied (r .last .1 .1 .1 .0) (s .args .blocks .now) (sym (r .kept .1 .1 .1 .0 ∙ s .pre .room-is))
+          ∙ r .ensures .1 done
+          ∙ ap (λ (a : Answer). after a (blocksOf (s .args .rate) (s .args .words .now)) (s .args .blocks .now)) (sym done),
+    )
+
+pub settle-spec : {M : Type 1} → statement M
+settle-spec =
+    tie.close
+    (tie.spec
+    read-all-requires
+    enum-told
+    enum-told-2
+    same-length
+    returns
+    copy-requires
+    same-length-2
+    same-length-3
+    returns-2)

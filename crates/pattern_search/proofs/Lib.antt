@@ -1,0 +1,4 @@
+pub mod Sight
+pub mod Blank
+pub mod Passing
+pub mod Laws

@@ -1,0 +1,121 @@
+-- The proofs of card 14.
+use mathlib.Core.Path.{_≡_, refl, sym, ap, _∙_}
+use mathlib.Core.List.{List}
+use Prim.Native.Nat.{ℕ, _+_, _-_, _*_, _/_, _%_}
+use native.Mathlib.Omega.{arith}
+use lib.ListN.{length}
+use Rattle.answers.specs.Answer.{after}
+use Rattle.answers.specs.declared.Answer.{Answer}
+use Rattle.answers.specs.declared.Answer.the-variants.{Done}
+use Rattle.bits.proofs.Laws.Pack.{bytes-are}
+use Rattle.randomizer.specs.Randomizer.{randomize}
+use Rattle.ldpc.specs.Code.{rows, rowBit, parityBit}
+use Rattle.ldpc.proofs.Laws.Code.{codeword-first, codeword-behind}
+use Rattle.ldpc.proofs.Laws.Exactly as code-laws
+use Rattle.uplink.specs.Uplink.{sent, slotOf, frameCount, blockCount, slotsOf, received, framesOf, uplinkLengthsRight, firstBadGroup, firstBadBlock, writeSays, uplinkSlotsSay, readSays, uplinkSlotsAfter, uplinkFramesAfter}
+use Rattle.uplink.proofs.Laws.Uplink as slot-laws
+use Rattle.uplink.proofs.Laws.Return as uplink-laws
+use Rattle.uplink.proofs.Laws.Exports as answer-laws
+use Rattle.promises_uplink.specs.Card14.{FrameFirst, ParityBehind, ParityIs, CodewordsExactly, SlotIs, GuardsEmpty, SlotsLong, CodeblockAlone, WriterAsks, ReaderAsks, AlwaysWritten, ReceivedIs, BitIs, BadGroup, BadCodeblock, AcceptedExactly, WriterNumbers, ReaderNumbers, UplinkWriteNot17, UplinkReadNot17, WrittenRead, ReadWritten, UplinkBytes, UplinkOne, ThereAndBack, BackAndThere, RefusedWrite, RefusedRead}
+
+pub frame-first : FrameFirst
+frame-first = codeword-first
+
+pub parity-behind : ParityBehind
+parity-behind u t =
+    let d : 64 + t - 64 ≡ t = omega arith in
+    codeword-behind u (64 + t) (omega arith) ∙ ap (parityBit u) d
+
+pub parity-is : ParityIs
+unfolding parityBit rowBit rows
+parity-is u t = refl
+
+pub codewords-exactly : CodewordsExactly
+codewords-exactly = code-laws.codewords-exactly
+
+pub slot-is : SlotIs
+slot-is = uplink-laws.slot-is
+
+pub guards-empty : GuardsEmpty
+guards-empty = uplink-laws.guards-empty
+
+pub slots-long : SlotsLong
+slots-long = slot-laws.slots-long
+
+pub codeblock-alone : CodeblockAlone
+codeblock-alone = uplink-laws.each-alone
+
+pub writer-asks : WriterAsks
+unfolding writeSays uplinkLengthsRight
+writer-asks frames m n e = rw e refl
+
+pub reader-asks : ReaderAsks
+unfolding readSays uplinkSlotsSay uplinkLengthsRight firstBadGroup firstBadBlock
+reader-asks slots m n e = rw e refl
+
+pub always-written : AlwaysWritten
+always-written = uplink-laws.always-written
+
+pub received-is : ReceivedIs
+unfolding received randomize
+received-is slots i j = refl
+
+pub bit-is : BitIs
+bit-is = uplink-laws.bit-is
+
+pub bad-group : BadGroup
+bad-group slots m p e = let b = answer-laws.bad-group slots m p e in (omega (arith, b .0, b .1), b .2, b .3)
+
+pub bad-codeblock : BadCodeblock
+bad-codeblock slots m p e = let b = answer-laws.bad-block slots m p e in (omega (arith, b .0, b .1), b .2, b .3, b .4)
+
+pub accepted-exactly : AcceptedExactly
+accepted-exactly = uplink-laws.accepted-exactly
+
+pub writer-numbers : WriterNumbers
+writer-numbers = answer-laws.write-numbers
+
+pub reader-numbers : ReaderNumbers
+reader-numbers = answer-laws.read-numbers
+
+pub uplink-write-not-17 : UplinkWriteNot17
+uplink-write-not-17 frames m = answer-laws.write-fits frames m .listed
+
+pub uplink-read-not-17 : UplinkReadNot17
+uplink-read-not-17 slots m = answer-laws.read-fits slots m .listed
+
+pub written-read : WrittenRead
+written-read = uplink-laws.written-read
+
+pub read-written : ReadWritten
+read-written = uplink-laws.read-written
+
+pub uplink-bytes : UplinkBytes
+unfolding slotsOf framesOf
+uplink-bytes xs = (
+  bytes-are (64 * frameCount xs) (slotOf (sent xs)) (slot-laws.slot-bits (sent xs)),
+  bytes-are (8 * blockCount xs) (λ y. received xs (y / 64) (y % 64)) (λ y. slot-laws.received-bits xs (y / 64) (y % 64)),
+)
+
+pub uplink-one : UplinkOne
+uplink-one a b m n ha hb wa wb e = sym (written-read a m ha wa .1) ∙ ap framesOf e ∙ written-read b n hb wb .1
+
+pub there-and-back : ThereAndBack
+there-and-back frames slots back b w e =
+    let r = written-read frames (length slots) b w in
+    let written : uplinkSlotsAfter frames slots ≡ slotsOf frames = ap (λ (a : Answer). after a (slotsOf frames) slots) w in
+    let said : readSays (slotsOf frames) (length back) ≡ Done = ap (readSays (slotsOf frames)) e ∙ r .0 in
+    ap (λ (s : List ℕ). uplinkFramesAfter s back) written ∙ ap (λ (a : Answer). after a (framesOf (slotsOf frames)) back) said ∙ r .1
+
+pub back-and-there : BackAndThere
+back-and-there slots frames again b w e =
+    let r = read-written slots (length frames) b w in
+    let read : uplinkFramesAfter slots frames ≡ framesOf slots = ap (λ (a : Answer). after a (framesOf slots) frames) w in
+    let said : writeSays (framesOf slots) (length again) ≡ Done = ap (writeSays (framesOf slots)) e ∙ r .0 in
+    ap (λ (f : List ℕ). uplinkSlotsAfter f again) read ∙ ap (λ (a : Answer). after a (slotsOf (framesOf slots)) again) said ∙ r .1
+
+pub refused-write : RefusedWrite
+refused-write frames old number place e = ap (λ (a : Answer). after a (slotsOf frames) old) e
+
+pub refused-read : RefusedRead
+refused-read slots old number place e = ap (λ (a : Answer). after a (framesOf slots) old) e

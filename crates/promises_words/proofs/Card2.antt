@@ -1,0 +1,16 @@
+-- The proofs of card 2.
+use mathlib.Core.Path.{refl}
+use Rattle.interleaver.proofs.Laws.Squares.{square-36, constants, source-squares, table-right}
+use Rattle.promises_words.specs.Card2.{SquareTerm, ConstantsAreTheFormula's, PlacesByTheTable, TheConstants}
+
+pub square-term : SquareTerm
+square-term = square-36
+
+pub constants-are-the-formula's : ConstantsAreTheFormula's
+constants-are-the-formula's = constants
+
+pub places-by-the-table : PlacesByTheTable
+places-by-the-table = source-squares
+
+pub the-constants : TheConstants
+the-constants = table-right _ refl tt

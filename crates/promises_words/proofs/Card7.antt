@@ -1,0 +1,18 @@
+-- The proofs of card 7.
+use Rattle.word.proofs.Laws.Exports as word-laws
+use Rattle.promises_words.specs.Card7.{Disregarded, OneWord, WriterNumbers, ReaderNumbers, ReaderZeros}
+
+pub disregarded : Disregarded
+disregarded = word-laws.always-written
+
+pub one-word : OneWord
+one-word = word-laws.word-same
+
+pub writer-numbers : WriterNumbers
+writer-numbers = word-laws.write-numbers
+
+pub reader-numbers : ReaderNumbers
+reader-numbers = word-laws.read-numbers
+
+pub reader-zeros : ReaderZeros
+reader-zeros rate word = word-laws.block-packed rate word .spare

@@ -1,4 +1,0 @@
-pub mod Questions
-pub mod InOrder
-pub mod Good
-pub mod Edges

@@ -1,0 +1,5 @@
+pub mod Answers
+pub mod Held
+pub mod Places
+pub mod Rack
+pub mod Unseen

@@ -1,0 +1,4 @@
+pub mod Refusals
+pub mod Places
+pub mod Return
+pub mod Steps

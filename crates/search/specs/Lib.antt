@@ -1,5 +1,0 @@
-pub mod Search
-pub mod Needs
-pub mod Laws
-pub mod Theorems
-pub mod Edges

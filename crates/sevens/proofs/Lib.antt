@@ -1,2 +1,0 @@
-pub mod Exchanges
-pub mod Loops

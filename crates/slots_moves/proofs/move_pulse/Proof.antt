@@ -1,0 +1,25 @@
+-- Two bits are turned over.
+use mathlib.Core.Path.{ap, _∙_}
+use Prim.Native.Nat.{_+_}
+use borrow.Author.Needs.{needs}
+use Rattle.bits.specs.Pack.{flipBit}
+use Rattle.slots_moves.proofs.move_pulse.Statement.{statement}
+use Rattle.slots_moves.proofs.move_pulse.Tie as tie
+
+flip-requires : tie.Need-flip-requires
+flip-requires c κs = search needs
+
+add-flip : tie.Need-add-flip
+add-flip c = search needs
+
+flip-requires-2 : tie.Need-flip-requires-2
+flip-requires-2 c κs = search needs
+
+same-length : tie.Need-same-length
+same-length c = search needs
+
+returns : tie.Need-returns
+returns c = let x = c .before .before .before .before .before .before .before .before .before .args .x in c .before .before .flip2 .ensures ∙ ap (λ xs. flipBit xs (x + c .before .before .before .before .before .before .before .before .before .args .q)) (c .before .before .before .before .before .before .flip .ensures)
+
+pub move-pulse-spec : {M : Type 1} → statement M
+move-pulse-spec = tie.close (tie.spec flip-requires add-flip flip-requires-2 same-length returns)

@@ -1,3 +1,0 @@
-pub mod Rooms
-pub mod Bytes
-pub mod Spare

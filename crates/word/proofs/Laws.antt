@@ -1,0 +1,12 @@
+pub mod Bursts
+pub mod Distances
+pub mod Exports
+pub mod Flips
+pub mod Inputs
+pub mod Return
+pub mod Sums
+pub mod Answers
+pub mod Checks
+pub mod Judging
+pub mod Lists
+pub mod Word

@@ -1,0 +1,58 @@
+-- Two rows more are filled.
+use mathlib.Core.Path.{_≡_, _∙_}
+use Prim.Native.Nat.{_-_, _*_, _≤_}
+use native.Mathlib.Omega.{arith}
+use lib.ListN.{length}
+use borrow.Author.Needs.{needs}
+use Rattle.sizes.specs.Sizes.{wordBits}
+use Rattle.bits.specs.Inner.{Filled}
+use Rattle.word_columns.specs.Inner.{splitAt}
+use Rattle.word_columns.proofs.picking.split.Statement.{statement}
+use Rattle.word_columns.proofs.picking.split.Tie as tie
+
+abbrev Inv-loop : tie.InvT-loop
+Inv-loop seen mask coded₀ k₀ coded k = (k ≤ 105) × (length coded ≡ wordBits) × Filled (splitAt seen mask) coded (144 * k)
+
+abbrev μ-loop : tie.MeasureT-loop
+μ-loop seen mask coded₀ k₀ coded k = 105 - k
+
+loop-holds : tie.Need-loop-holds Inv-loop μ-loop
+loop-holds c = (search needs, search needs, λ k h. absurd (omega arith))
+
+two-lines-requires : tie.Need-two-lines-requires Inv-loop μ-loop
+two-lines-requires c κs =
+    let l = c .before .before .loop in
+    let s = c .before .before .before .before .before .before in
+    (s .pre .0, s .pre .1, omega arith, l .inv .1, l .inv .2)
+
+add-k : tie.Need-add-k Inv-loop μ-loop
+add-k c = search needs
+
+loop-less : tie.Need-loop-less Inv-loop μ-loop
+loop-less c = search needs
+
+loop-again : tie.Need-loop-again Inv-loop μ-loop
+loop-again c =
+    let l = c .before .before .before .before .before .loop in
+    let o = c .before .before .two-lines in
+    (search needs, o .kept .1 .1 .1 .0 ∙ l .inv .1, λ k h. o .ensures k (omega arith))
+
+same-length : tie.Need-same-length Inv-loop μ-loop
+same-length c = search needs
+
+returns : tie.Need-returns Inv-loop μ-loop
+returns c = λ k h. c .before .loop .inv .2 k (omega arith)
+
+pub split-spec : {M : Type 1} → statement M
+split-spec =
+    tie.close
+    (tie.spec
+    Inv-loop
+    μ-loop
+    loop-holds
+    two-lines-requires
+    add-k
+    loop-less
+    loop-again
+    same-length
+    returns)

@@ -1,0 +1,62 @@
+-- The block is given out on acceptance, from the input bits that were read, and otherwise left alone.
+use mathlib.Core.Path.{_≡_, sym, ap, _∙_}
+use Prim.Native.Nat.{ℕ}
+use lib.ListN.{getD}
+use Rattle.convolution.specs.Code.{decode}
+use Rattle.randomizer.specs.Randomizer.{randomize}
+use Rattle.answers.specs.Answer.{after}
+use Rattle.answers.specs.declared.Answer.the-variants.{Done}
+use Rattle.word.specs.Word.{packedBlock}
+use Rattle.word.proofs.Laws.Lists.{undone-read}
+use borrow.Author.Needs.{needs}
+use Rattle.word_reader.proofs.read_coded.Statement.{statement}
+use Rattle.word_reader.proofs.read_coded.Tie as tie
+
+judge-requires : tie.Need-judge-requires
+judge-requires c κs = search needs
+
+enum-told : tie.Need-enum-told
+enum-told c = search needs
+
+enum-told-2 : tie.Need-enum-told-2
+enum-told-2 c = search needs
+
+same-length : tie.Need-same-length
+same-length c = search needs
+
+returns : tie.Need-returns
+returns c = search needs
+
+give-out-requires : tie.Need-give-out-requires
+give-out-requires c κs = search needs
+
+same-length-2 : tie.Need-same-length-2
+same-length-2 c = search needs
+
+same-length-3 : tie.Need-same-length-3
+same-length-3 c = search needs
+
+returns-2 : tie.Need-returns-2
+returns-2 c =
+    let s = c .before .before .before .before .before .before .before .before .before .before .before .before .before .before in
+    let j = c .before .before .before .before .before .before .before .before .before .judge in
+    let x : ℕ → ℕ = decode (s .args .rate) (λ i. getD (s .args .coded .now) i 0) in
+    let done : j .result ≡ Done = c .before .before .before .before .before .enum-told .given .1 in (
+      j .ensures .0,
+      c .before .before .give-out .ensures ∙ undone-read (s .args .rate) x (j .last .1 .1 .0) (j .ensures .1)
+          ∙ ap (λ (a : _). after a (packedBlock (s .args .rate) (randomize x)) (s .args .block .now)) (sym done),
+    )
+
+pub read-coded-spec : {M : Type 1} → statement M
+read-coded-spec =
+    tie.close
+    (tie.spec
+    judge-requires
+    enum-told
+    enum-told-2
+    same-length
+    returns
+    give-out-requires
+    same-length-2
+    same-length-3
+    returns-2)

@@ -1,0 +1,283 @@
+/* scan: a recording from its first slot to its last, and the frames of every run in it that is
+ * sound.
+ */
+#include <errno.h>
+#include <inttypes.h>
+#include <stdlib.h>
+#include <string.h>
+#include <sys/stat.h>
+
+#include "commands/captured_run.h"
+#include "commands/command_line.h"
+#include "commands/printed_output.h"
+#include "commands/scan_report.h"
+#include "files/folder.h"
+#include "files/outputs.h"
+#include "files/recording.h"
+#include "formats/text.h"
+#include "library/library.h"
+#include "pictures/scan_picture.h"
+#include "report/log.h"
+#include "report/messages.h"
+#include "report/progress.h"
+#include "runs/annotations.h"
+#include "runs/recording_search.h"
+#include "runs/refusal_details.h"
+#include "runs/scan_counts.h"
+#include "runs/sigmf.h"
+#include "system/descriptors.h"
+
+/* A recording that is gone through, and what came of it. */
+struct scan {
+    const struct line *line;
+    struct operands operands;
+    struct sigmf sigmf; /* that the operands may be in */
+    struct recording recording;
+    struct search search;
+    struct lent run; /* one run: header, marker, its bytes in the recording, slots and frames */
+    struct scan_counts counts;
+    struct entry *entry;
+};
+
+/* ---- one start */
+
+static bool is_verbose(const struct scan *scan) {
+    return scan->line->options[VERBOSE] != NULL;
+}
+
+/* The bytes that were judged go out, in a file of their own. One that a scan before this one has
+ * left, and which has the very bytes, is as good. */
+static bool put_frames(struct scan *scan, uint64_t slot, struct entry *of_run) {
+    struct text name;
+    bool good = text_begin(&name);
+    if (good) {
+        scan_print_file(name.to, scan->counts.folder, slot);
+        good = text_end(&name);
+    }
+    if (!good) {
+        complain("memory", errno);
+    } else {
+        struct output output = output_as_told(scan->line, name.at);
+        output.ask = false;
+        output.same_will_do = true;
+        spare_capture(&output, scan->recording.id);
+        output_spare(&output, log_id(scan->line->log));
+        of_run->frames.name = name.at;
+        good = output_put(&output, scan->run.frames.at, scan->run.frames.len) &&
+               log_add(scan->line->log, of_run, DONE);
+    }
+    text_free(&name);
+    return good;
+}
+
+/* The log has a line for each run that is sound, as it has for one that is read. */
+static bool keep_run(struct scan *scan, uint64_t slot) {
+    struct entry of_run = *scan->entry;
+    entry_slot(&of_run, slot);
+    entry_answer(&of_run, MAHYREI_ACCEPTED);
+    entry_part(&of_run.frames, scan->run.frames.at, scan->run.frames.len, true);
+    entry_part(&of_run.slots, scan->run.slots.at, scan->run.slots.len, true);
+    if (!scan_add_sound(&scan->counts, slot, of_run.frames.digest) ||
+        !(scan->counts.folder != NULL ? put_frames(scan, slot, &of_run)
+                                      : log_add(scan->line->log, &of_run, DONE))) {
+        return false;
+    }
+    if (is_verbose(scan)) {
+        remark(scan->counts.name, "slot %" PRIu64 ": a run begins here, and is sound", slot);
+    }
+    return true;
+}
+
+static void say_start_refused(const struct scan *scan, uint64_t slot, uint64_t answer) {
+    if (is_verbose(scan)) {
+        remark(scan->counts.name, "slot %" PRIu64 ": refused, number %u, place %" PRIu64 ": %s",
+               slot, mahyrei_answer_number(answer), mahyrei_answer_place(answer),
+               scan_reason(mahyrei_answer_number(answer)));
+    }
+}
+
+/* What the run from this slot on is: its bytes are copied first, and the copy is judged, so that
+ * nothing that becomes of the recording can come between. And the slot to go on from. */
+static bool try_start(struct scan *scan, uint64_t slot, uint64_t *next) {
+    uint64_t answer, at;
+    *next = slot + 1;
+    copy_run(&scan->recording, &scan->counts.run, slot, &scan->run.capture, &at);
+    if (!library_cut(&scan->run, at, &answer) ||
+        (answer == MAHYREI_ACCEPTED && !library_read(&scan->run, &answer))) {
+        return false;
+    }
+    if (answer != MAHYREI_ACCEPTED) {
+        scan_add_refused(&scan->counts, slot, answer);
+        say_start_refused(scan, slot, answer);
+        return true;
+    }
+    *next = slot + scan->counts.run.sizes.slots;
+    return keep_run(scan, slot);
+}
+
+/* ---- all of them */
+
+static void show_progress(const struct scan *scan, uint64_t at) {
+    const uint64_t hundredth = scan->counts.slots / 100 + 1;
+    progress_scan((int)(at / hundredth), (int)(scan->counts.count & INT32_MAX));
+}
+
+static enum status refuse(struct scan *scan, uint64_t answer) {
+    struct lent whole = scan->run;
+    whole.capture = scan->recording.bytes;
+    entry_answer(scan->entry, answer);
+    say_refusal(answer, "The marker is longer or shorter than the header says.");
+    say_where(answer, &whole, &scan->operands);
+    return REFUSED;
+}
+
+/* Every slot at which the marker begins, except those in a run that is sound. */
+static enum status try_all(struct scan *scan) {
+    uint64_t at = scan->operands.from;
+    for (;;) {
+        uint64_t answer;
+        show_progress(scan, at);
+        if (!search_next(&scan->search, at, &answer)) {
+            return FAILED;
+        }
+        const unsigned number = mahyrei_answer_number(answer);
+        if (number == MAHYREI_NO_MARKER) {
+            return DONE;
+        }
+        if (number != MAHYREI_ACCEPTED) {
+            return refuse(scan, answer);
+        }
+        if (!try_start(scan, mahyrei_answer_place(answer), &at)) {
+            return FAILED;
+        }
+    }
+}
+
+/* ---- the summary */
+
+static bool report(FILE *to, const void *what) {
+    const struct scan *const scan = what;
+    if (scan->line->options[JSON] != NULL) {
+        print_scan_json(to, &scan->counts);
+    } else {
+        print_scan(to, &scan->counts);
+    }
+    return true;
+}
+
+static bool draw(FILE *to, const void *what) {
+    const struct scan *const scan = what;
+    draw_scan(to, &scan->counts);
+    return true;
+}
+
+static bool annotate(FILE *to, const void *what) {
+    const struct scan *const scan = what;
+    const struct sigmf_dataset dataset = {.name = scan->operands.capture,
+                                          .data = &scan->recording.bytes,
+                                          .header = &scan->run.header,
+                                          .marker = &scan->run.marker,
+                                          .slot_rate = scan->sigmf.slot_rate};
+    sigmf_print_begin(to, &dataset);
+    annotate_scan(to, &scan->counts);
+    sigmf_print_end(to);
+    return true;
+}
+
+/* What it ends with: a run that is sound is what a recording was gone through for. */
+static enum status conclude(struct scan *scan) {
+    const struct scan_counts *const counts = &scan->counts;
+    if (counts->count > 0) {
+        entry_answer(scan->entry, MAHYREI_ACCEPTED);
+        return DONE;
+    }
+    if (counts->refused == 0) {
+        return refuse(scan, MAHYREI_NO_MARKER);
+    }
+    entry_answer(scan->entry, counts->first_refusal);
+    remark(counts->name, "no run in it is sound");
+    return REFUSED;
+}
+
+/* What goes to files of their own beside the report. */
+struct drawings {
+    struct output picture, annotations;
+};
+
+static bool drawings_ready(const struct line *line, struct drawings *drawings) {
+    *drawings = (struct drawings){picture_as_told(line, SVG), annotations_as_told(line)};
+    return picture_ready(&drawings->picture) && picture_ready(&drawings->annotations);
+}
+
+static enum status summarize(struct scan *scan, const struct drawings *drawings) {
+    progress_phase(PUTTING_OUT);
+    if (!recording_unchanged(&scan->recording) ||
+        (drawings->picture.name != NULL && !put_printed(&drawings->picture, draw, scan)) ||
+        (drawings->annotations.name != NULL &&
+         !put_printed(&drawings->annotations, annotate, scan)) ||
+        !put_printed(NULL, report, scan)) {
+        return FAILED;
+    }
+    if (drawings->annotations.name != NULL && scan->counts.refused > REFUSED_KEPT) {
+        remark(drawings->annotations.name, "of the starts refused it has the first %d",
+               REFUSED_KEPT);
+    }
+    return conclude(scan);
+}
+
+/* ---- the command */
+
+/* Where the header is refused there is no room, and the search says why. */
+static bool make_rooms(struct scan *scan) {
+    const struct mahyrei_sizes *const sizes = &scan->counts.run.sizes;
+    sheet_of(&scan->run.header, &scan->counts.run);
+    return make_room(sizes->slot_bytes + 1, &scan->run.capture) &&
+           make_room(sizes->slot_bytes, &scan->run.slots) &&
+           make_room(sizes->frame_bytes, &scan->run.frames) &&
+           search_begin(&scan->search, &scan->recording, &scan->run.header, &scan->run.marker);
+}
+
+static bool take_in_recording(struct scan *scan) {
+    if (!take_in_header(&scan->operands, &scan->run, scan->entry) ||
+        !recording_open(scan->operands.capture, &scan->recording) ||
+        !is_described(&scan->operands, &scan->recording.bytes)) {
+        return false;
+    }
+    scan->counts.slots = 8 * (uint64_t)scan->recording.bytes.len;
+    entry_part(&scan->entry->capture, NULL, scan->recording.bytes.len, false);
+    return make_rooms(scan) && sent_once(&scan->operands, &scan->run);
+}
+
+static enum status go(struct scan *scan) {
+    struct drawings drawings;
+    if (!take_from(scan->line, &scan->operands.from) || !drawings_ready(scan->line, &drawings) ||
+        (drawings.annotations.name != NULL && !scan_keep_starts(&scan->counts)) ||
+        !take_in_recording(scan)) {
+        return FAILED;
+    }
+    output_spare(&drawings.picture, scan->recording.id);
+    output_spare(&drawings.annotations, scan->recording.id);
+    if (scan->counts.folder != NULL && !folder_ready(scan->counts.folder)) {
+        return FAILED;
+    }
+    const enum status status = try_all(scan);
+    return status == DONE ? summarize(scan, &drawings) : status;
+}
+
+enum status scan_command(const struct line *line, struct entry *entry) {
+    char *const *const given = line->operands;
+    struct scan scan = {.line = line,
+                        .operands = {.header = given[0], .marker = given[1], .capture = given[2]},
+                        .recording = {.file = -1},
+                        .counts = {.name = is_dash(given[2]) ? "standard input" : given[2],
+                                   .folder = line->count > 3 ? given[3] : NULL},
+                        .entry = entry};
+    scan.operands.sigmf = by_sigmf(line) ? &scan.sigmf : NULL;
+    entry_capture(entry, given[2]);
+    const enum status status = go(&scan);
+    search_free(&scan.search);
+    free_lent(&scan.run);
+    recording_close(&scan.recording);
+    scan_free(&scan.counts);
+    return status;
+}

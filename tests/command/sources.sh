@@ -1,0 +1,28 @@
+# How the command's own sources lie.
+# shellcheck shell=bash
+
+# Folders from the bottom up; docs/ARCHITECTURE.md has them in the same order.
+layers=(formats system report files library runs pictures commands)
+
+# A part includes its own folder and those below it, so that it can be read without those above.
+once_include_direction() {
+    local -A level
+    local i name from to wrong=''
+    for i in "${!layers[@]}"; do
+        level[${layers[i]}]=$i
+    done
+    same 'folders with sources' "$(printf '%s\n' "${layers[@]}" | sort | xargs)" \
+        "$(cd "$root/host" && find . -mindepth 2 -name '*.[ch]' -printf '%h\n' | sort -u |
+            cut -c 3- | xargs)"
+    while IFS=: read -r name _ to; do
+        from=${name#"$root/host/"} from=${from%%/*} to=${to#*\"} to=${to%%/*}
+        [ -n "${level[$to]-}" ] && [ "${level[$to]}" -le "${level[$from]}" ] ||
+            wrong+=" $name:$to"
+    done < <(grep -n '#include "[a-z]*/' "$root"/host/*/*.[ch])
+    same 'includes from below upwards' '' "$wrong"
+    for i in "${layers[@]}"; do
+        # shellcheck disable=SC2016  # the document has it so
+        has "ARCHITECTURE on host/$i" "\`$i\`" \
+            "$(sed -n '/^- `host\/`/,/^- /p' "$root/docs/ARCHITECTURE.md")"
+    done
+}
