@@ -12,7 +12,7 @@ use Rattle.interleaver.specs.Interleaver.{sourceBit}
 use Rattle.accumulator.specs.Accumulator.{accumulate}
 use Rattle.randomizer.specs.Randomizer.{sequence}
 use Rattle.plan.specs.declared.Plan.{Plan}
-use Rattle.slots.specs.Writing.{dataAt, slotBit}
+use Rattle.slots.specs.Writing.{dataSymbol, runSlot}
 
 pub record Row : Type 0 where
   pub computed : ℕ
@@ -60,9 +60,9 @@ table =
     -- step 6: the accumulator of 1101
     ∷ row (val (accumulate (these (1 ∷ 1 ∷ 0 ∷ 1 ∷ []))) 4) 0b1001
     -- step 8, after step 6: the symbol that bits 1101 are at m = 4
-    ∷ row (dataAt (plan 1 4 0) (piece wordBytes (packed 0b1101_0000)) 0) 13
+    ∷ row (dataSymbol (plan 1 4 0) (piece wordBytes (packed 0b1101_0000)) 0) 13
     -- step 10: the slots of symbol 2 at M = 4, its guard slot last; it is the marker symbol, so that they are the run's first
-    ∷ row (val (slotBit (plan 1 2 2) (piece wordBytes (packed 0))) (plan 1 2 2 .group)) 0b0010_0
+    ∷ row (val (runSlot (plan 1 2 2) (piece wordBytes (packed 0))) (plan 1 2 2 .group)) 0b0010_0
     ∷ []
 
 -- fourteen rows
@@ -75,7 +75,7 @@ Bench = map (λ r. r .computed) table ≡ map (λ r. r .listed) table
 
 -- beside the table: the same symbol, sent twice
 abbrev pub SentTwice : Type 0
-SentTwice = val (slotBit (plan 2 2 2) (piece wordBytes (packed 0))) 10 ≡ 0b0010_0_0010_0
+SentTwice = val (runSlot (plan 2 2 2) (piece wordBytes (packed 0))) 10 ≡ 0b0010_0_0010_0
 
 -- ---- all of it: the contract of `bench_table`
 pub record BenchTable : Type 0 where

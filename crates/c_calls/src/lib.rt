@@ -6,23 +6,27 @@ ghost use mathlib.Core.Path.{_≡_};
 ghost use lib.ListN.{length};
 ghost use Rattle.answers.specs.Answer.{codeOf};
 ghost use Rattle.word.specs.Word as words;
+ghost use Rattle.word.specs.Word.{wordReadSays, wordWriteSays};
 ghost use Rattle.word.specs.After.{wordAfter, blockAfter};
 ghost use Rattle.pass.specs.Pass as passes;
+ghost use Rattle.pass.specs.Pass.{passReadSays, passWriteSays};
 ghost use Rattle.spread.specs.Spread as spreads;
 ghost use Rattle.header_convert.specs.Convert as trips;
 ghost use Rattle.capture_search.specs.Search as searches;
 ghost use Rattle.run.specs.Run as runs;
+ghost use Rattle.run.specs.Run.{runReadSays, runWriteSays};
 ghost use Rattle.capture_cut.specs.Cut as cuts;
 ghost use Rattle.fades.specs.Fades as fadings;
 ghost use Rattle.delay.specs.Delay as delays;
 ghost use Rattle.delay.specs.declared.Side.the-variants.{Writing, Reading};
 ghost use Rattle.uplink.specs.Uplink as uplinks;
+ghost use Rattle.uplink.specs.Uplink.{uplinkReadSays, uplinkWriteSays};
 ghost use Rattle.rack.specs.Rack as racks;
 
 // A packed block to its word (step 7, and then steps 2 to 6).
 #[no_mangle]
 pub extern "C" fn mahyrei_word_write(rate: u64, block: &[u8], word: &mut [u8]) -> u64
-    ensures { λ r. ⌜ r ≡ codeOf (words.writeSays rate (now (block .entry)) (length (now (word .entry)))) ⌝ }
+    ensures { λ r. ⌜ r ≡ codeOf (wordWriteSays rate (now (block .entry)) (length (now (word .entry)))) ⌝ }
     ensures { λ _. ⌜ now (word .exit) ≡ wordAfter rate (now (block .entry)) (now (word .entry)) ⌝ }
 {
     answers::code(word_writer::write(rate, block, word))
@@ -31,7 +35,7 @@ pub extern "C" fn mahyrei_word_write(rate: u64, block: &[u8], word: &mut [u8]) -
 // A word back to its block, if some block makes it.
 #[no_mangle]
 pub extern "C" fn mahyrei_word_read(rate: u64, word: &[u8], block: &mut [u8]) -> u64
-    ensures { λ r. ⌜ r ≡ codeOf (words.readSays rate (now (word .entry)) (length (now (block .entry)))) ⌝ }
+    ensures { λ r. ⌜ r ≡ codeOf (wordReadSays rate (now (word .entry)) (length (now (block .entry)))) ⌝ }
     ensures { λ _. ⌜ now (block .exit) ≡ blockAfter rate (now (word .entry)) (now (block .entry)) ⌝ }
 {
     answers::code(word_reader::read(rate, word, block))
@@ -40,7 +44,7 @@ pub extern "C" fn mahyrei_word_read(rate: u64, word: &[u8], block: &mut [u8]) ->
 // Packed blocks, back to back, to their words.
 #[no_mangle]
 pub extern "C" fn mahyrei_pass_write(rate: u64, blocks: &[u8], words: &mut [u8]) -> u64
-    ensures { λ r. ⌜ r ≡ codeOf (passes.writeSays rate (now (blocks .entry)) (length (now (words .entry)))) ⌝ }
+    ensures { λ r. ⌜ r ≡ codeOf (passWriteSays rate (now (blocks .entry)) (length (now (words .entry)))) ⌝ }
     ensures { λ _. ⌜ now (words .exit) ≡ passes.wordsAfter rate (now (blocks .entry)) (now (words .entry)) ⌝ }
 {
     answers::code(pass_writer::write(rate, blocks, words))
@@ -49,7 +53,7 @@ pub extern "C" fn mahyrei_pass_write(rate: u64, blocks: &[u8], words: &mut [u8])
 // Words, back to back, to their blocks, if some blocks make them.
 #[no_mangle]
 pub extern "C" fn mahyrei_pass_read(rate: u64, words: &[u8], blocks: &mut [u8]) -> u64
-    ensures { λ r. ⌜ r ≡ codeOf (passes.readSays rate (now (words .entry)) (length (now (blocks .entry)))) ⌝ }
+    ensures { λ r. ⌜ r ≡ codeOf (passReadSays rate (now (words .entry)) (length (now (blocks .entry)))) ⌝ }
     ensures { λ _. ⌜ now (blocks .exit) ≡ passes.blocksAfter rate (now (words .entry)) (now (blocks .entry)) ⌝ }
 {
     answers::code(pass_reader::read(rate, words, blocks))
@@ -72,7 +76,7 @@ pub extern "C" fn mahyrei_run_write(
     frames: &[u8],
     slots: &mut [u8],
 ) -> u64
-    ensures { λ r. ⌜ r ≡ codeOf (runs.writeSays (now (header .entry)) (now (marker .entry)) (now (frames .entry)) (length (now (slots .entry)))) ⌝ }
+    ensures { λ r. ⌜ r ≡ codeOf (runWriteSays (now (header .entry)) (now (marker .entry)) (now (frames .entry)) (length (now (slots .entry)))) ⌝ }
     ensures { λ _. ⌜ now (slots .exit) ≡ runs.slotsAfter (now (header .entry)) (now (marker .entry)) (now (frames .entry)) (now (slots .entry)) ⌝ }
 {
     answers::code(run_writer::write(header, marker, frames, slots))
@@ -86,7 +90,7 @@ pub extern "C" fn mahyrei_run_read(
     slots: &[u8],
     frames: &mut [u8],
 ) -> u64
-    ensures { λ r. ⌜ r ≡ codeOf (runs.readSays (now (header .entry)) (now (marker .entry)) (now (slots .entry)) (length (now (frames .entry)))) ⌝ }
+    ensures { λ r. ⌜ r ≡ codeOf (runReadSays (now (header .entry)) (now (marker .entry)) (now (slots .entry)) (length (now (frames .entry)))) ⌝ }
     ensures { λ _. ⌜ now (frames .exit) ≡ runs.framesAfter (now (header .entry)) (now (marker .entry)) (now (slots .entry)) (now (frames .entry)) ⌝ }
 {
     answers::code(run_reader::read(header, marker, slots, frames))
@@ -178,7 +182,7 @@ pub extern "C" fn mahyrei_delay_read(header: &[u8], step: u64, symbol: u64, area
 // Frames of 64 bits to command slots.
 #[no_mangle]
 pub extern "C" fn mahyrei_uplink_write(frames: &[u8], slots: &mut [u8]) -> u64
-    ensures { λ r. ⌜ r ≡ codeOf (uplinks.writeSays (now (frames .entry)) (length (now (slots .entry)))) ⌝ }
+    ensures { λ r. ⌜ r ≡ codeOf (uplinkWriteSays (now (frames .entry)) (length (now (slots .entry)))) ⌝ }
     ensures { λ _. ⌜ now (slots .exit) ≡ uplinks.uplinkSlotsAfter (now (frames .entry)) (now (slots .entry)) ⌝ }
 {
     answers::code(uplink_writer::write(frames, slots))
@@ -187,7 +191,7 @@ pub extern "C" fn mahyrei_uplink_write(frames: &[u8], slots: &mut [u8]) -> u64
 // Command slots back to frames, if some frames make them.
 #[no_mangle]
 pub extern "C" fn mahyrei_uplink_read(slots: &[u8], frames: &mut [u8]) -> u64
-    ensures { λ r. ⌜ r ≡ codeOf (uplinks.readSays (now (slots .entry)) (length (now (frames .entry)))) ⌝ }
+    ensures { λ r. ⌜ r ≡ codeOf (uplinkReadSays (now (slots .entry)) (length (now (frames .entry)))) ⌝ }
     ensures { λ _. ⌜ now (frames .exit) ≡ uplinks.uplinkFramesAfter (now (slots .entry)) (now (frames .entry)) ⌝ }
 {
     answers::code(uplink_reader::read(slots, frames))
@@ -203,7 +207,7 @@ pub extern "C" fn mahyrei_rack_load(
     header: &[u8],
 ) -> u64
     ensures { λ r. ⌜ r ≡ racks.toldOf (now (area .entry)) (racks.callOf caller owner place (racks.Load (now (header .entry)))) .code ⌝ }
-    ensures { λ _. ⌜ now (area .exit) ≡ racks.stepOf (now (area .entry)) (racks.callOf caller owner place (racks.Load (now (header .entry)))) ⌝ }
+    ensures { λ _. ⌜ now (area .exit) ≡ racks.afterCall (now (area .entry)) (racks.callOf caller owner place (racks.Load (now (header .entry)))) ⌝ }
 {
     answers::code(rack_calls::load(area, caller, owner, place, header))
 }
@@ -227,7 +231,7 @@ pub extern "C" fn mahyrei_rack_read(
 #[no_mangle]
 pub extern "C" fn mahyrei_rack_drop(area: &mut [u8], caller: u64, owner: u64, place: u64) -> u64
     ensures { λ r. ⌜ r ≡ racks.toldOf (now (area .entry)) (racks.callOf caller owner place racks.Drop) .code ⌝ }
-    ensures { λ _. ⌜ now (area .exit) ≡ racks.stepOf (now (area .entry)) (racks.callOf caller owner place racks.Drop) ⌝ }
+    ensures { λ _. ⌜ now (area .exit) ≡ racks.afterCall (now (area .entry)) (racks.callOf caller owner place racks.Drop) ⌝ }
 {
     answers::code(rack_calls::drop(area, caller, owner, place))
 }
@@ -242,7 +246,7 @@ pub extern "C" fn mahyrei_rack_lend(
     to: u64,
 ) -> u64
     ensures { λ r. ⌜ r ≡ racks.toldOf (now (area .entry)) (racks.callOf caller owner place (racks.Lend to)) .code ⌝ }
-    ensures { λ _. ⌜ now (area .exit) ≡ racks.stepOf (now (area .entry)) (racks.callOf caller owner place (racks.Lend to)) ⌝ }
+    ensures { λ _. ⌜ now (area .exit) ≡ racks.afterCall (now (area .entry)) (racks.callOf caller owner place (racks.Lend to)) ⌝ }
 {
     answers::code(rack_calls::lend(area, caller, owner, place, to))
 }

@@ -18,8 +18,8 @@ total g = g .words * g .symbols
 abbrev pub unit : Layout → ℕ
 unit g = g .symbols + g .markers
 
-abbrev pub symbolCount : Layout → ℕ
-symbolCount g = g .lines * unit g
+abbrev pub layoutSymbols : Layout → ℕ
+layoutSymbols g = g .lines * unit g
 
 -- Step 8: symbol t of all words, m bits each, the first bit highest
 unfoldable pub dataAt : ℕ → Layout → (ℕ → List ℕ) → ℕ → ℕ
@@ -45,8 +45,8 @@ unfoldable pub symbolOf : Layout → ℕ → ℕ
 symbolOf g x = x / g .symbols * unit g + (g .markers + x % g .symbols)
 
 -- symbol s: a marker symbol, or what is at its place
-unfoldable pub marked : Layout → List ℕ → (ℕ → ℕ) → ℕ → ℕ
-marked g marks standing s = pick (ltb (s % unit g) (g .markers)) (getD marks (s % unit g) 0) (standing (placeAt g s))
+unfoldable pub withMarkers : Layout → List ℕ → (ℕ → ℕ) → ℕ → ℕ
+withMarkers g marks standing s = pick (ltb (s % unit g) (g .markers)) (getD marks (s % unit g) 0) (standing (placeAt g s))
 
 -- Question 11: is symbol s, if it is a marker symbol, the right one? `read` are the symbols that were read
 unfoldable pub markRight : Layout → List ℕ → (ℕ → ℕ) → ℕ → Bool
@@ -60,5 +60,5 @@ restZero g read s = pick (ltb (s % unit g) (g .markers)) true (pick (ltb (hitBy 
 unfoldable pub wordBit : ℕ → Layout → (ℕ → ℕ) → ℕ → ℕ → ℕ
 wordBit bits g symbol j y = symbol (j * g .symbols + y / bits) / 2 ^ (bits - 1 - y % bits) % 2
 
-unfoldable pub wordOf : ℕ → Layout → (ℕ → ℕ) → ℕ → List ℕ
-wordOf bits g symbol j = bytesOf wordBytes (wordBit bits g symbol j)
+unfoldable pub wordFrom : ℕ → Layout → (ℕ → ℕ) → ℕ → List ℕ
+wordFrom bits g symbol j = bytesOf wordBytes (wordBit bits g symbol j)

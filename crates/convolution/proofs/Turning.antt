@@ -16,7 +16,7 @@ use Rattle.bits.specs.Pack.{Bits, Bytes, val, bitAt}
 use Rattle.bits.proofs.Laws.Pack.{val-lt, val-same, bit-val}
 use Rattle.bits.proofs.Laws.Parts.{val-split, byte-val}
 use Rattle.sizes.specs.Sizes.{inputsPer, codedPer, wordBits}
-use Rattle.convolution.specs.Code.{delay, first, second, stepOf, encode}
+use Rattle.convolution.specs.Code.{delay, first, second, inputPlace, encode}
 use Rattle.convolution.proofs.Laws.Code.{delay-bits}
 use Rattle.convolution.specs.Inner.{bitIn, byteOf, Put, turnBit, Entries}
 use Rattle.convolution.proofs.Filling.{Filling, filled-none, filled-all, fill-put}
@@ -52,10 +52,10 @@ entries-right rate u o m base table h = record {
 }
 
 -- three bits make a coded bit
-turn-same : (rate u : ℕ) (f g : ℕ → ℕ) → ((k : ℕ) → stepOf rate u ≤ k → k ≤ stepOf rate u + 2 → f k ≡ g k) → turnBit rate f u ≡ turnBit rate g u
+turn-same : (rate u : ℕ) (f g : ℕ → ℕ) → ((k : ℕ) → inputPlace rate u ≤ k → k ≤ inputPlace rate u + 2 → f k ≡ g k) → turnBit rate f u ≡ turnBit rate g u
 unfolding turnBit
 turn-same rate u f g h =
-    let s : ℕ = stepOf rate u in
+    let s : ℕ = inputPlace rate u in
     let a : f s ≡ g s = h s (omega arith) (omega arith) in
     let b : f (s + 1) ≡ g (s + 1) = h (s + 1) (omega arith) (omega arith) in
     let c : f (s + 2) ≡ g (s + 2) = h (s + 2) (omega arith) (omega arith) in
@@ -77,7 +77,7 @@ part-bit o m d n w k whole l h =
 
 -- eight coded bits of a turn, those from bit u on, by the entry of the bits that make them
 pub group : (rate u o m base d n w e : ℕ) (table : List ℕ) → Entries rate u o m base table → e ≡ base + w / 2 ^ d % 2 ^ m → o + m + d ≡ n
-    → ((t : ℕ) → t < 8 → (o ≤ stepOf rate (u + t)) × (stepOf rate (u + t) + 2 < o + m))
+    → ((t : ℕ) → t < 8 → (o ≤ inputPlace rate (u + t)) × (inputPlace rate (u + t) + 2 < o + m))
     → (t p : ℕ) → t < 8 → p ≡ u + t → byteOf (getD table e 0) t ≡ turnBit rate (bitIn n w) p
 group rate u o m base d n w e table h at whole inside t p l q =
     let i = inside t l in
@@ -90,20 +90,20 @@ group rate u o m base d n w e table h at whole inside t p l q =
 
 -- at a rate, a turn is made of `ins` input bits and makes `outs` coded bits
 pub record Turns (rate ins outs : ℕ) : Type 0 where
-  pub step : (i u : ℕ) → stepOf rate (outs * i + u) ≡ ins * i + stepOf rate u
+  pub step : (i u : ℕ) → inputPlace rate (outs * i + u) ≡ ins * i + inputPlace rate u
   pub phase : (i u : ℕ) → (outs * i + u) % codedPer rate ≡ u % codedPer rate
-  pub inside : (u : ℕ) → u < outs → stepOf rate u < ins
+  pub inside : (u : ℕ) → u < outs → inputPlace rate u < ins
 
 pub third-turns : Turns 0 8 24
-unfolding stepOf inputsPer codedPer
+unfolding inputPlace inputsPer codedPer
 third-turns = record { step = λ i u. omega arith; phase = λ i u. omega arith; inside = λ u l. omega arith }
 
 pub half-turns : Turns 1 8 16
-unfolding stepOf inputsPer codedPer
+unfolding inputPlace inputsPer codedPer
 half-turns = record { step = λ i u. omega arith; phase = λ i u. omega arith; inside = λ u l. omega arith }
 
 pub two-thirds-turns : Turns 2 16 24
-unfolding stepOf inputsPer codedPer
+unfolding inputPlace inputsPer codedPer
 two-thirds-turns = record { step = λ i u. omega arith; phase = λ i u. omega arith; inside = λ u l. omega arith }
 
 -- the bits of turn i: the two before its input bits, and these
@@ -123,7 +123,7 @@ turn-bits x h ins i k = delay-bits (delay x) (delay-bits x h) (ins * i + k)
 turn-encode : (rate ins outs : ℕ) → Turns rate ins outs → (x : ℕ → ℕ) (i u : ℕ) → turnBit rate (turnBits x ins i) u ≡ encode rate x (outs * i + u)
 unfolding turnBit turnBits encode first second delay
 turn-encode rate ins outs h x i u =
-    let s : ℕ = stepOf rate u in
+    let s : ℕ = inputPlace rate u in
     let j : ℕ = ins * i + s in
     let two : ins * i + (s + 2) ≡ suc (suc j) = omega arith in
     let one : ins * i + (s + 1) ≡ suc j = omega arith in

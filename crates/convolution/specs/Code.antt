@@ -23,13 +23,13 @@ unfoldable pub second : (ℕ → ℕ) → ℕ → ℕ
 second x i = bitXor (bitXor (x i) (delay x i)) (delay (delay x) i)
 
 -- the input bit from which coded bit j is made
-unfoldable pub stepOf : ℕ → ℕ → ℕ
-stepOf rate j = j * inputsPer rate / codedPer rate
+unfoldable pub inputPlace : ℕ → ℕ → ℕ
+inputPlace rate j = j * inputsPer rate / codedPer rate
 
 -- coded bit j. The outputs that are kept come one after another: at 1/3 and 1/2 the first opens each input bit's outputs,
 -- at 2/3 those of bits 0, 2, 4 and so on; all others are second (or third) outputs. The equations below say it place by place.
 unfoldable pub encode : ℕ → (ℕ → ℕ) → ℕ → ℕ
-encode rate x j = pick (eqb (j % codedPer rate) 0) (first x (stepOf rate j)) (second x (stepOf rate j))
+encode rate x j = pick (eqb (j % codedPer rate) 0) (first x (inputPlace rate j)) (second x (inputPlace rate j))
 
 -- and back, from the second output alone: its place for input bit i, and the bits that it makes
 unfoldable pub secondPlace : ℕ → ℕ → ℕ

@@ -9,7 +9,7 @@ use Rattle.sizes.specs.Inner.{inputBits}
 use Rattle.sizes.specs.Sizes.{wordBits, codedPer}
 use Rattle.bits.specs.Basics.{pick}
 use Rattle.bits.specs.Pack.{bitAt}
-use Rattle.convolution.specs.Code.{stepOf, terminated}
+use Rattle.convolution.specs.Code.{inputPlace, terminated}
 
 -- the input bits at a rate, packed, and a buffer for their coded bits
 pub record Encodes (rate : ℕ) (input coded : List ℕ) : Type 0 where
@@ -40,7 +40,7 @@ pub record Put (before : List ℕ) (at n : ℕ) (f : ℕ → ℕ) (after : List 
 -- coded bit u of a turn, from its input bits and the two before them: f (i + 2) is input bit i
 unfoldable pub turnBit : ℕ → (ℕ → ℕ) → ℕ → ℕ
 turnBit rate f u =
-    let s : ℕ = stepOf rate u in
+    let s : ℕ = inputPlace rate u in
     pick (eqb (u % codedPer rate) 0) (bitXor (f (s + 2)) (f s)) (bitXor (bitXor (f (s + 2)) (f (s + 1))) (f s))
 
 -- from entry `base` on, a table has eight coded bits of a turn, those from bit u on, by the m bits that make them: f o, f (o + 1), ..

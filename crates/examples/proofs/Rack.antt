@@ -13,7 +13,7 @@ use Rattle.header.proofs.Examples.{example}
 use Rattle.header_sizes.specs.Quantities.{symbolsPerWord, interleaverDelay}
 use Rattle.header_questions.specs.Questions.{question1, question2, question3, question4, question5, question6, question7, copiesGood, fieldsSay, formSays, headerSays}
 use Rattle.rack.proofs.Laws.Rack.{emptyRack}
-use Rattle.rack.specs.Rack.{entryAt, put, loaded, lentTo, Load, Read, Drop, Lend, Call, callOf, missionsRight, placeRight, says, stepOf, Told, toldOf}
+use Rattle.rack.specs.Rack.{entryAt, put, loaded, lentTo, Load, Read, Drop, Lend, Call, callOf, missionsRight, placeRight, says, afterCall, Told, toldOf}
 use Rattle.rack.specs.Traces.{afterAll, heard, lent, everLent, concerns, kept}
 use Rattle.rack.proofs.Laws.Unseen.{ever-rack, told-same}
 
@@ -70,7 +70,7 @@ day =
 -- what all callers are told
 abbrev toldAll : List ℕ → List Call → List Told
 toldAll area [] = []
-toldAll area (call ∷ calls) = toldOf area call ∷ toldAll (stepOf area call) calls
+toldAll area (call ∷ calls) = toldOf area call ∷ toldAll (afterCall area call) calls
 
 -- at the end the second entry, from byte 11 on, is loaded and lent to nobody, and all others are empty
 pub day-told : (toldAll emptyRack day
@@ -99,7 +99,7 @@ pub day-told : (toldAll emptyRack day
     ∷ number 20
     ∷ [])
     × (afterAll emptyRack day ≡ replicate 11 0 ++ (1 ∷ example) ++ replicate 154 0)
-unfolding afterAll says stepOf entryAt put loaded lentTo missionsRight placeRight tab headerSays formSays fieldsSay question1 question2 question3 question4 question5 question6 question7 copiesGood fieldsOf field spareOf val bitAt interleaverDelay symbolsPerWord
+unfolding afterAll says afterCall entryAt put loaded lentTo missionsRight placeRight tab headerSays formSays fieldsSay question1 question2 question3 question4 question5 question6 question7 copiesGood fieldsOf field spareOf val bitAt interleaverDelay symbolsPerWord
 day-told = (refl, refl)
 
 -- ---- what mission 2 is told
@@ -171,7 +171,7 @@ pub record Computed : Type 0 where
   pub told-other : heard 2 emptyRack loadedOther ≡ reading 0 other ∷ reading 25 room ∷ []
 
 pub computed : Computed
-unfolding afterAll heard everLent lent concerns kept says stepOf entryAt put loaded lentTo missionsRight placeRight tab headerSays formSays fieldsSay question1 question2 question3 question4 question5 question6 question7 copiesGood fieldsOf field spareOf val bitAt interleaverDelay symbolsPerWord
+unfolding afterAll heard everLent lent concerns kept says afterCall entryAt put loaded lentTo missionsRight placeRight tab headerSays formSays fieldsSay question1 question2 question3 question4 question5 question6 question7 copiesGood fieldsOf field spareOf val bitAt interleaverDelay symbolsPerWord
 computed = record { ends = refl; kept-same = refl; no-more = tt; told = refl; kept-too = refl; told-too = refl; told-other = refl }
 
 -- the second list meets what `told-same` asks

@@ -17,7 +17,7 @@ use Rattle.bits.proofs.Laws.Choice.{bool-lt, lt-or-le, eq-or-ne}
 use Rattle.bits.proofs.Laws.Table.{tab-made}
 use Rattle.bits.specs.Count.{weight}
 use Rattle.bits.proofs.Laws.Weight.{weight-most}
-use Rattle.channel.specs.Channel.{total, unit, symbolCount, placeAt}
+use Rattle.channel.specs.Channel.{total, unit, layoutSymbols, placeAt}
 use Rattle.channel.proofs.Laws.Places.{hit-le, remainder-on}
 use Rattle.channel.specs.declared.Layout.{Layout}
 use Rattle.fades.specs.declared.walk.Spot.{Spot}
@@ -248,7 +248,7 @@ module _ (g : Layout) (fades : List ℕ) where
             (lt-or-le j (g .words));
       }
 
-  pub counted-all : (s : ℕ) (counts : List ℕ) → s ≡ symbolCount g → Counted g fades s counts → counts ≡ countsOf g fades
+  pub counted-all : (s : ℕ) (counts : List ℕ) → s ≡ layoutSymbols g → Counted g fades s counts → counts ≡ countsOf g fades
   unfolding countsOf hits
   counted-all s counts e c =
       tab-made (g .words) (hits g fades) counts (c .long) (λ j l. c .each j l ∙ ap (weight (λ u. bool (isHit g fades j u))) e)

@@ -60,7 +60,7 @@ abbrev pub isHit : Layout → List ℕ → ℕ → ℕ → Bool
 isHit g fades j s = both (covered fades s) (ofWord g j s)
 
 unfoldable pub hits : Layout → List ℕ → ℕ → ℕ
-hits g fades j = weight (λ s. bool (isHit g fades j s)) (channel.symbolCount g)
+hits g fades j = weight (λ s. bool (isHit g fades j s)) (channel.layoutSymbols g)
 
 unfoldable pub countsOf : Layout → List ℕ → List ℕ
 countsOf g fades = tab (g .words) (hits g fades)

@@ -6,7 +6,7 @@ use Prim.Native.Nat.{ℕ, _+_, _*_, _/_, _%_, _^_, _≤_, _<_}
 use lib.Dec.{eqb}
 use lib.ListN.{length, getD, drop}
 use Rattle.bits.specs.Basics.{pick, bool}
-use Rattle.channel.specs.Channel.{total, unit, symbolCount, placeAt}
+use Rattle.channel.specs.Channel.{total, unit, layoutSymbols, placeAt}
 use Rattle.channel.specs.declared.Layout.{Layout}
 use Rattle.fades.specs.declared.walk.Spot.{Spot}
 use Rattle.fades.specs.Fades.{covered, fadesGood, listGood, sourceOf, carries, isHit}
@@ -20,7 +20,7 @@ pub record Small (g : Layout) : Type 0 where
   pub symbols-most : g .symbols ≤ 7560
   pub markers-most : g .markers ≤ 32
   pub total-most : total g < 2 ^ 31
-  pub count-most : symbolCount g < 2 ^ 23
+  pub count-most : layoutSymbols g < 2 ^ 23
 
 -- where a symbol stands: in its line, at which place of step 9, and that modulo N
 pub record Stands (g : Layout) (a : Spot) : Type 0 where
@@ -58,6 +58,6 @@ pub record Added (g : Layout) (fades : List ℕ) (s : ℕ) (before after : List 
 
 pub record Walks (g : Layout) (fades counts : List ℕ) : Type 0 where
   pub small : Small g
-  pub list : listGood (symbolCount g) fades ≡ true
+  pub list : listGood (layoutSymbols g) fades ≡ true
   pub long : length counts ≡ g .words
   pub zeros : (j : ℕ) → j < g .words → getD counts j 0 ≡ 0

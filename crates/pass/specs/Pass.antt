@@ -10,7 +10,7 @@ use Rattle.bits.specs.Pack.{piece}
 use Rattle.answers.specs.declared.Answer.{Answer}
 use Rattle.answers.specs.Answer.{after, ask, then, inOrder}
 use Rattle.sizes.specs.Sizes.{blockBytes, wordBytes}
-use Rattle.word.specs.Word.{wordOf, blockIn, writeSays as wordWrites, readSays as wordReads}
+use Rattle.word.specs.Word.{wordOf, blockIn, wordWriteSays, wordReadSays}
 
 -- the most blocks of a pass, at every rate
 abbrev pub passMost : ℕ
@@ -44,28 +44,28 @@ passLengthsRight n size blocksLength wordsLength =
     both (leb 1 n) (both (leb n passMost) (both (eqb blocksLength (n * size)) (eqb wordsLength (n * wordBytes))))
 
 -- what the word writer answers to block j, and the word reader to word j
-abbrev pub blockSays : ℕ → List ℕ → ℕ → Answer
-blockSays rate blocks j = wordWrites rate (piece (blockBytes rate) blocks j) wordBytes
+abbrev pub passBlockSays : ℕ → List ℕ → ℕ → Answer
+passBlockSays rate blocks j = wordWriteSays rate (piece (blockBytes rate) blocks j) wordBytes
 
-abbrev pub wordSays : ℕ → List ℕ → ℕ → Answer
-wordSays rate words j = wordReads rate (piece wordBytes words j) (blockBytes rate)
+abbrev pub passWordSays : ℕ → List ℕ → ℕ → Answer
+passWordSays rate words j = wordReadSays rate (piece wordBytes words j) (blockBytes rate)
 
 -- the two calls: 2, 8, and then one block or word after another; the first that is refused gives its number, and its index is the place
-unfoldable pub writeSays : ℕ → List ℕ → ℕ → Answer
-writeSays rate blocks wordsLength =
+unfoldable pub passWriteSays : ℕ → List ℕ → ℕ → Answer
+passWriteSays rate blocks wordsLength =
     then (ask (ltb rate 3) 2 0)
     (then (ask (passLengthsRight (blocksIn rate blocks) (blockBytes rate) (length blocks) wordsLength) 8 0)
-    (inOrder (blocksIn rate blocks) (blockSays rate blocks)))
+    (inOrder (blocksIn rate blocks) (passBlockSays rate blocks)))
 
-unfoldable pub readSays : ℕ → List ℕ → ℕ → Answer
-readSays rate words blocksLength =
+unfoldable pub passReadSays : ℕ → List ℕ → ℕ → Answer
+passReadSays rate words blocksLength =
     then (ask (ltb rate 3) 2 0)
     (then (ask (passLengthsRight (wordsIn words) (blockBytes rate) blocksLength (length words)) 8 0)
-    (inOrder (wordsIn words) (wordSays rate words)))
+    (inOrder (wordsIn words) (passWordSays rate words)))
 
 -- what the slice lent for the result holds afterwards: the result on acceptance, otherwise what it held
 abbrev pub wordsAfter : ℕ → List ℕ → List ℕ → List ℕ
-wordsAfter rate blocks old = after (writeSays rate blocks (length old)) (wordsOf rate blocks) old
+wordsAfter rate blocks old = after (passWriteSays rate blocks (length old)) (wordsOf rate blocks) old
 
 abbrev pub blocksAfter : ℕ → List ℕ → List ℕ → List ℕ
-blocksAfter rate words old = after (readSays rate words (length old)) (blocksOf rate words) old
+blocksAfter rate words old = after (passReadSays rate words (length old)) (blocksOf rate words) old

@@ -8,14 +8,14 @@ ghost use Rattle.answers.specs.declared.Answer.the-variants.{Done};
 ghost use Rattle.answers.specs.Answer.{after, inOrder};
 ghost use Rattle.sizes.specs.Sizes.{wordBytes};
 ghost use Rattle.word.specs.Word.{blockIn};
-ghost use Rattle.pass.specs.Pass.{blocksOf, wordSays, readSays};
+ghost use Rattle.pass.specs.Pass.{blocksOf, passWordSays, passReadSays};
 ghost use Rattle.pass.specs.Inner.{Lent};
 ghost use Rattle.pass_reader.specs.Inner.{Decodes, Aside, Roomy};
 
 // The word reader's answer to word j of n, and its block.
 fn read_word(rate: u64, n: usize, words: &[u8], j: usize, block: &mut [u8]) -> Answer
     requires { ⌜ Decodes rate n j (now words) (now block) ⌝ }
-    ensures { λ r. ⌜ r ≡ wordSays rate (now (words .entry)) j ⌝ }
+    ensures { λ r. ⌜ r ≡ passWordSays rate (now (words .entry)) j ⌝ }
     ensures { λ r. ⌜ now (block .exit) ≡ after r (blockIn rate (piece wordBytes (now (words .entry)) j)) (now (block .entry)) ⌝ }
 {
     let at = j * sizes::WORD_BYTES;
@@ -26,7 +26,7 @@ fn read_word(rate: u64, n: usize, words: &[u8], j: usize, block: &mut [u8]) -> A
 // The same of one word after another, up to the first that is refused.
 fn read_all(rate: u64, n: usize, words: &[u8], room: &mut [u8]) -> Answer
     requires { ⌜ Lent rate n (now room) (now words) ⌝ }
-    ensures { λ r. ⌜ r ≡ inOrder n (wordSays rate (now (words .entry))) ⌝ }
+    ensures { λ r. ⌜ r ≡ inOrder n (passWordSays rate (now (words .entry))) ⌝ }
     ensures { λ r. ⌜ (r ≡ Done → now (room .exit) ≡ blocksOf rate (now (words .entry))) ⌝ }
 {
     let size = sizes::block_bytes(rate);
@@ -46,7 +46,7 @@ fn read_all(rate: u64, n: usize, words: &[u8], room: &mut [u8]) -> Answer
 // The blocks, copied once all words have given theirs.
 fn settle(rate: u64, n: usize, words: &[u8], room: &mut [u8], blocks: &mut [u8]) -> Answer
     requires { ⌜ Aside rate n (now words) (now room) (now blocks) ⌝ }
-    ensures { λ r. ⌜ r ≡ inOrder n (wordSays rate (now (words .entry))) ⌝ }
+    ensures { λ r. ⌜ r ≡ inOrder n (passWordSays rate (now (words .entry))) ⌝ }
     ensures { λ r. ⌜ now (blocks .exit) ≡ after r (blocksOf rate (now (words .entry))) (now (blocks .entry)) ⌝ }
 {
     let answer = read_all(rate, n, words, room);
@@ -60,7 +60,7 @@ fn settle(rate: u64, n: usize, words: &[u8], room: &mut [u8], blocks: &mut [u8])
 // As much of the buffer as the blocks take.
 fn read_in(rate: u64, n: usize, words: &[u8], room: &mut [u8], blocks: &mut [u8]) -> Answer
     requires { ⌜ Roomy rate n (now words) (now room) (now blocks) ⌝ }
-    ensures { λ r. ⌜ r ≡ inOrder n (wordSays rate (now (words .entry))) ⌝ }
+    ensures { λ r. ⌜ r ≡ inOrder n (passWordSays rate (now (words .entry))) ⌝ }
     ensures { λ r. ⌜ now (blocks .exit) ≡ after r (blocksOf rate (now (words .entry))) (now (blocks .entry)) ⌝ }
 {
     let size = blocks.len();
@@ -71,7 +71,7 @@ fn read_in(rate: u64, n: usize, words: &[u8], room: &mut [u8], blocks: &mut [u8]
 fn read_few(rate: u64, n: usize, words: &[u8], blocks: &mut [u8]) -> Answer
     requires { ⌜ n ≤ 16 ⌝ }
     requires { ⌜ Lent rate n (now blocks) (now words) ⌝ }
-    ensures { λ r. ⌜ r ≡ inOrder n (wordSays rate (now (words .entry))) ⌝ }
+    ensures { λ r. ⌜ r ≡ inOrder n (passWordSays rate (now (words .entry))) ⌝ }
     ensures { λ r. ⌜ now (blocks .exit) ≡ after r (blocksOf rate (now (words .entry))) (now (blocks .entry)) ⌝ }
 {
     let mut room = [0u8; 20096];
@@ -81,7 +81,7 @@ fn read_few(rate: u64, n: usize, words: &[u8], blocks: &mut [u8]) -> Answer
 // With a buffer for 211.
 fn read_many(rate: u64, n: usize, words: &[u8], blocks: &mut [u8]) -> Answer
     requires { ⌜ Lent rate n (now blocks) (now words) ⌝ }
-    ensures { λ r. ⌜ r ≡ inOrder n (wordSays rate (now (words .entry))) ⌝ }
+    ensures { λ r. ⌜ r ≡ inOrder n (passWordSays rate (now (words .entry))) ⌝ }
     ensures { λ r. ⌜ now (blocks .exit) ≡ after r (blocksOf rate (now (words .entry))) (now (blocks .entry)) ⌝ }
 {
     let mut room = [0u8; 265016];
@@ -90,7 +90,7 @@ fn read_many(rate: u64, n: usize, words: &[u8], blocks: &mut [u8]) -> Answer
 
 // Reads the blocks of words.
 pub fn read(rate: u64, words: &[u8], blocks: &mut [u8]) -> Answer
-    ensures { λ r. ⌜ r ≡ readSays rate (now (words .entry)) (length (now (blocks .entry))) ⌝ }
+    ensures { λ r. ⌜ r ≡ passReadSays rate (now (words .entry)) (length (now (blocks .entry))) ⌝ }
     ensures { λ r. ⌜ now (blocks .exit) ≡ after r (blocksOf rate (now (words .entry))) (now (blocks .entry)) ⌝ }
 {
     if 2 < rate {

@@ -6,7 +6,7 @@ ghost use Rattle.bits.specs.Pack.{piece};
 ghost use Rattle.answers.specs.Answer.{after};
 ghost use Rattle.sizes.specs.Sizes.{blockBytes};
 ghost use Rattle.word.specs.Word.{wordOf};
-ghost use Rattle.pass.specs.Pass.{wordsOf, writeSays};
+ghost use Rattle.pass.specs.Pass.{wordsOf, passWriteSays};
 ghost use Rattle.pass.specs.Inner.{Lent};
 ghost use Rattle.pass_writer.specs.Inner.{Codes};
 
@@ -37,7 +37,7 @@ fn code_all(rate: u64, n: usize, blocks: &[u8], words: &mut [u8])
 
 // Writes the words of packed blocks.
 pub fn write(rate: u64, blocks: &[u8], words: &mut [u8]) -> Answer
-    ensures { λ r. ⌜ r ≡ writeSays rate (now (blocks .entry)) (length (now (words .entry))) ⌝ }
+    ensures { λ r. ⌜ r ≡ passWriteSays rate (now (blocks .entry)) (length (now (words .entry))) ⌝ }
     ensures { λ r. ⌜ now (words .exit) ≡ after r (wordsOf rate (now (blocks .entry))) (now (words .entry)) ⌝ }
 {
     if 2 < rate {

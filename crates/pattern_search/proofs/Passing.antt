@@ -15,7 +15,7 @@ use Rattle.bits.proofs.Laws.First.{first-on, first-here, first-skip, first-same
 use Rattle.bits.specs.Pack.{bitAt, clearAt, firstOne}
 use Rattle.pattern_search.proofs.Laws.Starts.{stands-all, all-stands}
 use Rattle.pattern_search.specs.Inner.{Candidates, Passes, Next, Agrees}
-use Rattle.pattern_search.specs.Starts.{right, firstWrong, stands, missed}
+use Rattle.pattern_search.specs.Starts.{right, firstMismatch, stands, missed}
 
 -- ---- the next start
 
@@ -127,7 +127,7 @@ copied-bit b before room c x l =
 -- a short capture with zeros behind it: its starts are as they were
 pub padded : (b before room marker : List ℕ) (n from end : ℕ) → Copied b 0 before 0 (length b) room → end + n ≤ 8 * length b + 1
     → upTo (missed (bitAt marker) n room) from end ≡ upTo (missed (bitAt marker) n b) from end
-unfolding stands firstWrong
+unfolding stands firstMismatch
 padded b before room marker n from end c h =
     same-from (missed (bitAt marker) n room) (missed (bitAt marker) n b) (end - from) from (λ x a l.
     ap (λ (k : ℕ). not (eqb k n)) (first-same (right (bitAt marker) room x) (right (bitAt marker) b x) n (λ i u.

@@ -12,11 +12,11 @@ abbrev pub right : (ℕ → ℕ) → List ℕ → ℕ → ℕ → Bool
 right marker b x i = eqb (bitAt b (x + i)) (marker i)
 
 -- the first that is wrong, n where none is; and whether all of them stand there
-unfoldable pub firstWrong : (ℕ → ℕ) → ℕ → List ℕ → ℕ → ℕ
-firstWrong marker n b x = upTo (right marker b x) 0 n
+unfoldable pub firstMismatch : (ℕ → ℕ) → ℕ → List ℕ → ℕ → ℕ
+firstMismatch marker n b x = upTo (right marker b x) 0 n
 
 unfoldable pub stands : (ℕ → ℕ) → ℕ → List ℕ → ℕ → Bool
-stands marker n b x = eqb (firstWrong marker n b x) n
+stands marker n b x = eqb (firstMismatch marker n b x) n
 
 -- how many slots of the capture can be the first of n
 abbrev pub starts : ℕ → List ℕ → ℕ

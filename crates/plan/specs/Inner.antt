@@ -3,17 +3,17 @@ use mathlib.Core.Path.{_≡_}
 use Prim.Native.Nat.{ℕ, _+_, _-_, _*_, _/_, _^_, _≤_, _<_}
 use lib.ListN.{getD, length}
 use Rattle.sizes.specs.Sizes.{wordBits}
-use Rattle.channel.specs.Channel.{total, symbolCount}
+use Rattle.channel.specs.Channel.{total, layoutSymbols}
 use Rattle.channel.specs.Inner.{delay}
 use Rattle.header_sizes.specs.Quantities as quantities
 use Rattle.header_sizes.specs.Inner.{Valid}
 use Rattle.parameters.specs.declared.Parameters.{Parameters}
 use Rattle.plan.specs.declared.Plan.{Plan}
-use Rattle.plan.specs.Plan.{sent, planOf}
+use Rattle.plan.specs.Plan.{sentCount, planOf}
 
 -- the bytes of all slots, packed
 abbrev pub slotBytes : Plan → ℕ
-slotBytes p = (sent p * p .group + 7) / 8
+slotBytes p = (sentCount p * p .group + 7) / 8
 
 pub record Fine (p : Plan) : Type 0 where
   pub copies-least : 1 ≤ p .copies
@@ -33,8 +33,8 @@ pub record Fine (p : Plan) : Type 0 where
   pub markers-most : p .layout .markers ≤ 32
   pub marks-are : length (p .marks) ≡ 32
   pub marks-below : (i : ℕ) → getD (p .marks) i 0 < p .order
-  pub symbols-bound : symbolCount (p .layout) < 2 ^ 23
-  pub slots-bound : symbolCount (p .layout) * p .group < 2 ^ 31
+  pub symbols-bound : layoutSymbols (p .layout) < 2 ^ 23
+  pub slots-bound : layoutSymbols (p .layout) * p .group < 2 ^ 31
 
 -- the same of the parameters that the check returns, as the writer and the reader require it
 pub record Entered (q : Parameters) (framesLength slotsLength : ℕ) : Type 0 where

@@ -36,7 +36,7 @@ use Rattle.delay.proofs.Laws.Delay as laws
 use Rattle.delay.proofs.Laws.Theorems as theorems
 use Rattle.delay.specs.declared.Side.{Side}
 use Rattle.delay.specs.declared.Side.the-variants.{Writing, Reading}
-use Rattle.promises.specs.Card11.{StepAsks, StepNot17, RefusedStep, RowsFollow, RowsFill, RowBytes, BytePasses, NonePasses, areaBefore, answerAt, sent, Accepted, StepsAccepted, AcceptedGood, AcceptedBelow, Written, WrittenLate, ReadLate, ReadAccepted, ReadBack, ReadZeros, RunPlaces}
+use Rattle.promises.specs.Card11.{StepAsks, StepNot17, RefusedStep, RowsFollow, RowsFill, RowBytes, BytePasses, NonePasses, areaBefore, answerAt, writerGives, Accepted, StepsAccepted, AcceptedGood, AcceptedBelow, Written, WrittenLate, ReadLate, ReadAccepted, ReadBack, ReadZeros, RunPlaces}
 
 pub step-asks : StepAsks
 unfolding stepSays areaBytes interleaverDelay pulseOrder
@@ -188,11 +188,11 @@ read-late header q n accepted rows step er es x l =
 
 -- the symbols that the writer gives
 sent-is : (header : List ℕ) (q : ℕ → ℕ) (n : ℕ) → Accepted Writing header q n → (k : ℕ) → k < n
-    → sent header q k ≡ givenAt (fieldsOf header .rows) (lines Writing (fieldsOf header)) q k
+    → writerGives header q k ≡ givenAt (fieldsOf header .rows) (lines Writing (fieldsOf header)) q k
 sent-is header q n accepted k l =
     ap (λ (v : ℕ). v / 256) (given-is Writing header q n accepted k l) ∙ mul-div-cancel (givenAt (fieldsOf header .rows) (lines Writing (fieldsOf header)) q k) (omega arith)
 
-sent-below : (header : List ℕ) (q : ℕ → ℕ) (n : ℕ) → Accepted Writing header q n → (k : ℕ) → k < n → sent header q k < 2 ^ fieldsOf header .bits
+sent-below : (header : List ℕ) (q : ℕ → ℕ) (n : ℕ) → Accepted Writing header q n → (k : ℕ) → k < n → writerGives header q k < 2 ^ fieldsOf header .bits
 sent-below header q n accepted k l =
     let f : Fields = fieldsOf header in
     rw (sent-is header q n accepted k l)
@@ -200,17 +200,17 @@ sent-below header q n accepted k l =
 
 pub read-accepted : ReadAccepted
 read-accepted header q n accepted k l =
-    steps-accepted Reading header (accepted-good Writing header q n accepted k l) (sent header q) n (sent-below header q n accepted) k l
+    steps-accepted Reading header (accepted-good Writing header q n accepted k l) (writerGives header q) n (sent-below header q n accepted) k l
 
 -- what the reader gives
 read-is : (header : List ℕ) (q : ℕ → ℕ) (n : ℕ) → Accepted Writing header q n → (x : ℕ) → x < n
-    → answerAt Reading header (sent header q) x
+    → answerAt Reading header (writerGives header q) x
     ≡ givenAt (fieldsOf header .rows) (lines Reading (fieldsOf header)) (givenAt (fieldsOf header .rows) (lines Writing (fieldsOf header)) q) x * 256
 read-is header q n accepted x l =
     let f : Fields = fieldsOf header in
-    given-is Reading header (sent header q) n (read-accepted header q n accepted) x l
+    given-is Reading header (writerGives header q) n (read-accepted header q n accepted) x l
     ∙ ap (λ (v : ℕ). v * 256)
-    (theorems.given-same (f .rows) (lines Reading f) (some-rows Writing header q n accepted x l) (sent header q) (givenAt (f .rows) (lines Writing f) q) x (λ k h. sent-is header q n accepted k (omega arith)))
+    (theorems.given-same (f .rows) (lines Reading f) (some-rows Writing header q n accepted x l) (writerGives header q) (givenAt (f .rows) (lines Writing f) q) x (λ k h. sent-is header q n accepted k (omega arith)))
 
 pub read-back : ReadBack
 unfolding interleaverDelay

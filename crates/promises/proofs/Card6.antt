@@ -26,7 +26,7 @@ use Rattle.delay.specs.Delay.{stepSays}
 use Rattle.fades.specs.Fades.{fadesSay}
 use Rattle.rack.specs.Rack as racks
 use Rattle.plan.specs.Lengths.{callSays}
-use Rattle.run.specs.Run as runs
+use Rattle.run.specs.Run.{runReadSays, runWriteSays}
 use Rattle.promises.proofs.HeaderBytes.{fields-in, ten-end, eight-end, factor-is, factor-seven, seven-factor}
 use Rattle.promises.specs.Card6.{byte, fieldsIn, tenEnd, eightEnd, rangesAsked, oneOfSeven, Ranges, TenPass, EightPass, HeaderBytes, OtherCopies, FormAnswers, HeaderAnswers, OldAnswers, HeaderAccepted, OldAccepted, HeaderRefused, OldRefused, HeaderFields, TenBytes, FactorRefused, WidenAsks, NarrowAsks, OtherFactor, ArchivedTrips, ValidTrips, ExampleWidened, ExampleNarrowed, RefusedWiden, RefusedNarrow}
 
@@ -193,7 +193,7 @@ unfolding runSays headerSays
 marks-passed header marker good = rw good refl
 
 pub header-refused : HeaderRefused
-unfolding cutSays fadesSay stepSays narrowSays racks.says racks.missionsRight racks.placeRight runs.writeSays runs.readSays callSays findFromSays
+unfolding cutSays fadesSay stepSays narrowSays racks.says racks.missionsRight racks.placeRight runWriteSays runReadSays callSays findFromSays
 header-refused header marker frames slots capture fades area captureLength s n q c p number place e = (
   rw e refl,
   rw e refl,

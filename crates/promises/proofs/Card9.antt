@@ -18,6 +18,7 @@ use Rattle.plan.specs.Lengths.{callSays}
 use Rattle.plan.proofs.Laws.Accepted.{ready}
 use Rattle.stream_reader.specs.Frames.{framesSay}
 use Rattle.run.specs.Run as runs
+use Rattle.run.specs.Run.{runReadSays}
 use Rattle.run.proofs.Laws.Return as run-laws
 use Rattle.capture_search.proofs.Laws.Search as search-laws
 use Rattle.capture_cut.proofs.Laws.Cut as cut-laws
@@ -33,7 +34,7 @@ few-fill-bits header marker n s e =
     (fill-sum f v, fill-few f v)
 
 pub asked-17 : Asked17
-unfolding runs.readSays runs.bufferSays runs.streamSays framesSay
+unfolding runReadSays runs.bufferSays runs.streamSays framesSay
 asked-17 header marker slots n f word ef ew =
     rw (ef, ew)
     (then-when (callSays header marker n (length slots)) _ _ (λ e.

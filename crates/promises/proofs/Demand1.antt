@@ -27,6 +27,7 @@ use Rattle.word.specs.Word as words
 use Rattle.word.proofs.Laws.Answers as word-laws
 use Rattle.header.specs.Header.{fieldsOf}
 use Rattle.run.specs.Run as runs
+use Rattle.run.specs.Run.{runWordSays, runReadSays, runWriteSays}
 use Rattle.run.proofs.Laws.Steps.{asked-in-order, called-in-order}
 use Rattle.promises.specs.Demand1.{AskIs, BothIs, ThenIs, InOrderIs, NumberIs, AmongIs, QuestionsAre, MarksAre, LengthsAre, RunAnswers, RateSizes, RunSizes, PlanIs, AfterIs, SlicesAfter, ToldCode, WordWriterAsks, WordReaderAsks, RunWriterAsks, RunReaderAsks, RefusedWordWrite, RefusedWordRead, RefusedRunWrite, RefusedRunRead, RefusedCode, AcceptedCode}
 
@@ -37,11 +38,11 @@ pub word-reader-asks : WordReaderAsks
 word-reader-asks = word-laws.read-asks
 
 pub run-writer-asks : RunWriterAsks
-unfolding runs.writeSays
+unfolding runWriteSays
 run-writer-asks header marker frames n = called-in-order header marker (length frames) n
 
 pub run-reader-asks : RunReaderAsks
-unfolding runs.readSays runs.wordsSay runs.wordSays
+unfolding runReadSays runs.wordsSay runWordSays
 run-reader-asks header marker slots n f p ef ep =
     rw (ef, ep)
     (ap₂ (λ (a b : Answer). then a b) (called-in-order header marker n (length slots)) (asked-in-order (fieldsOf header) (planIn header marker) slots))

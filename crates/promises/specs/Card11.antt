@@ -90,8 +90,8 @@ abbrev pub answerAt : Side → List ℕ → (ℕ → ℕ) → ℕ → ℕ
 answerAt side header q n = stepCode side header n (q n) (areaBefore side header q n)
 
 -- the symbols that the writer's answers carry
-abbrev pub sent : List ℕ → (ℕ → ℕ) → ℕ → ℕ
-sent header q n = answerAt Writing header q n / 256
+abbrev pub writerGives : List ℕ → (ℕ → ℕ) → ℕ → ℕ
+writerGives header q n = answerAt Writing header q n / 256
 
 -- the first n steps are accepted:
 abbrev pub Accepted : Side → List ℕ → (ℕ → ℕ) → ℕ → Type 0
@@ -138,19 +138,19 @@ ReadLate =
 
 -- the reader is fed with the symbols that the writer gives, which it accepts:
 abbrev pub ReadAccepted : Type 0
-ReadAccepted = (header : List ℕ) (q : ℕ → ℕ) (n : ℕ) → Accepted Writing header q n → Accepted Reading header (sent header q) n
+ReadAccepted = (header : List ℕ) (q : ℕ → ℕ) (n : ℕ) → Accepted Writing header q n → Accepted Reading header (writerGives header q) n
 
 -- "after B·N·(N−1) symbols the writer's input comes out in order", and zeros before it
 abbrev pub ReadBack : Type 0
 ReadBack =
     (header : List ℕ) (q : ℕ → ℕ) (n : ℕ) → Accepted Writing header q n
     → (x : ℕ) → x + fieldsOf header .rows * (fieldsOf header .rows - 1) * fieldsOf header .step < n
-    → answerAt Reading header (sent header q) (x + fieldsOf header .rows * (fieldsOf header .rows - 1) * fieldsOf header .step) ≡ q x * 256
+    → answerAt Reading header (writerGives header q) (x + fieldsOf header .rows * (fieldsOf header .rows - 1) * fieldsOf header .step) ≡ q x * 256
 
 abbrev pub ReadZeros : Type 0
 ReadZeros =
     (header : List ℕ) (q : ℕ → ℕ) (n : ℕ) → Accepted Writing header q n
-    → (x : ℕ) → x < n → x < fieldsOf header .rows * (fieldsOf header .rows - 1) * fieldsOf header .step → answerAt Reading header (sent header q) x ≡ 0
+    → (x : ℕ) → x < n → x < fieldsOf header .rows * (fieldsOf header .rows - 1) * fieldsOf header .step → answerAt Reading header (writerGives header q) x ≡ 0
 
 -- ---- a run
 

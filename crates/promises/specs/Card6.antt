@@ -28,7 +28,7 @@ use Rattle.capture_cut.specs.Cut.{cutSays}
 use Rattle.delay.specs.Delay.{stepSays}
 use Rattle.fades.specs.Fades.{fadesSay}
 use Rattle.rack.specs.Rack as racks
-use Rattle.run.specs.Run as runs
+use Rattle.run.specs.Run.{runReadSays, runWriteSays}
 
 -- ---- "The old 48 bits, then the factor in 6 bits, then 26 zero bits, ten bytes in all, and question 1 reads accordingly"
 
@@ -172,8 +172,8 @@ HeaderRefused =
     × (narrowSays header n ≡ No number place)
     × (c < 4 → p < 4 → racks.says area (racks.callOf c c p (racks.Load header)) ≡ No number place)
     × (marksGood (fieldsOf header) marker ≡ true
-    → (runs.writeSays header marker frames n ≡ No number place)
-    × (runs.readSays header marker slots n ≡ No number place)
+    → (runWriteSays header marker frames n ≡ No number place)
+    × (runReadSays header marker slots n ≡ No number place)
     × (findSays header marker capture ≡ No number place)
     × (findFromSays header marker capture s ≡ No number place))
 

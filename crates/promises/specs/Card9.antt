@@ -11,7 +11,7 @@ use lib.ListN.{length}
 use Rattle.answers.specs.Answer.{numberOf, ask, then}
 use Rattle.answers.specs.declared.Answer.the-variants.{Done}
 use Rattle.sizes.specs.Sizes.{infoBits}
-use Rattle.word.specs.Word as words
+use Rattle.word.specs.Word.{wordReadSays, wordWriteSays}
 use Rattle.header.specs.Header.{fieldsOf}
 use Rattle.header.specs.declared.Fields.{Fields}
 use Rattle.header_sizes.specs.Quantities.{markedBits, blockCount, fillBits}
@@ -21,9 +21,10 @@ use Rattle.plan.specs.Lengths.{callSays}
 use Rattle.stream_reader.specs.Frames.{firstUnmarked, fillZero}
 use Rattle.slots.specs.Reading.{wordOut, slotsSay}
 use Rattle.run.specs.Run as runs
+use Rattle.run.specs.Run.{runReadSays, runWriteSays}
 use Rattle.capture_search.specs.Search.{findSays, findFromSays}
 use Rattle.capture_cut.specs.Cut.{cutSays}
-use Rattle.pass.specs.Pass as passes
+use Rattle.pass.specs.Pass.{passReadSays, passWriteSays}
 use Rattle.spread.specs.Spread.{spreadSays}
 use Rattle.fades.specs.Fades.{fadesSay}
 
@@ -38,7 +39,7 @@ FewFillBits =
 abbrev pub Asked17 : Type 0
 Asked17 =
     (header marker slots : List ℕ) (n : ℕ) (f : Fields) (word : ℕ → List ℕ) → f ≡ fieldsOf header → word ≡ wordOut (planIn header marker) slots
-    → runs.readSays header marker slots n
+    → runReadSays header marker slots n
     ≡ then (callSays header marker n (length slots))
     (then (slotsSay (planIn header marker) slots)
     (then (runs.wordsSay f word)
@@ -48,22 +49,22 @@ Asked17 =
 
 -- No call answers 17: `Fits`, which every answer to C must meet, has it as a field. Cards 10, 11 and 14 say it of theirs.
 abbrev pub WordWriteNot17 : Type 0
-WordWriteNot17 = (rate : ℕ) (block : List ℕ) (n : ℕ) → numberOf (words.writeSays rate block n) ≡ 17 → ⊥
+WordWriteNot17 = (rate : ℕ) (block : List ℕ) (n : ℕ) → numberOf (wordWriteSays rate block n) ≡ 17 → ⊥
 
 abbrev pub WordReadNot17 : Type 0
-WordReadNot17 = (rate : ℕ) (word : List ℕ) (n : ℕ) → numberOf (words.readSays rate word n) ≡ 17 → ⊥
+WordReadNot17 = (rate : ℕ) (word : List ℕ) (n : ℕ) → numberOf (wordReadSays rate word n) ≡ 17 → ⊥
 
 abbrev pub RunWriteNot17 : Type 0
-RunWriteNot17 = (header marker frames : List ℕ) (n : ℕ) → numberOf (runs.writeSays header marker frames n) ≡ 17 → ⊥
+RunWriteNot17 = (header marker frames : List ℕ) (n : ℕ) → numberOf (runWriteSays header marker frames n) ≡ 17 → ⊥
 
 abbrev pub RunReadNot17 : Type 0
-RunReadNot17 = (header marker slots : List ℕ) (n : ℕ) → numberOf (runs.readSays header marker slots n) ≡ 17 → ⊥
+RunReadNot17 = (header marker slots : List ℕ) (n : ℕ) → numberOf (runReadSays header marker slots n) ≡ 17 → ⊥
 
 abbrev pub PassWriteNot17 : Type 0
-PassWriteNot17 = (rate : ℕ) (blocks : List ℕ) (n : ℕ) → numberOf (passes.writeSays rate blocks n) ≡ 17 → ⊥
+PassWriteNot17 = (rate : ℕ) (blocks : List ℕ) (n : ℕ) → numberOf (passWriteSays rate blocks n) ≡ 17 → ⊥
 
 abbrev pub PassReadNot17 : Type 0
-PassReadNot17 = (rate : ℕ) (slice : List ℕ) (n : ℕ) → numberOf (passes.readSays rate slice n) ≡ 17 → ⊥
+PassReadNot17 = (rate : ℕ) (slice : List ℕ) (n : ℕ) → numberOf (passReadSays rate slice n) ≡ 17 → ⊥
 
 abbrev pub SpreadNot17 : Type 0
 SpreadNot17 = (rate bit n : ℕ) → numberOf (spreadSays rate bit n) ≡ 17 → ⊥

@@ -18,13 +18,14 @@ use Rattle.answers.specs.declared.Answer.{Answer}
 use Rattle.answers.specs.declared.Answer.the-variants.{Done, No}
 use Rattle.sizes.specs.Sizes.{infoBits, blockBytes, wordBytes}
 use Rattle.word.specs.Word as words
+use Rattle.word.specs.Word.{wordReadSays, wordWriteSays}
 use Rattle.header.specs.Header.{fieldsOf}
 use Rattle.header_questions.specs.Questions.{question1, question2, question3, question4, question5, question6, question7, question20, formSays, marksGood, runSays}
 use Rattle.header_sizes.specs.Quantities as sizes
 use Rattle.header_sizes.specs.Quantities.{blockCount}
 use Rattle.header.specs.declared.Fields.{Fields}
 use Rattle.plan.specs.declared.Plan.{Plan}
-use Rattle.channel.specs.Channel.{symbolCount}
+use Rattle.channel.specs.Channel.{layoutSymbols}
 use Rattle.plan.specs.Plan.{planIn}
 use Rattle.plan.specs.Lengths.{runLengthsRight, callSays}
 use Rattle.delay.specs.Delay.{areaBytes, stepSays, leaves, areaAfter}
@@ -34,15 +35,14 @@ use Rattle.spread.specs.Spread.{spreadOf, spreadSays, placesAfter}
 use Rattle.header_convert.specs.Convert.{widened, narrowed, widenSays, narrowSays, tenAfter, eightAfter}
 use Rattle.capture_cut.specs.Cut.{cutOf, cutSays, cutAfter}
 use Rattle.fades.specs.Fades.{fadesSay, countsIn, countsAfter}
-use Rattle.uplink.specs.Uplink as uplinks
 use Rattle.rack.specs.Rack as racks
 use Rattle.stream_reader.specs.Frames.{firstUnmarked, fillZero}
-use Rattle.slots.specs.Reading.{spareEmpty, firstBadGroup, firstBadMark, firstBadRest, wordOut}
+use Rattle.slots.specs.Reading.{spareSlotsEmpty, firstBadSymbol, firstBadMark, firstBadRest, wordOut}
 use Rattle.run.specs.Run as runs
 use Rattle.word.specs.After.{wordAfter, blockAfter}
-use Rattle.run.specs.Run.{slotsAfter, framesAfter}
-use Rattle.pass.specs.Pass.{wordsAfter, blocksAfter}
-use Rattle.uplink.specs.Uplink.{uplinkSlotsAfter, uplinkFramesAfter}
+use Rattle.run.specs.Run.{slotsAfter, framesAfter, runReadSays, runWriteSays}
+use Rattle.pass.specs.Pass.{wordsAfter, blocksAfter, passReadSays, passWriteSays}
+use Rattle.uplink.specs.Uplink.{uplinkSlotsAfter, uplinkFramesAfter, uplinkFramesOf, uplinkSlotsOf, uplinkReadSays, uplinkWriteSays}
 
 -- ---- words
 
@@ -50,7 +50,7 @@ use Rattle.uplink.specs.Uplink.{uplinkSlotsAfter, uplinkFramesAfter}
 abbrev pub WordWriterAsks : Type 0
 WordWriterAsks =
     (rate : ℕ) (block : List ℕ) (n : ℕ)
-    → words.writeSays rate block n
+    → wordWriteSays rate block n
     ≡ then (ask (ltb rate 3) 2 0)
     (ask (both (eqb (length block) (blockBytes rate)) (eqb n 1890)) 8 0)
 
@@ -58,7 +58,7 @@ WordWriterAsks =
 abbrev pub WordReaderAsks : Type 0
 WordReaderAsks =
     (rate : ℕ) (word : List ℕ) (n : ℕ)
-    → words.readSays rate word n
+    → wordReadSays rate word n
     ≡ then (ask (ltb rate 3) 2 0)
     (then (ask (both (eqb (length word) 1890) (eqb n (blockBytes rate))) 8 0)
     (then (ask (eqb (words.firstWrong rate (words.codedIn word) (words.inputIn rate word)) 15120) 13 (words.firstWrong rate (words.codedIn word) (words.inputIn rate word)))
@@ -71,7 +71,7 @@ WordReaderAsks =
 abbrev pub RunWriterAsks : Type 0
 RunWriterAsks =
     (header marker frames : List ℕ) (n : ℕ)
-    → runs.writeSays header marker frames n
+    → runWriteSays header marker frames n
     ≡ then (ask (question1 header) 1 0)
     (then (ask (question2 (fieldsOf header)) 2 0)
     (then (ask (question3 (fieldsOf header)) 3 0)
@@ -87,7 +87,7 @@ RunWriterAsks =
 abbrev pub RunReaderAsks : Type 0
 RunReaderAsks =
     (header marker slots : List ℕ) (n : ℕ) (f : Fields) (p : Plan) → f ≡ fieldsOf header → p ≡ planIn header marker
-    → runs.readSays header marker slots n
+    → runReadSays header marker slots n
     ≡ then
     (then (ask (question1 header) 1 0)
     (then (ask (question2 f) 2 0)
@@ -99,11 +99,11 @@ RunReaderAsks =
     (then (ask (marksGood f marker) 7 0)
     (then (ask (question20 f) 20 0)
     (ask (runLengthsRight f (length marker) n (length slots)) 8 0))))))))))
-    (then (ask (spareEmpty p slots) 9 0)
-    (then (ask (eqb (firstBadGroup p slots) (symbolCount (p .layout))) 10 (firstBadGroup p slots))
-    (then (ask (eqb (firstBadMark p slots) (symbolCount (p .layout))) 11 (firstBadMark p slots))
-    (then (ask (eqb (firstBadRest p slots) (symbolCount (p .layout))) 12 (firstBadRest p slots))
-    (then (inOrder (blockCount f) (λ j. words.readSays (f .rate) (wordOut p slots j) (blockBytes (f .rate))))
+    (then (ask (spareSlotsEmpty p slots) 9 0)
+    (then (ask (eqb (firstBadSymbol p slots) (layoutSymbols (p .layout))) 10 (firstBadSymbol p slots))
+    (then (ask (eqb (firstBadMark p slots) (layoutSymbols (p .layout))) 11 (firstBadMark p slots))
+    (then (ask (eqb (firstBadRest p slots) (layoutSymbols (p .layout))) 12 (firstBadRest p slots))
+    (then (inOrder (blockCount f) (λ j. wordReadSays (f .rate) (wordOut p slots j) (blockBytes (f .rate))))
     (then (ask (eqb (firstUnmarked (f .size) (f .frames) (runs.streamIn f (wordOut p slots))) (f .frames)) 16 (firstUnmarked (f .size) (f .frames) (runs.streamIn f (wordOut p slots))))
     (ask (fillZero (f .size) (f .frames) (blockCount f * infoBits (f .rate)) (runs.streamIn f (wordOut p slots))) 18 0)))))))
 
@@ -213,7 +213,7 @@ PlanIs =
     × (p .layout .symbols ≡ sizes.symbolsPerWord f) × (p .layout .words ≡ blockCount f) × (p .layout .lines ≡ sizes.lineCount f)
     × (p .layout .markers ≡ f .markers)
     × ((i : ℕ) → i < 32 → i < min (length marker) (f .markers) → getD (p .marks) i 0 ≡ getD marker i 0)
-    × (symbolCount (p .layout) ≡ p .layout .lines * (p .layout .symbols + p .layout .markers))
+    × (layoutSymbols (p .layout) ≡ p .layout .lines * (p .layout .symbols + p .layout .markers))
 
 -- ---- what the slice that was lent for a result holds afterwards: the words with `After` that the contracts of `c_calls` cite; no other slice is written
 
@@ -224,38 +224,38 @@ AfterIs = (new old : List ℕ) (number place : ℕ) → (after Done new old ≡ 
 abbrev pub SlicesAfter : Type 0
 SlicesAfter =
     (rate bit s n q : ℕ) (side : Side) (block word header marker frames slots eight capture fades old : List ℕ)
-    → (wordAfter rate block old ≡ after (words.writeSays rate block (length old)) (words.wordOf rate block) old)
-    × (blockAfter rate word old ≡ after (words.readSays rate word (length old)) (words.blockIn rate word) old)
-    × (slotsAfter header marker frames old ≡ after (runs.writeSays header marker frames (length old)) (runs.runOf header marker frames) old)
-    × (framesAfter header marker slots old ≡ after (runs.readSays header marker slots (length old)) (runs.framesRead header marker slots) old)
-    × (wordsAfter rate block old ≡ after (passes.writeSays rate block (length old)) (passes.wordsOf rate block) old)
-    × (blocksAfter rate word old ≡ after (passes.readSays rate word (length old)) (passes.blocksOf rate word) old)
+    → (wordAfter rate block old ≡ after (wordWriteSays rate block (length old)) (words.wordOf rate block) old)
+    × (blockAfter rate word old ≡ after (wordReadSays rate word (length old)) (words.blockIn rate word) old)
+    × (slotsAfter header marker frames old ≡ after (runWriteSays header marker frames (length old)) (runs.runOf header marker frames) old)
+    × (framesAfter header marker slots old ≡ after (runReadSays header marker slots (length old)) (runs.framesRead header marker slots) old)
+    × (wordsAfter rate block old ≡ after (passWriteSays rate block (length old)) (passes.wordsOf rate block) old)
+    × (blocksAfter rate word old ≡ after (passReadSays rate word (length old)) (passes.blocksOf rate word) old)
     × (placesAfter rate bit old ≡ after (spreadSays rate bit (length old)) (spreadOf rate bit) old)
     × (tenAfter eight old ≡ after (widenSays eight (length old)) (widened eight) old)
     × (eightAfter header old ≡ after (narrowSays header (length old)) (narrowed header) old)
     × (cutAfter header capture s old ≡ after (cutSays header (length capture) s (length old)) (cutOf (fieldsOf header) capture s) old)
     × (countsAfter header fades old ≡ after (fadesSay header fades (length old)) (countsIn header fades) old)
     × (areaAfter side header n q old ≡ after (stepSays header q (length old)) (leaves side (fieldsOf header) n q old) old)
-    × (uplinkSlotsAfter frames old ≡ after (uplinks.writeSays frames (length old)) (uplinks.slotsOf frames) old)
-    × (uplinkFramesAfter slots old ≡ after (uplinks.readSays slots (length old)) (uplinks.framesOf slots) old)
+    × (uplinkSlotsAfter frames old ≡ after (uplinkWriteSays frames (length old)) (uplinkSlotsOf frames) old)
+    × (uplinkFramesAfter slots old ≡ after (uplinkReadSays slots (length old)) (uplinkFramesOf slots) old)
 
 -- a refused call leaves it as it was; of the later calls the cards say so
 abbrev pub RefusedWordWrite : Type 0
 RefusedWordWrite =
-    (rate : ℕ) (block old : List ℕ) (number place : ℕ) → words.writeSays rate block (length old) ≡ No number place → wordAfter rate block old ≡ old
+    (rate : ℕ) (block old : List ℕ) (number place : ℕ) → wordWriteSays rate block (length old) ≡ No number place → wordAfter rate block old ≡ old
 
 abbrev pub RefusedWordRead : Type 0
 RefusedWordRead =
-    (rate : ℕ) (word old : List ℕ) (number place : ℕ) → words.readSays rate word (length old) ≡ No number place → blockAfter rate word old ≡ old
+    (rate : ℕ) (word old : List ℕ) (number place : ℕ) → wordReadSays rate word (length old) ≡ No number place → blockAfter rate word old ≡ old
 
 abbrev pub RefusedRunWrite : Type 0
 RefusedRunWrite =
-    (header marker frames old : List ℕ) (number place : ℕ) → runs.writeSays header marker frames (length old) ≡ No number place
+    (header marker frames old : List ℕ) (number place : ℕ) → runWriteSays header marker frames (length old) ≡ No number place
     → slotsAfter header marker frames old ≡ old
 
 abbrev pub RefusedRunRead : Type 0
 RefusedRunRead =
-    (header marker slots old : List ℕ) (number place : ℕ) → runs.readSays header marker slots (length old) ≡ No number place
+    (header marker slots old : List ℕ) (number place : ℕ) → runReadSays header marker slots (length old) ≡ No number place
     → framesAfter header marker slots old ≡ old
 
 -- ---- what C gets: place × 256 + number, and 0 where all is done

@@ -8,7 +8,7 @@
 --
 -- The rack is the area of 176 bytes that `rack_load`, `rack_read`, `rack_drop` and `rack_lend` are lent, and nothing else; zeros are the empty rack.
 -- A call is `callOf caller owner place task`, its task `Load header`, `Read slice`, `Drop` or `Lend to`. The definitions are those that the contracts
--- of the four cite (crate `c_calls`): `stepOf` is the area after a call, `toldOf` what its caller is told, that is, the number that C gets and, in
+-- of the four cite (crate `c_calls`): `afterCall` is the area after a call, `toldOf` what its caller is told, that is, the number that C gets and, in
 -- reading, what the slice for the header then holds. `says` is the answer behind that number. `entryAt area o p` is the entry of place p of mission
 -- o: whether it is `loaded`, and the header in it (`headerIn`). `lent m area o p` is whether that place is lent to mission m. Callers, owners, places
 -- and the area are any, where nothing else is said.
@@ -23,7 +23,7 @@ use Rattle.bits.specs.Basics.{both}
 use Rattle.answers.specs.Answer.{numberOf, placeOf, ask, then, among}
 use Rattle.answers.specs.declared.Answer.the-variants.{Done, No}
 use Rattle.header_questions.specs.Questions.{headerSays}
-use Rattle.rack.specs.Rack.{entryAt, headerIn, loaded, lentTo, Task, Load, Read, Drop, Lend, Call, callOf, says, stepOf, toldOf}
+use Rattle.rack.specs.Rack.{entryAt, headerIn, loaded, lentTo, Task, Load, Read, Drop, Lend, Call, callOf, says, afterCall, toldOf}
 use Rattle.rack.specs.Traces.{afterAll, heard, lent, everLent, kept}
 
 -- ---- the names
@@ -60,22 +60,22 @@ ToldIs =
 
 -- calls in a row: each finds the area that the one before it left
 abbrev pub AfterAllIs : Type 0
-AfterAllIs = (area : List ℕ) → (afterAll area [] ≡ area) × ((call : Call) (t : List Call) → afterAll area (call ∷ t) ≡ afterAll (stepOf area call) t)
+AfterAllIs = (area : List ℕ) → (afterAll area [] ≡ area) × ((call : Call) (t : List Call) → afterAll area (call ∷ t) ≡ afterAll (afterCall area call) t)
 
 -- all that m is told, call by call
 abbrev pub HeardIs : Type 0
 HeardIs =
     (m : ℕ) (area : List ℕ)
     → (heard m area [] ≡ [])
-    × ((call : Call) (t : List Call) → call .caller ≡ m → heard m area (call ∷ t) ≡ toldOf area call ∷ heard m (stepOf area call) t)
-    × ((call : Call) (t : List Call) → (call .caller ≡ m → ⊥) → heard m area (call ∷ t) ≡ heard m (stepOf area call) t)
+    × ((call : Call) (t : List Call) → call .caller ≡ m → heard m area (call ∷ t) ≡ toldOf area call ∷ heard m (afterCall area call) t)
+    × ((call : Call) (t : List Call) → (call .caller ≡ m → ⊥) → heard m area (call ∷ t) ≡ heard m (afterCall area call) t)
 
 -- lent at some time: now, or after the next call
 abbrev pub EverLentIs : Type 0
 EverLentIs =
     (m : ℕ) (area : List ℕ) (o p : ℕ)
     → (everLent m area [] o p ≡ lent m area o p)
-    × ((call : Call) (t : List Call) → everLent m area (call ∷ t) o p ≡ (lent m area o p || everLent m (stepOf area call) t o p))
+    × ((call : Call) (t : List Call) → everLent m area (call ∷ t) o p ≡ (lent m area o p || everLent m (afterCall area call) t o p))
 
 -- the calls that are kept: m's own, and an owner's to one of the places
 abbrev pub KeptIs : Type 0
@@ -143,46 +143,46 @@ Untouched area o p t =
 abbrev pub LoadedIsRead : Type 0
 LoadedIsRead =
     (area : List ℕ) (o p : ℕ) (header : List ℕ) → says area (callOf o o p (Load header)) ≡ Done
-    → (t : List Call) → Untouched (stepOf area (callOf o o p (Load header))) o p t
+    → (t : List Call) → Untouched (afterCall area (callOf o o p (Load header))) o p t
     → (c : ℕ) (slice : List ℕ) → c < 4 → length slice ≡ 10
-    → (c ≡ o) ⊎ (lent c (afterAll (stepOf area (callOf o o p (Load header))) t) o p ≡ true)
-    → toldOf (afterAll (stepOf area (callOf o o p (Load header))) t) (callOf c o p (Read slice)) ≡ record { code = 0; slice = header }
+    → (c ≡ o) ⊎ (lent c (afterAll (afterCall area (callOf o o p (Load header))) t) o p ≡ true)
+    → toldOf (afterAll (afterCall area (callOf o o p (Load header))) t) (callOf c o p (Read slice)) ≡ record { code = 0; slice = header }
 
 -- It "keeps the loan": whether it is accepted or not, and whoever loads, every place is lent as before.
 abbrev pub LoadKeepsLoans : Type 0
-LoadKeepsLoans = (area : List ℕ) (c o p : ℕ) (header : List ℕ) (m x y : ℕ) → lent m (stepOf area (callOf c o p (Load header))) x y ≡ lent m area x y
+LoadKeepsLoans = (area : List ℕ) (c o p : ℕ) (header : List ℕ) (m x y : ℕ) → lent m (afterCall area (callOf c o p (Load header))) x y ≡ lent m area x y
 
 -- "Dropping empties the place and ends the loan", and nothing of the header stays behind.
 abbrev pub DropEmpties : Type 0
 DropEmpties =
     (area : List ℕ) (c o p : ℕ) → says area (callOf c o p Drop) ≡ Done
-    → (entryAt (stepOf area (callOf c o p Drop)) o p ≡ replicate 11 0) × ((m : ℕ) → lent m (stepOf area (callOf c o p Drop)) o p ≡ false)
+    → (entryAt (afterCall area (callOf c o p Drop)) o p ≡ replicate 11 0) × ((m : ℕ) → lent m (afterCall area (callOf c o p Drop)) o p ≡ false)
 
 -- "To one other mission; a new loan ends the one before": after a loan the place is lent to that mission and to no other.
 abbrev pub LentToOne : Type 0
 LentToOne =
     (area : List ℕ) (c o p to : ℕ) → says area (callOf c o p (Lend to)) ≡ Done
-    → (m : ℕ) → lent m (stepOf area (callOf c o p (Lend to))) o p ≡ eqb m to
+    → (m : ℕ) → lent m (afterCall area (callOf c o p (Lend to))) o p ≡ eqb m to
 
 -- Only the owner lends: a place that a call leaves lent was lent before, or the call is its owner's loan.
 abbrev pub OwnerLends : Type 0
 OwnerLends =
-    (area : List ℕ) (call : Call) (m o p : ℕ) → lent m (stepOf area call) o p ≡ true
+    (area : List ℕ) (call : Call) (m o p : ℕ) → lent m (afterCall area call) o p ≡ true
     → (lent m area o p ≡ true) ⊎ ((call ≡ callOf o o p (Lend m)) × (says area call ≡ Done))
 
 -- A call changes no place but its own, none if it reads, none if its caller is not the owner, and none if it is refused.
 abbrev pub OthersStay : Type 0
 OthersStay =
-    (area : List ℕ) (call : Call) (o p : ℕ) → p < 4 → ((call .owner ≡ o) × (call .place ≡ p) → ⊥) → entryAt (stepOf area call) o p ≡ entryAt area o p
+    (area : List ℕ) (call : Call) (o p : ℕ) → p < 4 → ((call .owner ≡ o) × (call .place ≡ p) → ⊥) → entryAt (afterCall area call) o p ≡ entryAt area o p
 
 abbrev pub ReadChangesNothing : Type 0
-ReadChangesNothing = (area : List ℕ) (c o p : ℕ) (slice : List ℕ) → stepOf area (callOf c o p (Read slice)) ≡ area
+ReadChangesNothing = (area : List ℕ) (c o p : ℕ) (slice : List ℕ) → afterCall area (callOf c o p (Read slice)) ≡ area
 
 abbrev pub StrangerChangesNothing : Type 0
-StrangerChangesNothing = (area : List ℕ) (call : Call) → (call .caller ≡ call .owner → ⊥) → stepOf area call ≡ area
+StrangerChangesNothing = (area : List ℕ) (call : Call) → (call .caller ≡ call .owner → ⊥) → afterCall area call ≡ area
 
 abbrev pub RefusedChangesNothing : Type 0
-RefusedChangesNothing = (area : List ℕ) (call : Call) (number place : ℕ) → says area call ≡ No number place → stepOf area call ≡ area
+RefusedChangesNothing = (area : List ℕ) (call : Call) (number place : ℕ) → says area call ≡ No number place → afterCall area call ≡ area
 
 -- From the empty rack on, the status byte of any entry is 0, 1 or 2 to 5,
 abbrev pub StatusMost : Type 0

@@ -13,14 +13,14 @@ use Rattle.parameters.specs.Parameters.{parametersOf}
 use Rattle.header_questions.specs.Questions.{lentMarks, marksGood, runSays}
 use Rattle.header_questions.proofs.Laws.Marks.{lent-all, run-good}
 use Rattle.parameters.proofs.Laws.Accepted.{carries-marks}
-use Rattle.channel.specs.Channel.{symbolCount}
+use Rattle.channel.specs.Channel.{layoutSymbols}
 use Rattle.plan.specs.Plan.{planOf, planIn}
 use Rattle.plan.specs.Lengths.{callSays}
 use Rattle.plan.proofs.Laws.Accepted.{ready}
-use Rattle.run.specs.Run as runs
+use Rattle.run.specs.Run.{runWriteSays}
 
-pub asked : (header marker frames : List ℕ) (n : ℕ) → runs.writeSays header marker frames n ≡ Done → callSays header marker (length frames) n ≡ Done
-unfolding runs.writeSays
+pub asked : (header marker frames : List ℕ) (n : ℕ) → runWriteSays header marker frames n ≡ Done → callSays header marker (length frames) n ≡ Done
+unfolding runWriteSays
 asked header marker frames n e = e
 
 module _ (header marker : List ℕ) where
@@ -40,6 +40,6 @@ module _ (header marker : List ℕ) where
     unfolding planOf
     marks-are w l = let a = all-lent in carries-marks (fieldsOf header) (ready header marker k n e .valid) marker marks-good .lent w (omega arith)
 
-  pub count-is : symbolCount (planIn header marker .layout) ≡ quantities.symbolCount (fieldsOf header)
+  pub count-is : layoutSymbols (planIn header marker .layout) ≡ quantities.symbolCount (fieldsOf header)
   unfolding planOf parametersOf quantities.symbolCount quantities.layoutOf
   count-is = refl

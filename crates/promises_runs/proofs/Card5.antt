@@ -32,15 +32,16 @@ use Rattle.pool.specs.Pooled.{count}
 use Rattle.pool.proofs.Laws.Pooled as pool-laws
 use Rattle.stream_reader.specs.Frames.{firstUnmarked, fillZero}
 use Rattle.slots.proofs.Laws.Bounds.{Bounds, bounds}
-use Rattle.slots.specs.Reading.{spareEmpty, pooledIn, firstBadGroup, firstBadMark, firstBadRest, wordOut, slotsSay}
+use Rattle.slots.specs.Reading.{spareSlotsEmpty, pooledIn, firstBadSymbol, firstBadMark, firstBadRest, wordOut, slotsSay}
 use Rattle.slots.proofs.Laws.Return.{pooled-once}
 use Rattle.word.proofs.Laws.Exports as word-laws
 use Rattle.run.specs.Run as runs
+use Rattle.run.specs.Run.{runWordSays, runReadSays, runWriteSays}
 use Rattle.run.proofs.Laws.Return as run-laws
 use Rattle.run.proofs.Laws.Steps as steps-laws
 use Rattle.promises_runs.proofs.Accepted.{group-is, count-is}
 use Rattle.promises_runs.proofs.Demand2.{run-written-read, run-there-and-back}
-use Rattle.promises_runs.specs.Card5.{Factors, OtherFactors, FactorRefused, CopiesSent, NoneBehind, SentLengths, LargestSent, Counts, PooledIs, PooledOnly, PooledMost, OneCopy, OneCopyAsked, OnePulse, PoolsToIs, RepeatedAccepted, RepeatedOnly, PooledPlace, RepeatedWrittenRead, RepeatedThereAndBack}
+use Rattle.promises_runs.specs.Card5.{Factors, OtherFactors, RunFactorRefused, CopiesSent, NoneBehind, SentLengths, LargestSent, Counts, PooledIs, PooledOnly, PooledMost, OneCopy, OneCopyAsked, OnePulseExactly, PoolsToIs, RepeatedAccepted, RepeatedOnly, PooledPlace, RepeatedWrittenRead, RepeatedThereAndBack}
 
 pub factors : Factors
 unfolding copiesGood
@@ -50,8 +51,8 @@ pub other-factors : OtherFactors
 unfolding copiesGood
 other-factors = refl
 
-pub factor-refused : FactorRefused
-unfolding runs.writeSays runs.readSays callSays runSays
+pub factor-refused : RunFactorRefused
+unfolding runWriteSays runReadSays callSays runSays
 factor-refused header marker frames slots n e marks bad = (rw (e, marks, bad) refl, rw (e, marks, bad) refl)
 
 pub copies-sent : CopiesSent
@@ -125,25 +126,25 @@ late = 0 ∷ 2 ∷ 8 ∷ 11 ∷ 12 ∷ 13 ∷ 14 ∷ 15 ∷ 16 ∷ 18 ∷ []
 
 abbrev behind : Fields → Plan → List ℕ → Answer
 behind f p slots =
-    then (ask (eqb (firstBadMark p slots) (layouts.symbolCount (p .layout))) 11 (firstBadMark p slots))
-    (then (ask (eqb (firstBadRest p slots) (layouts.symbolCount (p .layout))) 12 (firstBadRest p slots))
+    then (ask (eqb (firstBadMark p slots) (layouts.layoutSymbols (p .layout))) 11 (firstBadMark p slots))
+    (then (ask (eqb (firstBadRest p slots) (layouts.layoutSymbols (p .layout))) 12 (firstBadRest p slots))
     (then (runs.wordsSay f (wordOut p slots))
     (then (ask (eqb (firstUnmarked (f .size) (f .frames) (runs.streamIn f (wordOut p slots))) (f .frames)) 16 (firstUnmarked (f .size) (f .frames) (runs.streamIn f (wordOut p slots))))
     (ask (fillZero (f .size) (f .frames) (blockCount f * infoBits (f .rate)) (runs.streamIn f (wordOut p slots))) 18 0))))
 
 behind-numbers : (f : Fields) (p : Plan) (slots : List ℕ) → among late (numberOf (behind f p slots)) ≡ true
-unfolding runs.wordsSay runs.wordSays
+unfolding runs.wordsSay runWordSays
 behind-numbers f p slots =
     let word : ℕ → List ℕ = wordOut p slots in
     let stream : ℕ → ℕ = runs.streamIn f word in
-    let q11 : Answer = ask (eqb (firstBadMark p slots) (layouts.symbolCount (p .layout))) 11 (firstBadMark p slots) in
-    let q12 : Answer = ask (eqb (firstBadRest p slots) (layouts.symbolCount (p .layout))) 12 (firstBadRest p slots) in
+    let q11 : Answer = ask (eqb (firstBadMark p slots) (layouts.layoutSymbols (p .layout))) 11 (firstBadMark p slots) in
+    let q12 : Answer = ask (eqb (firstBadRest p slots) (layouts.layoutSymbols (p .layout))) 12 (firstBadRest p slots) in
     let q13 : Answer = runs.wordsSay f word in
     let q16 : Answer = ask (eqb (firstUnmarked (f .size) (f .frames) stream) (f .frames)) 16 (firstUnmarked (f .size) (f .frames) stream) in
     let q18 : Answer = ask (fillZero (f .size) (f .frames) (blockCount f * infoBits (f .rate)) stream) 18 0 in
-    among-then late q11 (then q12 (then q13 (then q16 q18))) (among-ask late (eqb (firstBadMark p slots) (layouts.symbolCount (p .layout))) 11 (firstBadMark p slots) refl refl)
-    (among-then late q12 (then q13 (then q16 q18)) (among-ask late (eqb (firstBadRest p slots) (layouts.symbolCount (p .layout))) 12 (firstBadRest p slots) refl refl)
-    (among-then late q13 (then q16 q18) (among-order late (blockCount f) (runs.wordSays f word) refl (λ j. more (numberOf (runs.wordSays f word j)) (word-laws.read-numbers (f .rate) (word j) (blockBytes (f .rate)))))
+    among-then late q11 (then q12 (then q13 (then q16 q18))) (among-ask late (eqb (firstBadMark p slots) (layouts.layoutSymbols (p .layout))) 11 (firstBadMark p slots) refl refl)
+    (among-then late q12 (then q13 (then q16 q18)) (among-ask late (eqb (firstBadRest p slots) (layouts.layoutSymbols (p .layout))) 12 (firstBadRest p slots) refl refl)
+    (among-then late q13 (then q16 q18) (among-order late (blockCount f) (runWordSays f word) refl (λ j. more (numberOf (runWordSays f word j)) (word-laws.read-numbers (f .rate) (word j) (blockBytes (f .rate)))))
     (among-then late q16 q18 (among-ask late (eqb (firstUnmarked (f .size) (f .frames) stream) (f .frames)) 16 (firstUnmarked (f .size) (f .frames) stream) refl refl)
     (among-ask late (fillZero (f .size) (f .frames) (blockCount f * infoBits (f .rate)) stream) 18 0 refl refl))))
   where
@@ -165,7 +166,7 @@ behind-numbers f p slots =
         cases false false false false false false false false rest q = absurd (true-false false q refl)
 
 module _ (header marker slots : List ℕ) (n : ℕ) (one : fieldsOf header .copies ≡ 1)
-    (passed : among early (numberOf (runs.readSays header marker slots n)) ≡ false) where
+    (passed : among early (numberOf (runReadSays header marker slots n)) ≡ false) where
   abbrev f : Fields
   f = fieldsOf header
 
@@ -174,28 +175,28 @@ module _ (header marker slots : List ℕ) (n : ℕ) (one : fieldsOf header .copi
 
   -- 1 to 8 and 20 are answered yes, and 9
   called : callSays header marker n (length slots) ≡ Done
-  unfolding runs.readSays
+  unfolding runReadSays
   called = cases (callSays header marker n (length slots)) refl
     where
       cases : (a : Answer) → callSays header marker n (length slots) ≡ a → callSays header marker n (length slots) ≡ Done
       cases Done e = e
       cases (No number place) e =
-          let said : runs.readSays header marker slots n ≡ No number place = rw e refl in
+          let said : runReadSays header marker slots n ≡ No number place = rw e refl in
           absurd (true-false (among early number) (call-refuses header marker n (length slots) number place e) (ap (λ (a : Answer). among early (numberOf a)) (sym said) ∙ passed))
 
-  spare : spareEmpty p slots ≡ true
-  unfolding runs.readSays runs.bufferSays slotsSay
-  spare = cases (spareEmpty p slots) refl
+  spare : spareSlotsEmpty p slots ≡ true
+  unfolding runReadSays runs.bufferSays slotsSay
+  spare = cases (spareSlotsEmpty p slots) refl
     where
-      cases : (t : Bool) → spareEmpty p slots ≡ t → spareEmpty p slots ≡ true
+      cases : (t : Bool) → spareSlotsEmpty p slots ≡ t → spareSlotsEmpty p slots ≡ true
       cases true e = e
       cases false e =
-          let said : runs.readSays header marker slots n ≡ No 9 0 = rw (called, e) refl in
+          let said : runReadSays header marker slots n ≡ No 9 0 = rw (called, e) refl in
           absurd (true-false (among early 9) refl (ap (λ (a : Answer). among early (numberOf a)) (sym said) ∙ passed))
 
   -- so the answer is 10, or what comes behind it
-  asked-10 : runs.readSays header marker slots n ≡ then (ask (eqb (firstBadGroup p slots) (layouts.symbolCount (p .layout))) 10 (firstBadGroup p slots)) (behind f p slots)
-  unfolding runs.readSays
+  asked-10 : runReadSays header marker slots n ≡ then (ask (eqb (firstBadSymbol p slots) (layouts.layoutSymbols (p .layout))) 10 (firstBadSymbol p slots)) (behind f p slots)
+  unfolding runReadSays
   asked-10 = rw (called, steps-laws.asked-in-order f p slots, spare) refl
 
   fine : Fine p
@@ -219,32 +220,32 @@ module _ (header marker slots : List ℕ) (n : ℕ) (one : fieldsOf header .copi
       let e : pooledIn p slots s ≡ q = pooled-once p fine once slots s ∙ group-made (p .order) (p .group) (wide .group-least) slots s q g in
       rw e (g .small)
 
-  no-10 : (numberOf (runs.readSays header marker slots n) ≡ 10 → ⊥) → firstBadGroup p slots ≡ layouts.symbolCount (p .layout)
+  no-10 : (numberOf (runReadSays header marker slots n) ≡ 10 → ⊥) → firstBadSymbol p slots ≡ layouts.layoutSymbols (p .layout)
   no-10 h =
       ⊎-elim
-      (λ (e : firstBadGroup p slots ≡ layouts.symbolCount (p .layout)). e)
-      (λ (e : firstBadGroup p slots ≡ layouts.symbolCount (p .layout) → ⊥). absurd (h (ap numberOf asked-10 ∙ rw (ne-eqb (firstBadGroup p slots) (layouts.symbolCount (p .layout)) e) refl)))
-      (eq-or-ne (firstBadGroup p slots) (layouts.symbolCount (p .layout)))
+      (λ (e : firstBadSymbol p slots ≡ layouts.layoutSymbols (p .layout)). e)
+      (λ (e : firstBadSymbol p slots ≡ layouts.layoutSymbols (p .layout) → ⊥). absurd (h (ap numberOf asked-10 ∙ rw (ne-eqb (firstBadSymbol p slots) (layouts.layoutSymbols (p .layout)) e) refl)))
+      (eq-or-ne (firstBadSymbol p slots) (layouts.layoutSymbols (p .layout)))
 
-  all-good : firstBadGroup p slots ≡ layouts.symbolCount (p .layout) → numberOf (runs.readSays header marker slots n) ≡ 10 → ⊥
+  all-good : firstBadSymbol p slots ≡ layouts.layoutSymbols (p .layout) → numberOf (runReadSays header marker slots n) ≡ 10 → ⊥
   all-good e ten =
-      let said : runs.readSays header marker slots n ≡ behind f p slots = asked-10 ∙ rw (eq-eqb (firstBadGroup p slots) (layouts.symbolCount (p .layout)) e) refl in
+      let said : runReadSays header marker slots n ≡ behind f p slots = asked-10 ∙ rw (eq-eqb (firstBadSymbol p slots) (layouts.layoutSymbols (p .layout)) e) refl in
       true-false (among late 10) (ap (among late) (sym ten ∙ ap numberOf said) ∙ behind-numbers f p slots) refl
 
-pub one-pulse : OnePulse
+pub one-pulse : OnePulseExactly
 unfolding planOf parametersOf pulseOrder
 one-pulse header marker slots n one passed M G eM eG =
     let p : Plan = planIn header marker in
     let call = called header marker slots n one passed in
-    let count : symbolCount (fieldsOf header) ≡ layouts.symbolCount (p .layout) = sym (count-is header marker) in
+    let count : symbolCount (fieldsOf header) ≡ layouts.layoutSymbols (p .layout) = sym (count-is header marker) in
     let g : G ≡ p .group = group-is header marker M G eM eG in (
       λ h s l.
           let small : pooledIn p slots s < p .order =
-          pool-laws.each-decided slots (p .copies) (p .group) (p .order) (layouts.symbolCount (p .layout)) (no-10 header marker slots n one passed h) s (rw (← count) l) in
+          pool-laws.each-decided slots (p .copies) (p .group) (p .order) (layouts.layoutSymbols (p .layout)) (no-10 header marker slots n one passed h) s (rw (← count) l) in
           let group = group-decided header marker slots n one passed s small in
           (pooledIn p slots s, rw eM (group .small), λ r k. rw g (group .slot r (rw (← g) k))),
       λ h. all-good header marker slots n one passed
-          (pool-laws.all-decided slots (p .copies) (p .group) (p .order) (layouts.symbolCount (p .layout)) (λ s l.
+          (pool-laws.all-decided slots (p .copies) (p .group) (p .order) (layouts.layoutSymbols (p .layout)) (λ s l.
           let w = h s (rw count l) in
           decided-group header marker slots n one passed s (w .0) record { small = rw (← eM) (w .1); slot = λ r k. rw (← g) (w .2 r (rw g k)) })),
     )

@@ -18,6 +18,7 @@ use Rattle.sizes.specs.Sizes.{wordBytes, infoBits}
 use Rattle.answers.specs.declared.Answer.{Answer}
 use Rattle.answers.specs.declared.Answer.the-variants.{Done}
 use Rattle.word.specs.Word as words
+use Rattle.word.specs.Word.{wordReadSays, wordWriteSays}
 use Rattle.word.proofs.Laws.Answers as answer-laws
 use Rattle.word.proofs.Laws.Exports as exports
 use Rattle.word.proofs.Laws.Return as word-laws
@@ -26,7 +27,7 @@ use Rattle.header.specs.declared.Fields.{Fields}
 use Rattle.header_sizes.specs.Quantities.{symbolsPerWord, layoutOf}
 use Rattle.parameters.specs.Parameters.{parametersOf}
 use Rattle.plan.specs.declared.Plan.{Plan}
-use Rattle.plan.specs.Plan.{planOf, planIn, sent}
+use Rattle.plan.specs.Plan.{planOf, planIn, sentCount}
 use Rattle.plan.specs.Inner.{slotBytes}
 use Rattle.plan.specs.Lengths.{callSays}
 use Rattle.plan.proofs.Laws.Accepted.{ready}
@@ -36,7 +37,7 @@ use Rattle.stream_reader.specs.Frames.{joined}
 use Rattle.stream_reader.proofs.Laws.Blocks.{joined-bits}
 use Rattle.stream_reader.proofs.Laws.Back.{frames-are}
 use Rattle.channel.specs.Channel as channel
-use Rattle.channel.specs.Channel.{symbolCount}
+use Rattle.channel.specs.Channel.{layoutSymbols}
 use Rattle.pulses.proofs.Laws.Pulses as pulses
 use Rattle.slots.specs.Writing.{sentAt}
 use Rattle.slots.proofs.Laws.Bounds.{bounds}
@@ -46,7 +47,7 @@ use Rattle.run.specs.Steps as steps
 use Rattle.run.proofs.Laws.Return as run-laws
 use Rattle.run.proofs.Laws.Steps as step-laws
 use Rattle.word.specs.After.{wordAfter, blockAfter}
-use Rattle.run.specs.Run.{slotsAfter, framesAfter}
+use Rattle.run.specs.Run.{slotsAfter, framesAfter, runReadSays}
 use Rattle.promises_runs.proofs.Accepted.{asked, marks-are, group-is, count-is}
 use Rattle.promises_runs.specs.Demand2.{BitIs, NumberIs, BytesAre, StreamIs, BlockIs, WordIs, SymbolIs, PlaceIs, LineIs, SlotIs, RunBytes, RunWrittenRead, RunReadWritten, RunOne, RunThereAndBack, WordBytes, SameBitsIs, SpareZeroIs, WordWrittenRead, WordWhole, WordReadWritten, WordOne, WordThereAndBack}
 
@@ -102,24 +103,24 @@ module _ (header marker frames : List ℕ) where
   p = planIn header marker
 
   slot-bits : Bits (steps.slot header marker frames)
-  slot-bits = pulses.slot-bits (p .group) (sent p) (sentAt p (steps.word header marker frames))
+  slot-bits = pulses.slot-bits (p .group) (sentCount p) (sentAt p (steps.word header marker frames))
 
   slot-inside : (x : ℕ) → x < 8 * slotBytes p → bitAt (runs.runOf header marker frames) x ≡ steps.slot header marker frames x
   slot-inside x l = rw (step-laws.run-is header marker frames) (bit-bytes (slotBytes p) (steps.slot header marker frames) slot-bits x l)
 
-  slot-here : (s c r : ℕ) → s < symbolCount (p .layout) → c < p .copies → r < p .group
+  slot-here : (s c r : ℕ) → s < layoutSymbols (p .layout) → c < p .copies → r < p .group
       → bitAt (runs.runOf header marker frames) ((s * p .copies + c) * p .group + r) ≡ bool (eqb r (steps.step10 header marker frames s))
   unfolding planOf parametersOf
   slot-here s c r h k l =
-      let inside : (s * p .copies + c) * p .group + r < sent p * p .group = digits-lt (digits-lt h k) l in
+      let inside : (s * p .copies + c) * p .group + r < sentCount p * p .group = digits-lt (digits-lt h k) l in
       slot-inside ((s * p .copies + c) * p .group + r) (omega arith) ∙ step-laws.slot-is header marker frames s c r h k l
 
-  slot-behind : 0 < p .group → (x : ℕ) → sent p * p .group ≤ x → bitAt (runs.runOf header marker frames) x ≡ 0
+  slot-behind : 0 < p .group → (x : ℕ) → sentCount p * p .group ≤ x → bitAt (runs.runOf header marker frames) x ≡ 0
   unfolding planOf parametersOf
   slot-behind some x h =
       ⊎-elim
       (λ (l : x < 8 * slotBytes p). slot-inside x l ∙ step-laws.slot-none header marker frames x
-      (⊎-elim (λ (a : x / p .group < sent p). let c : x < sent p * p .group = div-lt-iff-lt-mul some .0 a in absurd (omega arith)) (λ (a : sent p ≤ x / p .group). a) (lt-or-le (x / p .group) (sent p))))
+      (⊎-elim (λ (a : x / p .group < sentCount p). let c : x < sentCount p * p .group = div-lt-iff-lt-mul some .0 a in absurd (omega arith)) (λ (a : sentCount p ≤ x / p .group). a) (lt-or-le (x / p .group) (sentCount p))))
       (λ (l : 8 * slotBytes p ≤ x). rw (step-laws.run-is header marker frames) (bit-bytes-past (slotBytes p) (steps.slot header marker frames) x l))
       (lt-or-le x (8 * slotBytes p))
 
@@ -131,7 +132,7 @@ unfolding planOf parametersOf
 slot-is header marker frames n e M G K symbols eM eG eK es =
     let let-in : callSays header marker (length frames) n ≡ Done = asked header marker frames n e in
     let g : G ≡ planIn header marker .group = group-is header marker M G eM eG in
-    let c : symbols ≡ symbolCount (planIn header marker .layout) = es ∙ sym (count-is header marker) in
+    let c : symbols ≡ layoutSymbols (planIn header marker .layout) = es ∙ sym (count-is header marker) in
     let k : K ≡ planIn header marker .copies = eK in
     let fine = ready header marker (length frames) n let-in .fine in
     let some = bounds (planIn header marker) fine .group-two in (
@@ -163,7 +164,7 @@ pub run-there-and-back : RunThereAndBack
 run-there-and-back header marker frames slots back b w e =
     let r = run-written-read header marker frames (length slots) b w in
     let written : slotsAfter header marker frames slots ≡ runs.runOf header marker frames = ap (λ (a : Answer). after a (runs.runOf header marker frames) slots) w in
-    let said : runs.readSays header marker (runs.runOf header marker frames) (length back) ≡ Done = ap (runs.readSays header marker (runs.runOf header marker frames)) e ∙ r .0 in
+    let said : runReadSays header marker (runs.runOf header marker frames) (length back) ≡ Done = ap (runReadSays header marker (runs.runOf header marker frames)) e ∙ r .0 in
     ap (λ (s : List ℕ). framesAfter header marker s back) written
     ∙ ap (λ (a : Answer). after a (runs.framesRead header marker (runs.runOf header marker frames)) back) said
     ∙ r .1
@@ -193,9 +194,9 @@ word-one rate a b wa wb e i l =
 pub word-there-and-back : WordThereAndBack
 word-there-and-back rate block word back w e =
     let long : length word ≡ wordBytes = answer-laws.write-accepted rate block (length word) w .word-is in
-    let r = word-written-read rate block (ap (words.writeSays rate block) (sym long) ∙ w) in
+    let r = word-written-read rate block (ap (wordWriteSays rate block) (sym long) ∙ w) in
     let written : wordAfter rate block word ≡ words.wordOf rate block = ap (λ (a : Answer). after a (words.wordOf rate block) word) w in
-    let said : words.readSays rate (words.wordOf rate block) (length back) ≡ Done = ap (words.readSays rate (words.wordOf rate block)) e ∙ r .0 in
+    let said : wordReadSays rate (words.wordOf rate block) (length back) ≡ Done = ap (wordReadSays rate (words.wordOf rate block)) e ∙ r .0 in
     let holds : blockAfter rate (wordAfter rate block word) back ≡ words.blockIn rate (words.wordOf rate block) =
     ap (λ (x : List ℕ). blockAfter rate x back) written
     ∙ ap (λ (a : Answer). after a (words.blockIn rate (words.wordOf rate block)) back) said in

@@ -6,7 +6,7 @@ use Rattle.header.specs.Header.{field, fieldsOf, spareOf}
 use Rattle.header_sizes.specs.Quantities.{pulseOrder, symbolsPerWord, markedBits, blockCount, interleaverDelay, sequenceLength, lineCount, symbolCount, slotsPerSymbol, slotCount, slotBytes, frameBytes}
 use Rattle.header_questions.specs.Questions.{question1, question2, question3, question4, question5, question6, question7, copiesGood, fieldsSay, formSays, headerSays}
 use Rattle.plan.specs.Lengths.{runLengthsRight}
-use Rattle.promises_runs.specs.Edges.{ExampleHeader, OtherHeaders, ExampleFields, RateEdges, OrderEdges, RowEdges, StepEdges, MultipleEdges, FrameEdges, MarkerEdges, FirstNo, FactorsAll, ExampleLengths, OtherLengths, SlotLengths}
+use Rattle.promises_runs.specs.Edges.{ExampleHeader, OtherHeaders, ExampleFields, RateEdges, OrderEdges, RowEdges, StepEdges, MultipleEdges, FrameEdges, MarkerEdges, NumbersInOrder, FactorsAll, ExampleLengths, OtherLengths, SlotLengths}
 
 pub example-header : ExampleHeader
 unfolding headerSays formSays fieldsSay question1 question2 question3 question4 question5 question6 question7 copiesGood fieldsOf spareOf field val bitAt symbolsPerWord interleaverDelay
@@ -50,7 +50,7 @@ pub marker-edges : MarkerEdges
 unfolding headerSays formSays fieldsSay question1 question2 question3 question4 question5 question6 question7 copiesGood fieldsOf spareOf field val bitAt symbolsPerWord interleaverDelay
 marker-edges = (refl, refl, refl)
 
-pub first-no : FirstNo
+pub first-no : NumbersInOrder
 unfolding headerSays formSays fieldsSay question1 question2 question3 question4 question5 question6 question7 copiesGood fieldsOf spareOf field val bitAt symbolsPerWord interleaverDelay
 first-no = (refl, refl, refl, refl, refl, refl, refl, refl, refl)
 

@@ -18,8 +18,10 @@ use Rattle.sizes.specs.Sizes.{infoBits, blockBytes}
 use Rattle.crc.specs.Check.{register}
 use Rattle.convolution.specs.Code.{encode, decode}
 use Rattle.word.specs.Word as words
+use Rattle.word.specs.Word.{wordReadSays}
 use Rattle.word.proofs.Laws.Answers as word-laws
 use Rattle.pass.specs.Pass as passes
+use Rattle.pass.specs.Pass.{passReadSays}
 use Rattle.pass.proofs.Laws.Answers as pass-laws
 use Rattle.header.specs.Header.{fieldsOf}
 use Rattle.header_sizes.specs.Quantities as sizes
@@ -35,10 +37,12 @@ use Rattle.slots.proofs.Laws.Return.{pooled-once}
 use Rattle.stream_reader.specs.Frames.{joined}
 use Rattle.slots.specs.Reading.{wordOut}
 use Rattle.run.specs.Run as runs
+use Rattle.run.specs.Run.{runWordSays}
 use Rattle.run.proofs.Laws.Places as run-laws
 use Rattle.run.proofs.Laws.Refusals.{FirstNo, Never, never-ask, never-then, among-others, last-of, others-done, not-yes, put-yes, yes-put, put-no, no-put, order-no, no-order}
 use Rattle.ldpc.specs.Code.{isCodeword}
 use Rattle.uplink.specs.Uplink as uplinks
+use Rattle.uplink.specs.Uplink.{uplinkReadSays}
 use Rattle.uplink.proofs.Laws.Uplink as uplink-laws
 use Rattle.promises_runs.proofs.Accepted.{marks-are}
 use Rattle.promises_uplink.proofs.Card14.{reader-asks, bit-is, codewords-exactly}
@@ -102,11 +106,11 @@ unfolding planOf parametersOf sizes.layoutOf sizes.pulseOrder sizes.slotsPerSymb
 place-of-12 header marker slots n p = run-laws.exactly-12 header marker slots n (λ w. getD marker w 0) (lent header marker slots n) p
 
 pub place-of-13-to-15 : PlaceOf13To15
-unfolding planOf parametersOf sizes.layoutOf sizes.pulseOrder sizes.slotsPerSymbol sizes.symbolsPerWord sizes.symbolCount sizes.slotCount channel.place channel.symbolOf channel.wordOf channel.wordBit wordOut runs.wordSays runs.streamIn joined
+unfolding planOf parametersOf sizes.layoutOf sizes.pulseOrder sizes.slotsPerSymbol sizes.symbolsPerWord sizes.symbolCount sizes.slotCount channel.place channel.symbolOf channel.wordFrom channel.wordBit wordOut runWordSays runs.streamIn joined
 place-of-13-to-15 header marker slots n number p least most = run-laws.exactly-13 header marker slots n (λ w. getD marker w 0) (lent header marker slots n) number p (omega arith) (omega arith)
 
 pub place-of-16 : PlaceOf16
-unfolding planOf parametersOf sizes.layoutOf sizes.pulseOrder sizes.slotsPerSymbol sizes.symbolsPerWord sizes.symbolCount sizes.slotCount channel.place channel.symbolOf channel.wordOf channel.wordBit wordOut runs.wordSays runs.streamIn joined
+unfolding planOf parametersOf sizes.layoutOf sizes.pulseOrder sizes.slotsPerSymbol sizes.symbolsPerWord sizes.symbolCount sizes.slotCount channel.place channel.symbolOf channel.wordFrom channel.wordBit wordOut runWordSays runs.streamIn joined
 place-of-16 header marker slots n p = run-laws.exactly-16 header marker slots n (λ w. getD marker w 0) (lent header marker slots n) p
 
 pub spare-is-9 : SpareIs9
@@ -114,7 +118,7 @@ unfolding planOf parametersOf sizes.layoutOf sizes.pulseOrder sizes.slotsPerSymb
 spare-is-9 header marker slots n p = run-laws.exactly-9 header marker slots n (λ w. getD marker w 0) (lent header marker slots n) p
 
 pub fill-is-18 : FillIs18
-unfolding planOf parametersOf sizes.layoutOf sizes.pulseOrder sizes.slotsPerSymbol sizes.symbolsPerWord sizes.symbolCount sizes.slotCount channel.place channel.symbolOf channel.wordOf channel.wordBit wordOut runs.wordSays runs.streamIn joined
+unfolding planOf parametersOf sizes.layoutOf sizes.pulseOrder sizes.slotsPerSymbol sizes.symbolsPerWord sizes.symbolCount sizes.slotCount channel.place channel.symbolOf channel.wordFrom channel.wordBit wordOut runWordSays runs.streamIn joined
 fill-is-18 header marker slots n p = run-laws.exactly-18 header marker slots n (λ w. getD marker w 0) (lent header marker slots n) p
 
 -- ---- words
@@ -142,7 +146,7 @@ module _ (rate : ℕ) (word : List ℕ) (n : ℕ) where
   abbrev right : Bool
   right = eqb (val (λ i. x (k + i)) 32) (register x k)
 
-  said : words.readSays rate word n ≡ then asked (then q13 (then (ask ends 14 0) (ask right 15 0)))
+  said : wordReadSays rate word n ≡ then asked (then q13 (then (ask ends 14 0) (ask right 15 0)))
   unfolding x
   said =
       let o = word-laws.questions-opened rate word (decode rate (words.codedIn word)) refl in
@@ -208,7 +212,7 @@ module _ (rate : ℕ) (word : List ℕ) (n : ℕ) where
   abbrev before : Answer
   before = then (asked rate word n) (q13 rate word n)
 
-  said-14 : words.readSays rate word n ≡ then before (then (ask (ends rate word n) 14 0) (ask (right rate word n) 15 0))
+  said-14 : wordReadSays rate word n ≡ then before (then (ask (ends rate word n) 14 0) (ask (right rate word n) 15 0))
   said-14 = said rate word n ∙ sym (then-then (asked rate word n) (q13 rate word n) _)
 
   before-yes : before ≡ Done → WordAsked rate word n × ((j : ℕ) → j < 15120 → CodedRight rate word j)
@@ -243,7 +247,7 @@ word-is-15 rate word n p =
     let a : Answer = before rate word n in
     let t : Bool = right rate word n in
     let q : Answer = ask (ends rate word n) 14 0 in
-    let s : words.readSays rate word n ≡ then (then a q) (ask t 15 0) = said-14 rate word n ∙ sym (then-then a q (ask t 15 0)) in (
+    let s : wordReadSays rate word n ≡ then (then a q) (ask t 15 0) = said-14 rate word n ∙ sym (then-then a q (ask t 15 0)) in (
       λ e.
           let d = last-of (then a q) (ask t 15 0) 15 p
           (never-then 15 a q (never-before rate word n 15 (omega arith)) (never-ask 15 (ends rate word n) 14 0 (λ z. omega arith))) (sym s ∙ e) in
@@ -259,10 +263,10 @@ word-is-15 rate word n p =
 -- ---- passes
 
 pub pass-place : PassPlace
-unfolding passes.readSays
+unfolding passReadSays
 pass-place rate slice m n number p en a b =
     let w : ℕ = passes.wordsIn slice in
-    let say : ℕ → Answer = λ j. words.readSays rate (piece 1890 slice j) (blockBytes rate) in
+    let say : ℕ → Answer = λ j. wordReadSays rate (piece 1890 slice j) (blockBytes rate) in
     let t : Bool = passes.passLengthsRight w (blockBytes rate) m (length slice) in (
       λ e.
           let d2 = last-of (ask (ltb rate 3) 2 0) _ number p (never-ask number (ltb rate 3) 2 0 (λ z. omega arith)) e in
@@ -297,7 +301,7 @@ module _ (slots : List ℕ) (m n : ℕ) (en : n ≡ length slots / 64) where
   abbrev q29 : Answer
   q29 = ask (eqb (upTo coded 0 n) n) 29 (upTo coded 0 n)
 
-  uplink-said : uplinks.readSays slots m ≡ then (ask fit 8 0) (then q28 q29)
+  uplink-said : uplinkReadSays slots m ≡ then (ask fit 8 0) (then q28 q29)
   uplink-said = reader-asks slots m n en
 
   fit-yes : ask fit 8 0 ≡ Done → UplinkAsked slots m n
@@ -323,8 +327,8 @@ module _ (slots : List ℕ) (m n : ℕ) (en : n ≡ length slots / 64) where
   yes-parity i l h = codewords-exactly (uplinks.received slots i) (uplink-laws.received-bits slots i) .1 h
 
   refused-28 : (p : ℕ)
-      → (uplinks.readSays slots m ≡ No 28 p → UplinkAsked slots m n × FirstNo (128 * n) (GroupRight slots) p)
-      × (UplinkAsked slots m n × FirstNo (128 * n) (GroupRight slots) p → uplinks.readSays slots m ≡ No 28 p)
+      → (uplinkReadSays slots m ≡ No 28 p → UplinkAsked slots m n × FirstNo (128 * n) (GroupRight slots) p)
+      × (UplinkAsked slots m n × FirstNo (128 * n) (GroupRight slots) p → uplinkReadSays slots m ≡ No 28 p)
   refused-28 p = (
     λ e.
         let d = among-others (ask fit 8 0) q28 q29 28 p (never-ask 28 fit 8 0 (λ z. omega arith)) (never-ask 28 (eqb (upTo coded 0 n) n) 29 (upTo coded 0 n) (λ z. omega arith)) (sym uplink-said ∙ e) in
@@ -333,11 +337,11 @@ module _ (slots : List ℕ) (m n : ℕ) (en : n ≡ length slots / 64) where
   )
 
   refused-29 : (p : ℕ)
-      → (uplinks.readSays slots m ≡ No 29 p → UplinkAsked slots m n × ((g : ℕ) → g < 128 * n → GroupRight slots g) × FirstNo n (ParityRight slots) p)
-      × (UplinkAsked slots m n × ((g : ℕ) → g < 128 * n → GroupRight slots g) × FirstNo n (ParityRight slots) p → uplinks.readSays slots m ≡ No 29 p)
+      → (uplinkReadSays slots m ≡ No 29 p → UplinkAsked slots m n × ((g : ℕ) → g < 128 * n → GroupRight slots g) × FirstNo n (ParityRight slots) p)
+      × (UplinkAsked slots m n × ((g : ℕ) → g < 128 * n → GroupRight slots g) × FirstNo n (ParityRight slots) p → uplinkReadSays slots m ≡ No 29 p)
   refused-29 p =
       let bits : Bool = eqb (upTo (uplinks.isBit slots) 0 (128 * n)) (128 * n) in
-      let s : uplinks.readSays slots m ≡ then (then (ask fit 8 0) q28) q29 = uplink-said ∙ sym (then-then (ask fit 8 0) q28 q29) in (
+      let s : uplinkReadSays slots m ≡ then (then (ask fit 8 0) q28) q29 = uplink-said ∙ sym (then-then (ask fit 8 0) q28 q29) in (
         λ e.
             let d = last-of (then (ask fit 8 0) q28) q29 29 p
             (never-then 29 (ask fit 8 0) q28 (never-ask 29 fit 8 0 (λ z. omega arith)) (never-ask 29 bits 28 (upTo (uplinks.isBit slots) 0 (128 * n)) (λ z. omega arith))) (sym s ∙ e) in

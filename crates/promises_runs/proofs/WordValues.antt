@@ -15,17 +15,18 @@ use Rattle.crc.specs.Check.{register}
 use Rattle.crc.specs.Inner.{advances}
 use Rattle.crc.proofs.Laws.Bytes.{register-is}
 use Rattle.crc.proofs.Laws.Found.{zeros-before}
-use Rattle.convolution.specs.Code.{delay, first, second, stepOf, encode, secondPlace, recover, decode}
+use Rattle.convolution.specs.Code.{delay, first, second, inputPlace, encode, secondPlace, recover, decode}
 use Rattle.convolution.proofs.Laws.Code.{recover-same, third-first, half-first, two-first}
 use Rattle.interleaver.specs.Interleaver.{sourceBit, outputPlace, deinterleave}
 use Rattle.interleaver.proofs.Laws.Interleaver.{output-lt, source-output, taken-from}
 use Rattle.accumulator.specs.Accumulator.{differentiate}
 use Rattle.accumulator.proofs.Laws.Accumulator.{differentiate-same}
 use Rattle.word.specs.Word as words
+use Rattle.word.specs.Word.{wordReadSays}
 use Rattle.word.proofs.Laws.Word as word-laws
 use Rattle.answers.specs.declared.Answer.the-variants.{No}
 use Rattle.promises_runs.proofs.PlacesHold.{word-place-of-13, word-is-15}
-use Rattle.promises_runs.specs.Places.{CodedRight, ReadBitTwo, ReadZeros}
+use Rattle.promises_runs.specs.Places.{CodedRight, ReadBitTwo, ZeroWordRefused}
 
 -- ---- the coded bits of a word that is given by its bits
 
@@ -67,11 +68,11 @@ second-zero x (suc zero) h = ap₂ (λ (b c : ℕ). bitXor (bitXor b c) 0) (h 1 
 second-zero x (suc (suc i)) h =
     ap₂ bitXor (ap₂ bitXor (h (suc (suc i)) (omega arith)) (h (suc i) (omega arith))) (h i (omega arith))
 
-quiet-code : (rate : ℕ) (x : ℕ → ℕ) (n : ℕ) → ((i : ℕ) → i < n → x i ≡ 0) → (j : ℕ) → stepOf rate j < n → encode rate x j ≡ 0
+quiet-code : (rate : ℕ) (x : ℕ → ℕ) (n : ℕ) → ((i : ℕ) → i < n → x i ≡ 0) → (j : ℕ) → inputPlace rate j < n → encode rate x j ≡ 0
 unfolding encode
 quiet-code rate x n h j l =
-    let e : (k : ℕ) → k ≤ stepOf rate j → x k ≡ 0 = λ k b. h k (omega arith) in
-    ap₂ (pick (eqb (j % codedPer rate) 0)) (first-zero x (stepOf rate j) e) (second-zero x (stepOf rate j) e) ∙ pick-same (eqb (j % codedPer rate) 0)
+    let e : (k : ℕ) → k ≤ inputPlace rate j → x k ≡ 0 = λ k b. h k (omega arith) in
+    ap₂ (pick (eqb (j % codedPer rate) 0)) (first-zero x (inputPlace rate j) e) (second-zero x (inputPlace rate j) e) ∙ pick-same (eqb (j % codedPer rate) 0)
   where
     pick-same : (t : Bool) → _≡_ {A = ℕ} (pick t 0 0) 0
     pick-same true = refl
@@ -107,7 +108,7 @@ unfolding outputPlace differentiate
 loud-coded = coded-of two two-bits 862
 
 -- up to a coded bit `end` all is 0, and so is what is read from it
-module _ (rate n end : ℕ) (few : end ≤ 862) (near : (i : ℕ) → i < n → (secondPlace rate i < 1923) × (secondPlace rate i ≡ 862 → ⊥)) (steps : (j : ℕ) → j < end → stepOf rate j < n) where
+module _ (rate n end : ℕ) (few : end ≤ 862) (near : (i : ℕ) → i < n → (secondPlace rate i < 1923) × (secondPlace rate i ≡ 862 → ⊥)) (steps : (j : ℕ) → j < end → inputPlace rate j < n) where
   input : (i : ℕ) → i < n → decode rate coded i ≡ 0
   input = quiet-input rate coded n (λ i l. let p = near i l in let a = p .0 in quiet-coded (secondPlace rate i) (omega arith) (p .1) (λ z. omega arith))
 
@@ -118,11 +119,11 @@ one-zero : (a b : ℕ) → a ≡ 1 → b ≡ 0 → a ≡ b → ⊥
 one-zero a b ea eb e = omega arith
 
 -- at 1/3 and 2/3 coded bit 862 is a second output, and the first output before it, 861, is wrong
-third : words.readSays 0 (bytesOf 1890 two) 626 ≡ No 13 861
-unfolding secondPlace stepOf inputsPer codedPer first delay blockBytes infoBits
+third : wordReadSays 0 (bytesOf 1890 two) 626 ≡ No 13 861
+unfolding secondPlace inputPlace inputsPer codedPer first delay blockBytes infoBits
 third =
     let near : (i : ℕ) → i < 287 → (secondPlace 0 i < 1923) × (secondPlace 0 i ≡ 862 → ⊥) = λ i l. (omega arith, λ z. omega arith) in
-    let steps : (j : ℕ) → j < 861 → stepOf 0 j < 287 = λ j l. omega arith in
+    let steps : (j : ℕ) → j < 861 → inputPlace 0 j < 287 = λ j l. omega arith in
     let x : ℕ → ℕ = decode 0 coded in
     let zero285 : x 285 ≡ 0 = input 0 287 861 (omega arith) near steps 285 (omega arith) in
     let zero286 : x 286 ≡ 0 = input 0 287 861 (omega arith) near steps 286 (omega arith) in
@@ -133,11 +134,11 @@ third =
       (omega arith, right 0 287 861 (omega arith) near steps, λ e. one-zero (encode 0 x 861) (coded 861) made (quiet-coded 861 (omega arith) (λ z. omega arith) (λ z. omega arith)) (sym e)),
     )
 
-two-thirds : words.readSays 2 (bytesOf 1890 two) 1256 ≡ No 13 861
-unfolding secondPlace stepOf inputsPer codedPer first delay blockBytes infoBits
+two-thirds : wordReadSays 2 (bytesOf 1890 two) 1256 ≡ No 13 861
+unfolding secondPlace inputPlace inputsPer codedPer first delay blockBytes infoBits
 two-thirds =
     let near : (i : ℕ) → i < 574 → (secondPlace 2 i < 1923) × (secondPlace 2 i ≡ 862 → ⊥) = λ i l. (omega arith, λ z. omega arith) in
-    let steps : (j : ℕ) → j < 861 → stepOf 2 j < 574 = λ j l. omega arith in
+    let steps : (j : ℕ) → j < 861 → inputPlace 2 j < 574 = λ j l. omega arith in
     let x : ℕ → ℕ = decode 2 coded in
     let zero572 : x 572 ≡ 0 = input 2 574 861 (omega arith) near steps 572 (omega arith) in
     let zero573 : x 573 ≡ 0 = input 2 574 861 (omega arith) near steps 573 (omega arith) in
@@ -149,11 +150,11 @@ two-thirds =
     )
 
 -- at 1/2 it is a first output, and wrong itself
-half : words.readSays 1 (bytesOf 1890 two) 941 ≡ No 13 862
-unfolding secondPlace stepOf inputsPer codedPer blockBytes infoBits
+half : wordReadSays 1 (bytesOf 1890 two) 941 ≡ No 13 862
+unfolding secondPlace inputPlace inputsPer codedPer blockBytes infoBits
 half =
     let near : (i : ℕ) → i < 432 → (secondPlace 1 i < 1923) × (secondPlace 1 i ≡ 862 → ⊥) = λ i l. (omega arith, λ z. omega arith) in
-    let steps : (j : ℕ) → j < 862 → stepOf 1 j < 432 = λ j l. omega arith in
+    let steps : (j : ℕ) → j < 862 → inputPlace 1 j < 432 = λ j l. omega arith in
     let x : ℕ → ℕ = decode 1 coded in
     let made : encode 1 x 862 ≡ 0 = quiet-code 1 x 432 (input 1 432 862 (omega arith) near steps) 862 (omega arith) in
     word-place-of-13 1 (bytesOf 1890 two) 941 862 .1 (
@@ -193,15 +194,15 @@ module _ (rate : ℕ) where
       let z : _≡_ {A = ℕ} 0xFFFFFFFF 0 = zeros-before 0xFFFFFFFF x (omega arith) (λ i. rw (none-input i) (omega arith)) (infoBits rate) (λ i l. none-input i) gone in
       omega arith
 
-  none-read : rate < 3 → words.readSays rate (bytesOf 1890 none) (blockBytes rate) ≡ No 15 0
+  none-read : rate < 3 → wordReadSays rate (bytesOf 1890 none) (blockBytes rate) ≡ No 15 0
   none-read h =
       word-is-15 rate (bytesOf 1890 none) (blockBytes rate) 0 .1 (
         (h, length-bytes 1890 none, refl),
-        λ j l. none-coded j ∙ sym (quiet-code rate x (suc (stepOf rate j)) (λ i k. none-input i) j (omega arith)),
+        λ j l. none-coded j ∙ sym (quiet-code rate x (suc (inputPlace rate j)) (λ i k. none-input i) j (omega arith)),
         (none-input (infoBits rate + 32), none-input (infoBits rate + 33)),
         none-check,
         refl,
       )
 
-pub read-zeros : ReadZeros
+pub read-zeros : ZeroWordRefused
 read-zeros rate h = none-read rate h

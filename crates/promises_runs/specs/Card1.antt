@@ -23,6 +23,7 @@ use Rattle.header_sizes.specs.Quantities.{slotCount, slotBytes, markerBytes}
 use Rattle.header_questions.specs.Questions.{headerSays, runSays}
 use Rattle.plan.specs.Plan.{planIn}
 use Rattle.run.specs.Run as runs
+use Rattle.run.specs.Run.{runReadSays, runWriteSays}
 use Rattle.capture_search.specs.Search.{firstFit, markerSlots, findSays, findCode, MarkerAt}
 use Rattle.capture_cut.specs.Cut as cuts
 use Rattle.capture_cut.specs.Cut.{RunAt, cutAfter}
@@ -133,7 +134,7 @@ RunMeans =
 -- "and no earlier slot fits, the answer is number 0 with s as its place": where each symbol is sent once, since then the marker stands there whole;
 abbrev pub RunFound : Type 0
 RunFound =
-    (header marker frames : List ℕ) (n : ℕ) → runs.writeSays header marker frames n ≡ Done
+    (header marker frames : List ℕ) (n : ℕ) → runWriteSays header marker frames n ≡ Done
     → (capture : List ℕ) (s : ℕ) → length capture ≤ 2 ^ 53 → RunAt header marker frames capture s
     → fieldsOf header .copies ≡ 1 → ((x : ℕ) → x < s → MarkerAt header marker capture x → ⊥)
     → findCode header marker capture ≡ s * 256
@@ -141,12 +142,12 @@ RunFound =
 -- "and the run's number of slots from there, packed anew, reads as that run's frames."
 abbrev pub RunReads : Type 0
 RunReads =
-    (header marker frames : List ℕ) (n : ℕ) → runs.writeSays header marker frames n ≡ Done
+    (header marker frames : List ℕ) (n : ℕ) → runWriteSays header marker frames n ≡ Done
     → (capture : List ℕ) (s : ℕ) → length capture ≤ 2 ^ 53 → RunAt header marker frames capture s
     → Bytes frames → (old : List ℕ) → length old ≡ n
     → (cuts.cutSays header (length capture) s (length old) ≡ Done)
     × (cutAfter header capture s old ≡ runs.runOf header marker frames)
-    × (runs.readSays header marker (cutAfter header capture s old) (length frames) ≡ Done)
+    × (runReadSays header marker (cutAfter header capture s old) (length frames) ≡ Done)
     × (runs.framesRead header marker (cutAfter header capture s old) ≡ frames)
 
 -- ---- what is promised, all of it: the contract of `card_1`

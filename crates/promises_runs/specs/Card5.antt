@@ -26,10 +26,10 @@ use Rattle.plan.specs.Plan.{planIn}
 use Rattle.plan.specs.Lengths.{callSays}
 use Rattle.pulses.specs.Pulses as pulses
 use Rattle.pool.specs.Pooled.{count, pooled, firstUndecided}
-use Rattle.slots.specs.Reading.{spareEmpty, pooledIn}
+use Rattle.slots.specs.Reading.{spareSlotsEmpty, pooledIn}
 use Rattle.run.specs.Run as runs
 use Rattle.run.specs.Steps as steps
-use Rattle.run.specs.Run.{slotsAfter, framesAfter}
+use Rattle.run.specs.Run.{slotsAfter, framesAfter, runReadSays, runWriteSays}
 use Rattle.promises_runs.specs.Edges.{smallest, largest}
 
 -- ---- "1, 2, 3, 4, 8, 16 or 32 times"
@@ -42,23 +42,23 @@ OtherFactors =
     map copiesGood (0 ∷ 5 ∷ 6 ∷ 7 ∷ 9 ∷ 15 ∷ 17 ∷ 31 ∷ 33 ∷ 64 ∷ 4294967297 ∷ []) ≡ false ∷ false ∷ false ∷ false ∷ false ∷ false ∷ false ∷ false ∷ false ∷ false ∷ false ∷ []
 
 -- "20 for another factor, put after 7": both calls, where header and marker symbols pass
-abbrev pub FactorRefused : Type 0
-FactorRefused =
+abbrev pub RunFactorRefused : Type 0
+RunFactorRefused =
     (header marker frames slots : List ℕ) (n : ℕ) → formSays header ≡ Done → marksGood (fieldsOf header) marker ≡ true
     → copiesGood (fieldsOf header .copies) ≡ false
-    → (runs.writeSays header marker frames n ≡ No 20 0) × (runs.readSays header marker slots n ≡ No 20 0)
+    → (runWriteSays header marker frames n ≡ No 20 0) × (runReadSays header marker slots n ≡ No 20 0)
 
 -- ---- "Faint links send each symbol, markers and guard slots included, .. times in a row"
 
 -- slot r of copy c of symbol s has a pulse if the symbol is r, and there is none behind the last copy
 abbrev pub CopiesSent : Type 0
 CopiesSent =
-    (header marker frames : List ℕ) (s c r : ℕ) → s < layouts.symbolCount (planIn header marker .layout) → c < fieldsOf header .copies → r < planIn header marker .group
+    (header marker frames : List ℕ) (s c r : ℕ) → s < layouts.layoutSymbols (planIn header marker .layout) → c < fieldsOf header .copies → r < planIn header marker .group
     → steps.slot header marker frames ((s * fieldsOf header .copies + c) * planIn header marker .group + r) ≡ bool (eqb r (steps.step10 header marker frames s))
 
 abbrev pub NoneBehind : Type 0
 NoneBehind =
-    (header marker frames : List ℕ) (x : ℕ) → layouts.symbolCount (planIn header marker .layout) * fieldsOf header .copies ≤ x / planIn header marker .group
+    (header marker frames : List ℕ) (x : ℕ) → layouts.layoutSymbols (planIn header marker .layout) * fieldsOf header .copies ≤ x / planIn header marker .group
     → steps.slot header marker frames x ≡ 0
 
 -- the bytes of 1, 2, 3, 4 and 8 copies of the smallest run, packed once, and the slots and bytes of 32 copies of the largest
@@ -98,15 +98,15 @@ OneCopyAsked = (b : List ℕ) (group order n : ℕ) → 2 ≤ group → order �
 
 -- So with one copy, where 1 to 9 and 20 are answered yes, the answer is not 10 exactly if each symbol's group has exactly one pulse, among its first M
 -- slots: of the M + M/4 slots, slot q below M is 1 and every other is 0.
-abbrev pub OnePulse : Type 0
-OnePulse =
+abbrev pub OnePulseExactly : Type 0
+OnePulseExactly =
     (header marker slots : List ℕ) (n : ℕ) → fieldsOf header .copies ≡ 1
-    → among (1 ∷ 2 ∷ 3 ∷ 4 ∷ 5 ∷ 6 ∷ 7 ∷ 8 ∷ 9 ∷ 20 ∷ []) (numberOf (runs.readSays header marker slots n)) ≡ false
+    → among (1 ∷ 2 ∷ 3 ∷ 4 ∷ 5 ∷ 6 ∷ 7 ∷ 8 ∷ 9 ∷ 20 ∷ []) (numberOf (runReadSays header marker slots n)) ≡ false
     → (M G : ℕ) → M ≡ 2 ^ fieldsOf header .bits → G ≡ M + M / 4
-    → ((numberOf (runs.readSays header marker slots n) ≡ 10 → ⊥)
+    → ((numberOf (runReadSays header marker slots n) ≡ 10 → ⊥)
     → (s : ℕ) → s < symbolCount (fieldsOf header) → (q : ℕ) × (q < M) × ((r : ℕ) → r < G → bitAt slots (s * G + r) ≡ bool (eqb r q)))
     × (((s : ℕ) → s < symbolCount (fieldsOf header) → (q : ℕ) × (q < M) × ((r : ℕ) → r < G → bitAt slots (s * G + r) ≡ bool (eqb r q)))
-    → numberOf (runs.readSays header marker slots n) ≡ 10 → ⊥)
+    → numberOf (runReadSays header marker slots n) ≡ 10 → ⊥)
 
 -- ---- "A repeated buffer is accepted if its pooled symbols are those of some run and its spare bits are zero, giving that run's frames, and otherwise not"
 
@@ -116,51 +116,51 @@ pooledSymbol header marker slots s = pooled slots (planIn header marker .copies)
 
 abbrev pub PoolsToIs : Type 0
 PoolsToIs =
-    (header marker slots frames : List ℕ) (n : ℕ) → n ≡ layouts.symbolCount (planIn header marker .layout)
+    (header marker slots frames : List ℕ) (n : ℕ) → n ≡ layouts.layoutSymbols (planIn header marker .layout)
     → (runs.PoolsTo header marker slots frames → (s : ℕ) → s < n → pooledSymbol header marker slots s ≡ steps.step10 header marker frames s)
     × (((s : ℕ) → s < n → pooledSymbol header marker slots s ≡ steps.step10 header marker frames s) → runs.PoolsTo header marker slots frames)
 
 abbrev pub RepeatedAccepted : Type 0
 RepeatedAccepted =
-    (header marker frames slots : List ℕ) → Bytes frames → runs.writeSays header marker frames (length slots) ≡ Done
-    → spareEmpty (planIn header marker) slots ≡ true → runs.PoolsTo header marker slots frames
-    → (runs.readSays header marker slots (length frames) ≡ Done) × (runs.framesRead header marker slots ≡ frames)
+    (header marker frames slots : List ℕ) → Bytes frames → runWriteSays header marker frames (length slots) ≡ Done
+    → spareSlotsEmpty (planIn header marker) slots ≡ true → runs.PoolsTo header marker slots frames
+    → (runReadSays header marker slots (length frames) ≡ Done) × (runs.framesRead header marker slots ≡ frames)
 
 abbrev pub RepeatedOnly : Type 0
 RepeatedOnly =
-    (header marker slots : List ℕ) (n : ℕ) → runs.readSays header marker slots n ≡ Done
-    → (runs.writeSays header marker (runs.framesRead header marker slots) (length slots) ≡ Done)
-    × (spareEmpty (planIn header marker) slots ≡ true)
+    (header marker slots : List ℕ) (n : ℕ) → runReadSays header marker slots n ≡ Done
+    → (runWriteSays header marker (runs.framesRead header marker slots) (length slots) ≡ Done)
+    × (spareSlotsEmpty (planIn header marker) slots ≡ true)
     × runs.PoolsTo header marker slots (runs.framesRead header marker slots)
 
 -- "Places count pooled symbols": the first whose copies do not decide on a data slot is the place of 10. Those of 11 and 12 are symbols too (Places).
 abbrev pub PooledPlace : Type 0
 PooledPlace =
     (header marker slots : List ℕ) (n s : ℕ) → callSays header marker n (length slots) ≡ Done
-    → spareEmpty (planIn header marker) slots ≡ true → s < layouts.symbolCount (planIn header marker .layout)
+    → spareSlotsEmpty (planIn header marker) slots ≡ true → s < layouts.layoutSymbols (planIn header marker .layout)
     → ((i : ℕ) → i < s → pooledIn (planIn header marker) slots i < planIn header marker .order)
     → planIn header marker .order ≤ pooledIn (planIn header marker) slots s
-    → runs.readSays header marker slots n ≡ No 10 s
+    → runReadSays header marker slots n ≡ No 10 s
 
 -- ---- "Whatever is written is still accepted and gives its frames", at every factor
 
 abbrev pub RepeatedWrittenRead : Type 0
 RepeatedWrittenRead =
-    (header marker frames : List ℕ) (n : ℕ) → Bytes frames → runs.writeSays header marker frames n ≡ Done
-    → (runs.readSays header marker (runs.runOf header marker frames) (length frames) ≡ Done)
+    (header marker frames : List ℕ) (n : ℕ) → Bytes frames → runWriteSays header marker frames n ≡ Done
+    → (runReadSays header marker (runs.runOf header marker frames) (length frames) ≡ Done)
     × (runs.framesRead header marker (runs.runOf header marker frames) ≡ frames)
 
 -- and in the lent slices
 abbrev pub RepeatedThereAndBack : Type 0
 RepeatedThereAndBack =
-    (header marker frames slots back : List ℕ) → Bytes frames → runs.writeSays header marker frames (length slots) ≡ Done
+    (header marker frames slots back : List ℕ) → Bytes frames → runWriteSays header marker frames (length slots) ≡ Done
     → length back ≡ length frames → framesAfter header marker (slotsAfter header marker frames slots) back ≡ frames
 
 -- ---- what is promised, all of it: the contract of `card_5`
 pub record Card5 : Type 0 where
   pub factors : Factors
   pub other-factors : OtherFactors
-  pub factor-refused : FactorRefused
+  pub factor-refused : RunFactorRefused
   pub copies-sent : CopiesSent
   pub none-behind : NoneBehind
   pub sent-lengths : SentLengths
@@ -171,7 +171,7 @@ pub record Card5 : Type 0 where
   pub pooled-most : PooledMost
   pub one-copy : OneCopy
   pub one-copy-asked : OneCopyAsked
-  pub one-pulse : OnePulse
+  pub one-pulse : OnePulseExactly
   pub pools-to-is : PoolsToIs
   pub repeated-accepted : RepeatedAccepted
   pub repeated-only : RepeatedOnly

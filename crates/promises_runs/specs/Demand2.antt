@@ -17,12 +17,13 @@ use Rattle.bits.specs.Pack.{bitAt, val, Bytes}
 use Rattle.answers.specs.declared.Answer.the-variants.{Done}
 use Rattle.sizes.specs.Sizes.{infoBits, blockBytes, wordBytes}
 use Rattle.word.specs.Word as words
+use Rattle.word.specs.Word.{wordReadSays, wordWriteSays}
 use Rattle.header.specs.Header.{fieldsOf}
 use Rattle.header_sizes.specs.Quantities.{blockCount, symbolCount}
 use Rattle.run.specs.Run as runs
 use Rattle.run.specs.Steps as steps
 use Rattle.word.specs.After.{wordAfter, blockAfter}
-use Rattle.run.specs.Run.{slotsAfter, framesAfter}
+use Rattle.run.specs.Run.{slotsAfter, framesAfter, runReadSays, runWriteSays}
 
 -- ---- packing
 
@@ -74,7 +75,7 @@ PlaceIs =
 -- Step 10: before every S symbols the W marker symbols stand, as they were lent.
 abbrev pub LineIs : Type 0
 LineIs =
-    (header marker frames : List ℕ) (n : ℕ) → runs.writeSays header marker frames n ≡ Done
+    (header marker frames : List ℕ) (n : ℕ) → runWriteSays header marker frames n ≡ Done
     → (W S : ℕ) → W ≡ fieldsOf header .markers → S ≡ 15120 / fieldsOf header .bits
     → ((line w : ℕ) → w < W → steps.step10 header marker frames (line * (S + W) + w) ≡ getD marker w 0)
     × ((line i : ℕ) → i < S → steps.step10 header marker frames (line * (S + W) + (W + i)) ≡ steps.standing header marker frames (line * S + i))
@@ -82,7 +83,7 @@ LineIs =
 -- Symbol q becomes M slots with one pulse at slot q, then M/4 empty guard slots; each is sent as often as the factor says. Spare bits are 0.
 abbrev pub SlotIs : Type 0
 SlotIs =
-    (header marker frames : List ℕ) (n : ℕ) → runs.writeSays header marker frames n ≡ Done
+    (header marker frames : List ℕ) (n : ℕ) → runWriteSays header marker frames n ≡ Done
     → (M G K symbols : ℕ) → M ≡ 2 ^ fieldsOf header .bits → G ≡ M + M / 4 → K ≡ fieldsOf header .copies → symbols ≡ symbolCount (fieldsOf header)
     → ((s c r : ℕ) → s < symbols → c < K → r < G
     → bitAt (runs.runOf header marker frames) ((s * K + c) * G + r) ≡ bool (eqb r (steps.step10 header marker frames s)))
@@ -98,27 +99,27 @@ RunBytes = (header marker xs : List ℕ) → Bytes (runs.runOf header marker xs)
 -- If frames are written to a slot buffer, the reader accepts that buffer and returns those frames.
 abbrev pub RunWrittenRead : Type 0
 RunWrittenRead =
-    (header marker frames : List ℕ) (n : ℕ) → Bytes frames → runs.writeSays header marker frames n ≡ Done
-    → (runs.readSays header marker (runs.runOf header marker frames) (length frames) ≡ Done)
+    (header marker frames : List ℕ) (n : ℕ) → Bytes frames → runWriteSays header marker frames n ≡ Done
+    → (runReadSays header marker (runs.runOf header marker frames) (length frames) ≡ Done)
     × (runs.framesRead header marker (runs.runOf header marker frames) ≡ frames)
 
 -- If the reader accepts a slot buffer with some frames, each symbol being sent once, the writer writes that very buffer for those frames.
 abbrev pub RunReadWritten : Type 0
 RunReadWritten =
-    (header marker slots : List ℕ) (n : ℕ) → fieldsOf header .copies ≡ 1 → Bytes slots → runs.readSays header marker slots n ≡ Done
-    → (runs.writeSays header marker (runs.framesRead header marker slots) (length slots) ≡ Done)
+    (header marker slots : List ℕ) (n : ℕ) → fieldsOf header .copies ≡ 1 → Bytes slots → runReadSays header marker slots n ≡ Done
+    → (runWriteSays header marker (runs.framesRead header marker slots) (length slots) ≡ Done)
     × (runs.runOf header marker (runs.framesRead header marker slots) ≡ slots)
 
 -- So two different sets of frames never give one buffer.
 abbrev pub RunOne : Type 0
 RunOne =
-    (header marker a b : List ℕ) (n m : ℕ) → Bytes a → Bytes b → runs.writeSays header marker a n ≡ Done → runs.writeSays header marker b m ≡ Done
+    (header marker a b : List ℕ) (n m : ℕ) → Bytes a → Bytes b → runWriteSays header marker a n ≡ Done → runWriteSays header marker b m ≡ Done
     → runs.runOf header marker a ≡ runs.runOf header marker b → a ≡ b
 
 -- The same of the slices that two calls in a row are lent: what `run_write` leaves in the slots, `run_read` turns back into the frames.
 abbrev pub RunThereAndBack : Type 0
 RunThereAndBack =
-    (header marker frames slots back : List ℕ) → Bytes frames → runs.writeSays header marker frames (length slots) ≡ Done → length back ≡ length frames
+    (header marker frames slots back : List ℕ) → Bytes frames → runWriteSays header marker frames (length slots) ≡ Done → length back ≡ length frames
     → framesAfter header marker (slotsAfter header marker frames slots) back ≡ frames
 
 -- ---- words
@@ -143,34 +144,34 @@ SpareZeroIs =
 -- If a block is written to a word, the reader accepts that word and returns that block: its k bits, with spare bits of 0.
 abbrev pub WordWrittenRead : Type 0
 WordWrittenRead =
-    (rate : ℕ) (block : List ℕ) → words.writeSays rate block wordBytes ≡ Done
-    → (words.readSays rate (words.wordOf rate block) (length block) ≡ Done)
+    (rate : ℕ) (block : List ℕ) → wordWriteSays rate block wordBytes ≡ Done
+    → (wordReadSays rate (words.wordOf rate block) (length block) ≡ Done)
     × words.SameBits rate (words.blockIn rate (words.wordOf rate block)) block
     × words.SpareZero rate (words.blockIn rate (words.wordOf rate block))
 
 -- Where its spare bits were 0, that is every byte of it.
 abbrev pub WordWhole : Type 0
 WordWhole =
-    (rate : ℕ) (block : List ℕ) → Bytes block → words.writeSays rate block wordBytes ≡ Done → words.SpareZero rate block
+    (rate : ℕ) (block : List ℕ) → Bytes block → wordWriteSays rate block wordBytes ≡ Done → words.SpareZero rate block
     → words.blockIn rate (words.wordOf rate block) ≡ block
 
 -- If the reader accepts a word with some block, the writer writes that very word for that block.
 abbrev pub WordReadWritten : Type 0
 WordReadWritten =
-    (rate : ℕ) (word : List ℕ) (n : ℕ) → Bytes word → words.readSays rate word n ≡ Done
-    → (words.writeSays rate (words.blockIn rate word) (length word) ≡ Done)
+    (rate : ℕ) (word : List ℕ) (n : ℕ) → Bytes word → wordReadSays rate word n ≡ Done
+    → (wordWriteSays rate (words.blockIn rate word) (length word) ≡ Done)
     × (words.wordOf rate (words.blockIn rate word) ≡ word)
 
 -- So two blocks of one rate that differ in one of the k bits never give one word.
 abbrev pub WordOne : Type 0
 WordOne =
-    (rate : ℕ) (a b : List ℕ) → words.writeSays rate a wordBytes ≡ Done → words.writeSays rate b wordBytes ≡ Done
+    (rate : ℕ) (a b : List ℕ) → wordWriteSays rate a wordBytes ≡ Done → wordWriteSays rate b wordBytes ≡ Done
     → words.wordOf rate a ≡ words.wordOf rate b → words.SameBits rate a b
 
 -- The same of the lent slices.
 abbrev pub WordThereAndBack : Type 0
 WordThereAndBack =
-    (rate : ℕ) (block word back : List ℕ) → words.writeSays rate block (length word) ≡ Done → length back ≡ length block
+    (rate : ℕ) (block word back : List ℕ) → wordWriteSays rate block (length word) ≡ Done → length back ≡ length block
     → words.SameBits rate (blockAfter rate (wordAfter rate block word) back) block
     × words.SpareZero rate (blockAfter rate (wordAfter rate block word) back)
 

@@ -88,8 +88,8 @@ MarkerEdges =
     × (headerSays (0x08 ∷ 0x04 ∷ 0x02 ∷ 0x00 ∷ 0x20 ∷ 0x01 ∷ 0x04 ∷ 0x00 ∷ 0x00 ∷ 0x00 ∷ []) ≡ No 7 0)
 
 -- the first no gives the number: all fields wrong and a spare bit set, and then one after another put right
-abbrev pub FirstNo : Type 0
-FirstNo =
+abbrev pub NumbersInOrder : Type 0
+NumbersInOrder =
     (headerSays (0xE4 ∷ 0x00 ∷ 0x28 ∷ 0x00 ∷ 0x00 ∷ 0x00 ∷ 0x30 ∷ 0x00 ∷ 0x00 ∷ 0x01 ∷ []) ≡ No 1 0)
     × (headerSays (0xE4 ∷ 0x00 ∷ 0x28 ∷ 0x00 ∷ 0x00 ∷ 0x00 ∷ 0x30 ∷ 0x00 ∷ 0x00 ∷ 0x00 ∷ []) ≡ No 2 0)
     × (headerSays (0x24 ∷ 0x00 ∷ 0x28 ∷ 0x00 ∷ 0x00 ∷ 0x00 ∷ 0x30 ∷ 0x00 ∷ 0x00 ∷ 0x00 ∷ []) ≡ No 3 0)
@@ -140,7 +140,7 @@ pub record Edges : Type 0 where
   pub multiple-edges : MultipleEdges
   pub frame-edges : FrameEdges
   pub marker-edges : MarkerEdges
-  pub first-no : FirstNo
+  pub first-no : NumbersInOrder
   pub factors-all : FactorsAll
   pub example-lengths : ExampleLengths
   pub other-lengths : OtherLengths

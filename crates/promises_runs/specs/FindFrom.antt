@@ -16,7 +16,7 @@ use Rattle.header.specs.Header.{fieldsOf}
 use Rattle.header_sizes.specs.Quantities.{markerBytes}
 use Rattle.header_questions.specs.Questions.{runSays}
 use Rattle.plan.specs.Plan.{planIn}
-use Rattle.run.specs.Run as runs
+use Rattle.run.specs.Run.{runWriteSays}
 use Rattle.capture_search.specs.Search.{firstFitFrom, markerSlots, findFromSays, findFromCode, findCode, MarkerAt}
 use Rattle.capture_cut.specs.Cut.{RunAt}
 
@@ -70,7 +70,7 @@ FoundBetween =
 -- a run that begins at slot s, each symbol sent once, is found from any slot up to s from which no earlier one fits
 abbrev pub RunFoundFrom : Type 0
 RunFoundFrom =
-    (header marker frames : List ℕ) (n : ℕ) → runs.writeSays header marker frames n ≡ Done
+    (header marker frames : List ℕ) (n : ℕ) → runWriteSays header marker frames n ≡ Done
     → (capture : List ℕ) (from s : ℕ) → length capture ≤ 2 ^ 53 → RunAt header marker frames capture s → fieldsOf header .copies ≡ 1 → from ≤ s
     → ((x : ℕ) → from ≤ x → x < s → MarkerAt header marker capture x → ⊥)
     → findFromCode header marker capture from ≡ s * 256

@@ -20,15 +20,17 @@ use Rattle.sizes.specs.Sizes.{infoBits, blockBytes}
 use Rattle.crc.specs.Check.{register}
 use Rattle.convolution.specs.Code.{encode, decode}
 use Rattle.word.specs.Word as words
-use Rattle.pass.specs.Pass as passes
+use Rattle.word.specs.Word.{wordReadSays}
+use Rattle.pass.specs.Pass.{passReadSays}
 use Rattle.header.specs.Header.{fieldsOf}
 use Rattle.header.specs.declared.Fields.{Fields}
 use Rattle.header_sizes.specs.Quantities.{blockCount, symbolCount, slotCount}
 use Rattle.plan.specs.Lengths.{callSays}
 use Rattle.pool.specs.Pooled.{pooled}
-use Rattle.run.specs.Run as runs
+use Rattle.run.specs.Run.{runReadSays}
 use Rattle.ldpc.specs.Code.{parityBit}
 use Rattle.uplink.specs.Uplink as uplinks
+use Rattle.uplink.specs.Uplink.{uplinkReadSays}
 
 -- ---- "names the first that fails"
 
@@ -56,8 +58,8 @@ abbrev pub symbolRead : Fields → List ℕ → ℕ → ℕ
 symbolRead f slots s = pooled slots (f .copies) (2 ^ f .bits + 2 ^ f .bits / 4) (2 ^ f .bits) s
 
 -- 9: the spare bits behind the last slot are 0
-abbrev pub SpareZero : Fields → List ℕ → Type 0
-SpareZero f slots = (x : ℕ) → slotCount f ≤ x → x < 8 * length slots → bitAt slots x ≡ 0
+abbrev pub SpareSlotsZero : Fields → List ℕ → Type 0
+SpareSlotsZero f slots = (x : ℕ) → slotCount f ≤ x → x < 8 * length slots → bitAt slots x ≡ 0
 
 -- 10: the copies of symbol s decide on one of the first M slots
 abbrev pub Decided : Fields → List ℕ → ℕ → Type 0
@@ -87,19 +89,19 @@ abbrev pub wordRead : Fields → List ℕ → ℕ → List ℕ
 wordRead f slots j = bytesOf 1890 (λ y. dataRead f slots (j * perWord f + y / f .bits) / 2 ^ (f .bits - 1 - y % f .bits) % 2)
 
 -- 13 to 15: what the word reader says of word j
-abbrev pub wordSays : Fields → List ℕ → ℕ → Answer
-wordSays f slots j = words.readSays (f .rate) (wordRead f slots j) (blockBytes (f .rate))
+abbrev pub wordAnswer : Fields → List ℕ → ℕ → Answer
+wordAnswer f slots j = wordReadSays (f .rate) (wordRead f slots j) (blockBytes (f .rate))
 
 abbrev pub WordGood : Fields → List ℕ → ℕ → Type 0
-WordGood f slots j = wordSays f slots j ≡ Done
+WordGood f slots j = wordAnswer f slots j ≡ Done
 
 -- the stream: bit x is bit x mod k of the block in word x / k
 abbrev pub streamRead : Fields → List ℕ → ℕ → ℕ
 streamRead f slots x = bitAt (words.blockIn (f .rate) (wordRead f slots (x / infoBits (f .rate)))) (x % infoBits (f .rate))
 
 -- 16: 1ACFFC1D stands before frame j, the first bit highest; a frame with its marker is 32 + 8 F bits
-abbrev pub Marked : Fields → List ℕ → ℕ → Type 0
-Marked f slots j = (r : ℕ) → r < 32 → streamRead f slots (j * (32 + 8 * f .size) + r) ≡ 0x1ACFFC1D / 2 ^ (31 - r) % 2
+abbrev pub FrameMarked : Fields → List ℕ → ℕ → Type 0
+FrameMarked f slots j = (r : ℕ) → r < 32 → streamRead f slots (j * (32 + 8 * f .size) + r) ≡ 0x1ACFFC1D / 2 ^ (31 - r) % 2
 
 -- 18: all bits behind the A frames are 0, up to the end of the C blocks of k bits
 abbrev pub FillZero : Fields → List ℕ → Type 0
@@ -108,7 +110,7 @@ FillZero f slots = (x : ℕ) → f .frames * (32 + 8 * f .size) ≤ x → x < bl
 -- ---- "10, 11 and 12 each run over the whole buffer. 13 to 15 are put to one word after another": what has been answered yes before each of them
 
 abbrev pub Before10 : List ℕ → List ℕ → List ℕ → ℕ → Type 0
-Before10 header marker slots n = (callSays header marker n (length slots) ≡ Done) × SpareZero (fieldsOf header) slots
+Before10 header marker slots n = (callSays header marker n (length slots) ≡ Done) × SpareSlotsZero (fieldsOf header) slots
 
 abbrev pub Before11 : List ℕ → List ℕ → List ℕ → ℕ → Type 0
 Before11 header marker slots n = Before10 header marker slots n × AllYes (symbolCount (fieldsOf header)) (Decided (fieldsOf header) slots)
@@ -123,14 +125,14 @@ abbrev pub Before16 : List ℕ → List ℕ → List ℕ → ℕ → Type 0
 Before16 header marker slots n = Before13 header marker slots n × AllYes (blockCount (fieldsOf header)) (WordGood (fieldsOf header) slots)
 
 abbrev pub Before18 : List ℕ → List ℕ → List ℕ → ℕ → Type 0
-Before18 header marker slots n = Before16 header marker slots n × AllYes (fieldsOf header .frames) (Marked (fieldsOf header) slots)
+Before18 header marker slots n = Before16 header marker slots n × AllYes (fieldsOf header .frames) (FrameMarked (fieldsOf header) slots)
 
 -- ---- "the symbol (markers counted) for 10 to 12"
 
 abbrev pub PlaceOf10 : Type 0
 PlaceOf10 =
     (header marker slots : List ℕ) (n p : ℕ)
-    → Exactly (runs.readSays header marker slots n ≡ No 10 p)
+    → Exactly (runReadSays header marker slots n ≡ No 10 p)
     (Before10 header marker slots n × FirstNo (symbolCount (fieldsOf header)) (Decided (fieldsOf header) slots) p)
 
 -- and with one copy: exactly one pulse in the symbol's M + M/4 slots, among the first M
@@ -141,19 +143,19 @@ OnePulse f slots s =
 abbrev pub PlaceOf10Once : Type 0
 PlaceOf10Once =
     (header marker slots : List ℕ) (n p : ℕ) → fieldsOf header .copies ≡ 1
-    → Exactly (runs.readSays header marker slots n ≡ No 10 p)
+    → Exactly (runReadSays header marker slots n ≡ No 10 p)
     (Before10 header marker slots n × FirstNo (symbolCount (fieldsOf header)) (OnePulse (fieldsOf header) slots) p)
 
 abbrev pub PlaceOf11 : Type 0
 PlaceOf11 =
     (header marker slots : List ℕ) (n p : ℕ)
-    → Exactly (runs.readSays header marker slots n ≡ No 11 p)
+    → Exactly (runReadSays header marker slots n ≡ No 11 p)
     (Before11 header marker slots n × FirstNo (symbolCount (fieldsOf header)) (MarkerRight (fieldsOf header) marker slots) p)
 
 abbrev pub PlaceOf12 : Type 0
 PlaceOf12 =
     (header marker slots : List ℕ) (n p : ℕ)
-    → Exactly (runs.readSays header marker slots n ≡ No 12 p)
+    → Exactly (runReadSays header marker slots n ≡ No 12 p)
     (Before12 header marker slots n × FirstNo (symbolCount (fieldsOf header)) (UnhitZero (fieldsOf header) slots) p)
 
 -- ---- "the word in a run call for 13 to 15"
@@ -161,29 +163,29 @@ PlaceOf12 =
 abbrev pub PlaceOf13To15 : Type 0
 PlaceOf13To15 =
     (header marker slots : List ℕ) (n number p : ℕ) → 13 ≤ number → number ≤ 15
-    → Exactly (runs.readSays header marker slots n ≡ No number p)
-    (Before13 header marker slots n × FirstRefused (blockCount (fieldsOf header)) (wordSays (fieldsOf header) slots) number p)
+    → Exactly (runReadSays header marker slots n ≡ No number p)
+    (Before13 header marker slots n × FirstRefused (blockCount (fieldsOf header)) (wordAnswer (fieldsOf header) slots) number p)
 
 -- ---- "the frame for 16"
 
 abbrev pub PlaceOf16 : Type 0
 PlaceOf16 =
     (header marker slots : List ℕ) (n p : ℕ)
-    → Exactly (runs.readSays header marker slots n ≡ No 16 p)
-    (Before16 header marker slots n × FirstNo (fieldsOf header .frames) (Marked (fieldsOf header) slots) p)
+    → Exactly (runReadSays header marker slots n ≡ No 16 p)
+    (Before16 header marker slots n × FirstNo (fieldsOf header .frames) (FrameMarked (fieldsOf header) slots) p)
 
 -- ---- "otherwise 0": 9, the spare bits, and 18, the fill
 
 abbrev pub SpareIs9 : Type 0
 SpareIs9 =
     (header marker slots : List ℕ) (n p : ℕ)
-    → Exactly (runs.readSays header marker slots n ≡ No 9 p)
-    ((callSays header marker n (length slots) ≡ Done) × (SpareZero (fieldsOf header) slots → ⊥) × (p ≡ 0))
+    → Exactly (runReadSays header marker slots n ≡ No 9 p)
+    ((callSays header marker n (length slots) ≡ Done) × (SpareSlotsZero (fieldsOf header) slots → ⊥) × (p ≡ 0))
 
 abbrev pub FillIs18 : Type 0
 FillIs18 =
     (header marker slots : List ℕ) (n p : ℕ)
-    → Exactly (runs.readSays header marker slots n ≡ No 18 p)
+    → Exactly (runReadSays header marker slots n ≡ No 18 p)
     (Before18 header marker slots n × (FillZero (fieldsOf header) slots → ⊥) × (p ≡ 0))
 
 -- ---- "the first wrong coded bit for 13 in a word call"
@@ -210,38 +212,38 @@ CheckRight rate word = val (λ i. inputRead rate word (infoBits rate + i)) 32 �
 abbrev pub WordPlaceOf13 : Type 0
 WordPlaceOf13 =
     (rate : ℕ) (word : List ℕ) (n p : ℕ)
-    → Exactly (words.readSays rate word n ≡ No 13 p) (WordAsked rate word n × FirstNo 15120 (CodedRight rate word) p)
+    → Exactly (wordReadSays rate word n ≡ No 13 p) (WordAsked rate word n × FirstNo 15120 (CodedRight rate word) p)
 
 abbrev pub WordIs14 : Type 0
 WordIs14 =
     (rate : ℕ) (word : List ℕ) (n p : ℕ)
-    → Exactly (words.readSays rate word n ≡ No 14 p)
+    → Exactly (wordReadSays rate word n ≡ No 14 p)
     (WordAsked rate word n × AllYes 15120 (CodedRight rate word) × (Terminated rate word → ⊥) × (p ≡ 0))
 
 abbrev pub WordIs15 : Type 0
 WordIs15 =
     (rate : ℕ) (word : List ℕ) (n p : ℕ)
-    → Exactly (words.readSays rate word n ≡ No 15 p)
+    → Exactly (wordReadSays rate word n ≡ No 15 p)
     (WordAsked rate word n × AllYes 15120 (CodedRight rate word) × Terminated rate word × (CheckRight rate word → ⊥) × (p ≡ 0))
 
 -- worked values: the word that has bit 2 alone is refused with 13 at coded bit 861, 862 and 861, and the word of zeros with 15 at every rate
 abbrev pub ReadBitTwo : Type 0
 ReadBitTwo =
-    (words.readSays 0 (bytesOf 1890 (λ y. bool (eqb y 2))) 626 ≡ No 13 861)
-    × (words.readSays 1 (bytesOf 1890 (λ y. bool (eqb y 2))) 941 ≡ No 13 862)
-    × (words.readSays 2 (bytesOf 1890 (λ y. bool (eqb y 2))) 1256 ≡ No 13 861)
+    (wordReadSays 0 (bytesOf 1890 (λ y. bool (eqb y 2))) 626 ≡ No 13 861)
+    × (wordReadSays 1 (bytesOf 1890 (λ y. bool (eqb y 2))) 941 ≡ No 13 862)
+    × (wordReadSays 2 (bytesOf 1890 (λ y. bool (eqb y 2))) 1256 ≡ No 13 861)
 
-abbrev pub ReadZeros : Type 0
-ReadZeros = (rate : ℕ) → rate < 3 → words.readSays rate (bytesOf 1890 (λ y. 0)) (blockBytes rate) ≡ No 15 0
+abbrev pub ZeroWordRefused : Type 0
+ZeroWordRefused = (rate : ℕ) → rate < 3 → wordReadSays rate (bytesOf 1890 (λ y. 0)) (blockBytes rate) ≡ No 15 0
 
 -- ---- a pass (Card 4): "the refusal number of the lowest such block, with the block's index as place. The same is wanted for reading."
 
 abbrev pub PassPlace : Type 0
 PassPlace =
     (rate : ℕ) (slice : List ℕ) (m n number p : ℕ) → n ≡ length slice / 1890 → 13 ≤ number → number ≤ 15
-    → Exactly (passes.readSays rate slice m ≡ No number p)
+    → Exactly (passReadSays rate slice m ≡ No number p)
     ((rate < 3) × (1 ≤ n) × (n ≤ 211) × (m ≡ n * blockBytes rate) × (length slice ≡ n * 1890)
-    × FirstRefused n (λ j. words.readSays rate (piece 1890 slice j) (blockBytes rate)) number p)
+    × FirstRefused n (λ j. wordReadSays rate (piece 1890 slice j) (blockBytes rate)) number p)
 
 -- ---- the uplink (Card 14): "28 for a group that is no bit, with its place, after 9; then 29 for a failed parity check, with its codeblock"
 
@@ -258,12 +260,12 @@ ParityRight slots i = (t : ℕ) → t < 64 → uplinks.received slots i (64 + t)
 abbrev pub PlaceOf28 : Type 0
 PlaceOf28 =
     (slots : List ℕ) (m n p : ℕ) → n ≡ length slots / 64
-    → Exactly (uplinks.readSays slots m ≡ No 28 p) (UplinkAsked slots m n × FirstNo (128 * n) (GroupRight slots) p)
+    → Exactly (uplinkReadSays slots m ≡ No 28 p) (UplinkAsked slots m n × FirstNo (128 * n) (GroupRight slots) p)
 
 abbrev pub PlaceOf29 : Type 0
 PlaceOf29 =
     (slots : List ℕ) (m n p : ℕ) → n ≡ length slots / 64
-    → Exactly (uplinks.readSays slots m ≡ No 29 p) (UplinkAsked slots m n × AllYes (128 * n) (GroupRight slots) × FirstNo n (ParityRight slots) p)
+    → Exactly (uplinkReadSays slots m ≡ No 29 p) (UplinkAsked slots m n × AllYes (128 * n) (GroupRight slots) × FirstNo n (ParityRight slots) p)
 
 -- ---- what is promised, all of it: the contract of `places`
 pub record Places : Type 0 where
@@ -279,7 +281,7 @@ pub record Places : Type 0 where
   pub word-is-14 : WordIs14
   pub word-is-15 : WordIs15
   pub read-bit-two : ReadBitTwo
-  pub read-zeros : ReadZeros
+  pub read-zeros : ZeroWordRefused
   pub pass-place : PassPlace
   pub place-of-28 : PlaceOf28
   pub place-of-29 : PlaceOf29

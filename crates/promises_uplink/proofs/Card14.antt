@@ -12,11 +12,11 @@ use Rattle.randomizer.specs.Randomizer.{randomize}
 use Rattle.ldpc.specs.Code.{rows, rowBit, parityBit}
 use Rattle.ldpc.proofs.Laws.Code.{codeword-first, codeword-behind}
 use Rattle.ldpc.proofs.Laws.Exactly as code-laws
-use Rattle.uplink.specs.Uplink.{sent, slotOf, frameCount, blockCount, slotsOf, received, framesOf, uplinkLengthsRight, firstBadGroup, firstBadBlock, writeSays, uplinkSlotsSay, readSays, uplinkSlotsAfter, uplinkFramesAfter}
+use Rattle.uplink.specs.Uplink.{sentBit, slotOf, frameCount, codeblockCount, uplinkSlotsOf, received, uplinkFramesOf, uplinkLengthsRight, firstNoBit, firstBadBlock, uplinkWriteSays, uplinkSlotsSay, uplinkReadSays, uplinkSlotsAfter, uplinkFramesAfter}
 use Rattle.uplink.proofs.Laws.Uplink as slot-laws
 use Rattle.uplink.proofs.Laws.Return as uplink-laws
 use Rattle.uplink.proofs.Laws.Exports as answer-laws
-use Rattle.promises_uplink.specs.Card14.{FrameFirst, ParityBehind, ParityIs, CodewordsExactly, SlotIs, GuardsEmpty, SlotsLong, CodeblockAlone, WriterAsks, ReaderAsks, AlwaysWritten, ReceivedIs, BitIs, BadGroup, BadCodeblock, AcceptedExactly, WriterNumbers, ReaderNumbers, UplinkWriteNot17, UplinkReadNot17, WrittenRead, ReadWritten, UplinkBytes, UplinkOne, ThereAndBack, BackAndThere, RefusedWrite, RefusedRead}
+use Rattle.promises_uplink.specs.Card14.{FrameFirst, ParityBehind, ParityIs, CodewordsExactly, UplinkSlotIs, GuardsEmpty, SlotsLong, CodeblockAlone, WriterAsks, ReaderAsks, AlwaysWritten, ReceivedIs, GroupIsBit, BadGroup, BadCodeblock, AcceptedExactly, UplinkWriterNumbers, UplinkReaderNumbers, UplinkWriteNot17, UplinkReadNot17, WrittenRead, ReadWritten, UplinkBytes, UplinkOne, ThereAndBack, BackAndThere, RefusedWrite, RefusedRead}
 
 pub frame-first : FrameFirst
 frame-first = codeword-first
@@ -33,7 +33,7 @@ parity-is u t = refl
 pub codewords-exactly : CodewordsExactly
 codewords-exactly = code-laws.codewords-exactly
 
-pub slot-is : SlotIs
+pub slot-is : UplinkSlotIs
 slot-is = uplink-laws.slot-is
 
 pub guards-empty : GuardsEmpty
@@ -46,11 +46,11 @@ pub codeblock-alone : CodeblockAlone
 codeblock-alone = uplink-laws.each-alone
 
 pub writer-asks : WriterAsks
-unfolding writeSays uplinkLengthsRight
+unfolding uplinkWriteSays uplinkLengthsRight
 writer-asks frames m n e = rw e refl
 
 pub reader-asks : ReaderAsks
-unfolding readSays uplinkSlotsSay uplinkLengthsRight firstBadGroup firstBadBlock
+unfolding uplinkReadSays uplinkSlotsSay uplinkLengthsRight firstNoBit firstBadBlock
 reader-asks slots m n e = rw e refl
 
 pub always-written : AlwaysWritten
@@ -60,7 +60,7 @@ pub received-is : ReceivedIs
 unfolding received randomize
 received-is slots i j = refl
 
-pub bit-is : BitIs
+pub bit-is : GroupIsBit
 bit-is = uplink-laws.bit-is
 
 pub bad-group : BadGroup
@@ -72,10 +72,10 @@ bad-codeblock slots m p e = let b = answer-laws.bad-block slots m p e in (omega 
 pub accepted-exactly : AcceptedExactly
 accepted-exactly = uplink-laws.accepted-exactly
 
-pub writer-numbers : WriterNumbers
+pub writer-numbers : UplinkWriterNumbers
 writer-numbers = answer-laws.write-numbers
 
-pub reader-numbers : ReaderNumbers
+pub reader-numbers : UplinkReaderNumbers
 reader-numbers = answer-laws.read-numbers
 
 pub uplink-write-not-17 : UplinkWriteNot17
@@ -91,31 +91,31 @@ pub read-written : ReadWritten
 read-written = uplink-laws.read-written
 
 pub uplink-bytes : UplinkBytes
-unfolding slotsOf framesOf
+unfolding uplinkSlotsOf uplinkFramesOf
 uplink-bytes xs = (
-  bytes-are (64 * frameCount xs) (slotOf (sent xs)) (slot-laws.slot-bits (sent xs)),
-  bytes-are (8 * blockCount xs) (λ y. received xs (y / 64) (y % 64)) (λ y. slot-laws.received-bits xs (y / 64) (y % 64)),
+  bytes-are (64 * frameCount xs) (slotOf (sentBit xs)) (slot-laws.slot-bits (sentBit xs)),
+  bytes-are (8 * codeblockCount xs) (λ y. received xs (y / 64) (y % 64)) (λ y. slot-laws.received-bits xs (y / 64) (y % 64)),
 )
 
 pub uplink-one : UplinkOne
-uplink-one a b m n ha hb wa wb e = sym (written-read a m ha wa .1) ∙ ap framesOf e ∙ written-read b n hb wb .1
+uplink-one a b m n ha hb wa wb e = sym (written-read a m ha wa .1) ∙ ap uplinkFramesOf e ∙ written-read b n hb wb .1
 
 pub there-and-back : ThereAndBack
 there-and-back frames slots back b w e =
     let r = written-read frames (length slots) b w in
-    let written : uplinkSlotsAfter frames slots ≡ slotsOf frames = ap (λ (a : Answer). after a (slotsOf frames) slots) w in
-    let said : readSays (slotsOf frames) (length back) ≡ Done = ap (readSays (slotsOf frames)) e ∙ r .0 in
-    ap (λ (s : List ℕ). uplinkFramesAfter s back) written ∙ ap (λ (a : Answer). after a (framesOf (slotsOf frames)) back) said ∙ r .1
+    let written : uplinkSlotsAfter frames slots ≡ uplinkSlotsOf frames = ap (λ (a : Answer). after a (uplinkSlotsOf frames) slots) w in
+    let said : uplinkReadSays (uplinkSlotsOf frames) (length back) ≡ Done = ap (uplinkReadSays (uplinkSlotsOf frames)) e ∙ r .0 in
+    ap (λ (s : List ℕ). uplinkFramesAfter s back) written ∙ ap (λ (a : Answer). after a (uplinkFramesOf (uplinkSlotsOf frames)) back) said ∙ r .1
 
 pub back-and-there : BackAndThere
 back-and-there slots frames again b w e =
     let r = read-written slots (length frames) b w in
-    let read : uplinkFramesAfter slots frames ≡ framesOf slots = ap (λ (a : Answer). after a (framesOf slots) frames) w in
-    let said : writeSays (framesOf slots) (length again) ≡ Done = ap (writeSays (framesOf slots)) e ∙ r .0 in
-    ap (λ (f : List ℕ). uplinkSlotsAfter f again) read ∙ ap (λ (a : Answer). after a (slotsOf (framesOf slots)) again) said ∙ r .1
+    let read : uplinkFramesAfter slots frames ≡ uplinkFramesOf slots = ap (λ (a : Answer). after a (uplinkFramesOf slots) frames) w in
+    let said : uplinkWriteSays (uplinkFramesOf slots) (length again) ≡ Done = ap (uplinkWriteSays (uplinkFramesOf slots)) e ∙ r .0 in
+    ap (λ (f : List ℕ). uplinkSlotsAfter f again) read ∙ ap (λ (a : Answer). after a (uplinkSlotsOf (uplinkFramesOf slots)) again) said ∙ r .1
 
 pub refused-write : RefusedWrite
-refused-write frames old number place e = ap (λ (a : Answer). after a (slotsOf frames) old) e
+refused-write frames old number place e = ap (λ (a : Answer). after a (uplinkSlotsOf frames) old) e
 
 pub refused-read : RefusedRead
-refused-read slots old number place e = ap (λ (a : Answer). after a (framesOf slots) old) e
+refused-read slots old number place e = ap (λ (a : Answer). after a (uplinkFramesOf slots) old) e

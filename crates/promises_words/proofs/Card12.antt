@@ -5,7 +5,7 @@ use Rattle.randomizer.specs.Randomizer.{randomize}
 use Rattle.word.proofs.Laws.Checks as law-of-checks
 use Rattle.word.proofs.Laws.Exports as word-laws
 use Rattle.word.proofs.Laws.Word as step-laws
-use Rattle.promises_words.specs.Card12.{ChecksDiffer, CheckFinds, WordIs, TakenInIs, CarriedOnIs, BlockFirst, FieldBehind}
+use Rattle.promises_words.specs.Card12.{ChecksDiffer, CheckFinds, WordCarriedOn, TakenInIs, CarriedOnIs, BlockFirst, FieldBehind}
 
 pub checks-differ : ChecksDiffer
 checks-differ = law-of-checks.checks-differ
@@ -13,7 +13,7 @@ checks-differ = law-of-checks.checks-differ
 pub check-finds : CheckFinds
 check-finds = law-of-checks.check-finds
 
-pub word-is : WordIs
+pub word-is : WordCarriedOn
 word-is = word-laws.word-carried
 
 pub taken-in-is : TakenInIs

@@ -16,7 +16,7 @@ use Rattle.word.specs.Word.{codedOf, wordOf, codedIn}
 use Rattle.spread.specs.Spread.{changes, zeroBlock, spreadOf, spreadSays}
 use Rattle.spread.proofs.Laws.Few.{limit}
 use Rattle.spread.proofs.Laws.Spread as law-of-spread
-use Rattle.promises_words.specs.Card13.{apartCoded, apartOut, BitChanged, Few, FewTakenOut, Marked, MarkedTakenOut, SpreadAsks, SpreadGiven, RefusedSpread}
+use Rattle.promises_words.specs.Card13.{apartCoded, apartOut, BitChanged, Few, FewTakenOut, PlacesMarked, MarkedTakenOut, SpreadAsks, SpreadGiven, RefusedSpread}
 
 -- a bit that is the sum of two is 1 exactly where they are not the same
 one-where-apart : (m x y : ℕ) → m < 2 → m ≡ bitXor x y → (m ≡ 1 → x ≡ y → ⊥) × ((x ≡ y → ⊥) → m ≡ 1)
@@ -40,7 +40,7 @@ few-taken-out rate block bit h size l =
     let d : apartOut rate block (flipBit block bit) ≤ limit rate = law-of-spread.few-taken-out rate bit h l block size in
     (λ e. omega (arith, d, ap limit e), λ e. omega (arith, d, ap limit e), λ e. omega (arith, d, ap limit e))
 
-pub marked : Marked
+pub marked : PlacesMarked
 unfolding changes
 marked rate block bit h size l j u = one-where-apart (bitAt (spreadOf rate bit) j) (codedOf rate block j) (codedOf rate (flipBit block bit) j) (bit-lt (spreadOf rate bit) j) (law-of-spread.every-block rate bit h l block size j u)
 

@@ -21,8 +21,8 @@ use Rattle.randomizer.specs.Randomizer.{randomize}
 use Rattle.randomizer.proofs.Laws.Randomizer.{sequence-start, sequence-later}
 use Rattle.word.proofs.Laws.Word as word-laws
 use Rattle.stream_writer.proofs.Laws.Stream as streams-laws
-use Rattle.stream_reader.specs.Frames.{marked}
-use Rattle.promises_words.specs.Card3.{WordIsMade, RandomizedIs, SequenceIs, RegisterIs, CheckedIs, TerminatedIs, CodeIs, InterleavedIs, AccumulatedIs, CodedTakenOut, BlockTakenOut, CodedBitIs, DecodedIs, MarkedFrame, OneMarkedFrame, Question16, earlier, first, second}
+use Rattle.stream_reader.specs.Frames.{frameMarked}
+use Rattle.promises_words.specs.Card3.{WordIsMade, RandomizedIs, SequenceIs, RegisterIs, CheckedIs, TerminatedIs, CodeIs, InterleavedIs, AccumulatedIs, CodedTakenOut, BlockTakenOut, CodedBitIs, DecodedIs, MarkedFrame, OneMarkedFrame, Question16, earlier, firstOutput, secondOutput}
 
 pub word-is-made : WordIsMade
 word-is-made = word-laws.word-steps
@@ -67,11 +67,11 @@ before-two x (suc (suc i)) =
     rw (le-ltb (suc (suc i)) 2 h, e) refl
 
 -- the outputs
-first-is : (x : ℕ → ℕ) (i : ℕ) → code.first x i ≡ first x i
+first-is : (x : ℕ → ℕ) (i : ℕ) → code.first x i ≡ firstOutput x i
 unfolding code.first
 first-is x i = ap (bitXor (x i)) (before-two x i)
 
-second-is : (x : ℕ → ℕ) (i : ℕ) → code.second x i ≡ second x i
+second-is : (x : ℕ → ℕ) (i : ℕ) → code.second x i ≡ secondOutput x i
 unfolding code.second
 second-is x i = ap₂ (λ (a b : ℕ). bitXor (bitXor (x i) a) b) (before-one x i) (before-two x i)
 
@@ -130,7 +130,7 @@ second-back s (suc (suc i)) = around (s (suc (suc i))) (recover s (suc i)) (reco
         ∙ ap (λ (d : ℕ). bitXor d b) (xor-cancel-r (bitXor a b) c)
         ∙ xor-cancel-r a b
 
-decoded : (rate : ℕ) (c : ℕ → ℕ) (i at : ℕ) → at ≡ secondPlace rate i → c at ≡ second (decode rate c) i
+decoded : (rate : ℕ) (c : ℕ → ℕ) (i at : ℕ) → at ≡ secondPlace rate i → c at ≡ secondOutput (decode rate c) i
 unfolding decode
 decoded rate c i at e = ap c e ∙ sym (second-back (λ k. c (secondPlace rate k)) i) ∙ second-is (decode rate c) i
 
@@ -151,5 +151,5 @@ pub one-marked-frame : OneMarkedFrame
 one-marked-frame = streams-laws.one-frame
 
 pub question-16 : Question16
-unfolding marked
+unfolding frameMarked
 question-16 size stream j = refl

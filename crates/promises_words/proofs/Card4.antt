@@ -8,16 +8,17 @@ use Rattle.answers.specs.declared.Answer.{Answer}
 use Rattle.answers.specs.declared.Answer.the-variants.{No}
 use Rattle.sizes.specs.Sizes.{blockBytes}
 use Rattle.pass.specs.Pass as passes
+use Rattle.pass.specs.Pass.{passWordSays, passReadSays, passWriteSays}
 use Rattle.pass.proofs.Laws.Answers as answer-laws
 use Rattle.pass.proofs.Laws.Return as pass-laws
 use Rattle.promises_words.specs.Card4.{PassWriterAsks, PassReaderAsks, PassAccepted, PassLowest, PassWriterNumbers, PassReaderNumbers, PieceIs, PassWrittenSingly, PassReadSingly, RefusedPassWrite, RefusedPassRead, PassWrittenRead, PassWhole, PassBytes, PassReadWritten}
 
 pub pass-writer-asks : PassWriterAsks
-unfolding passes.writeSays passes.passLengthsRight
+unfolding passWriteSays passes.passLengthsRight
 pass-writer-asks rate blocks wordsLength n e = rw e refl
 
 pub pass-reader-asks : PassReaderAsks
-unfolding passes.readSays passes.passLengthsRight
+unfolding passReadSays passes.passLengthsRight
 pass-reader-asks rate slice blocksLength n e = rw e refl
 
 pub pass-accepted : PassAccepted
@@ -26,7 +27,7 @@ pass-accepted = answer-laws.write-all
 pub pass-lowest : PassLowest
 pass-lowest rate slice n blocksLength h some few eb ew j l before number place e =
     answer-laws.read-right rate slice n blocksLength h some few eb ew
-    ∙ answer-laws.order-lowest n j (passes.wordSays rate slice) l before (ap isDone e)
+    ∙ answer-laws.order-lowest n j (passWordSays rate slice) l before (ap isDone e)
     ∙ ap (λ (a : Answer). No (numberOf a) j) e
 
 pub pass-writer-numbers : PassWriterNumbers

@@ -1,6 +1,6 @@
 -- The proofs of card 7.
 use Rattle.word.proofs.Laws.Exports as word-laws
-use Rattle.promises_words.specs.Card7.{Disregarded, OneWord, WriterNumbers, ReaderNumbers, ReaderZeros}
+use Rattle.promises_words.specs.Card7.{Disregarded, OneWord, WordWriterNumbers, WordReaderNumbers, ReaderZeros}
 
 pub disregarded : Disregarded
 disregarded = word-laws.always-written
@@ -8,10 +8,10 @@ disregarded = word-laws.always-written
 pub one-word : OneWord
 one-word = word-laws.word-same
 
-pub writer-numbers : WriterNumbers
+pub writer-numbers : WordWriterNumbers
 writer-numbers = word-laws.write-numbers
 
-pub reader-numbers : ReaderNumbers
+pub reader-numbers : WordReaderNumbers
 reader-numbers = word-laws.read-numbers
 
 pub reader-zeros : ReaderZeros

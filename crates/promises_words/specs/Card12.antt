@@ -15,7 +15,7 @@ use Rattle.convolution.specs.Code.{terminated, encode}
 use Rattle.interleaver.specs.Interleaver.{interleave}
 use Rattle.accumulator.specs.Accumulator.{accumulate}
 use Rattle.randomizer.specs.Randomizer.{sequence}
-use Rattle.word.specs.Word.{takenIn, checkedBlock, checkField, carriedOn, wordOf, readSays}
+use Rattle.word.specs.Word.{takenIn, checkedBlock, checkField, carriedOn, wordOf, wordReadSays}
 
 -- "If two blocks of one rate differ, and only within 32 consecutive bits, their check fields differ." They differ in bit i, and the 32 begin with
 -- bit `start`, wherever that is.
@@ -35,13 +35,13 @@ CheckFinds =
     → ((j : ℕ) → j < infoBits rate + 32 → flips j ≡ true → (start ≤ j) × (j < start + 32))
     → (i : ℕ) → i < infoBits rate + 32 → flips i ≡ true
     → (n : ℕ) → n ≡ blockBytes rate
-    → readSays rate (carriedOn rate (λ j. bitXor (checkedBlock rate block j) (bool (flips j)))) n ≡ No 15 0
+    → wordReadSays rate (carriedOn rate (λ j. bitXor (checkedBlock rate block j) (bool (flips j)))) n ≡ No 15 0
 
 -- ---- both speak of the steps that make words
 
 -- the word of a block is the block, as step 2 took it in, followed by its check, and carried on from step 3
-abbrev pub WordIs : Type 0
-WordIs = (rate : ℕ) (block : List ℕ) → wordOf rate block ≡ carriedOn rate (checkedBlock rate block)
+abbrev pub WordCarriedOn : Type 0
+WordCarriedOn = (rate : ℕ) (block : List ℕ) → wordOf rate block ≡ carriedOn rate (checkedBlock rate block)
 
 -- what step 2 takes in is step 7 of the block: each bit plus that of the sequence
 abbrev pub TakenInIs : Type 0
@@ -63,7 +63,7 @@ FieldBehind = (rate : ℕ) (block : List ℕ) → val (λ t. checkedBlock rate b
 pub record Card12 : Type 0 where
   pub checks-differ : ChecksDiffer
   pub check-finds : CheckFinds
-  pub word-is : WordIs
+  pub word-is : WordCarriedOn
   pub taken-in-is : TakenInIs
   pub carried-on-is : CarriedOnIs
   pub block-first : BlockFirst

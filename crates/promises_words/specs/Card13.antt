@@ -49,8 +49,8 @@ FewTakenOut =
 
 -- "Give the changed places too, as 1,890 packed bytes with a 1 at each and at no other, from the rate and the block bit's number alone; by the
 -- sum rule the other bits don't matter." So of every block:
-abbrev pub Marked : Type 0
-Marked =
+abbrev pub PlacesMarked : Type 0
+PlacesMarked =
     (rate : ℕ) (block : List ℕ) (bit : ℕ) → rate < 3 → length block ≡ blockBytes rate → bit < infoBits rate
     → (j : ℕ) → j < 15120
     → (bitAt (spreadOf rate bit) j ≡ 1 → codedOf rate block j ≡ codedOf rate (flipBit block bit) j → ⊥)
@@ -88,7 +88,7 @@ pub record Card13 : Type 0 where
   pub bit-changed : BitChanged
   pub few : Few
   pub few-taken-out : FewTakenOut
-  pub marked : Marked
+  pub marked : PlacesMarked
   pub marked-taken-out : MarkedTakenOut
   pub spread-asks : SpreadAsks
   pub spread-given : SpreadGiven

@@ -19,7 +19,7 @@ use Rattle.accumulator.specs.Accumulator.{accumulate, differentiate}
 use Rattle.randomizer.specs.Randomizer.{sequence, randomize}
 use Rattle.word.specs.Word.{wordOf, codedIn, blockIn}
 use Rattle.stream_writer.specs.Stream as streams
-use Rattle.stream_reader.specs.Frames.{marked}
+use Rattle.stream_reader.specs.Frames.{frameMarked}
 
 -- "Step 7 moves ahead of step 2, restarts at each block, and the accumulator's output is the word": steps 7, 2, 3, 4, 5 and 6 of one block, whose
 -- bits get the sequence from its start, and nothing behind them.
@@ -61,18 +61,18 @@ TerminatedIs = (n : ℕ) (x : ℕ → ℕ) (i : ℕ) → (i < n → terminated n
 
 -- Step 4: outputs 1+D², 1+D+D², and 1+D+D² again. All three are kept at 1/3, the first two at 1/2. At 2/3 the first two are kept for bits 0, 2, 4 and so
 -- on, the second alone for the others.
-abbrev pub first : (ℕ → ℕ) → ℕ → ℕ
-first x i = bitXor (x i) (earlier 2 x i)
+abbrev pub firstOutput : (ℕ → ℕ) → ℕ → ℕ
+firstOutput x i = bitXor (x i) (earlier 2 x i)
 
-abbrev pub second : (ℕ → ℕ) → ℕ → ℕ
-second x i = bitXor (bitXor (x i) (earlier 1 x i)) (earlier 2 x i)
+abbrev pub secondOutput : (ℕ → ℕ) → ℕ → ℕ
+secondOutput x i = bitXor (bitXor (x i) (earlier 1 x i)) (earlier 2 x i)
 
 abbrev pub CodeIs : Type 0
 CodeIs =
     (x : ℕ → ℕ) (i : ℕ)
-    → (encode 0 x (3 * i) ≡ first x i) × (encode 0 x (3 * i + 1) ≡ second x i) × (encode 0 x (3 * i + 2) ≡ second x i)
-    × (encode 1 x (2 * i) ≡ first x i) × (encode 1 x (2 * i + 1) ≡ second x i)
-    × (encode 2 x (3 * i) ≡ first x (2 * i)) × (encode 2 x (3 * i + 1) ≡ second x (2 * i)) × (encode 2 x (3 * i + 2) ≡ second x (2 * i + 1))
+    → (encode 0 x (3 * i) ≡ firstOutput x i) × (encode 0 x (3 * i + 1) ≡ secondOutput x i) × (encode 0 x (3 * i + 2) ≡ secondOutput x i)
+    × (encode 1 x (2 * i) ≡ firstOutput x i) × (encode 1 x (2 * i + 1) ≡ secondOutput x i)
+    × (encode 2 x (3 * i) ≡ firstOutput x (2 * i)) × (encode 2 x (3 * i + 1) ≡ secondOutput x (2 * i)) × (encode 2 x (3 * i + 2) ≡ secondOutput x (2 * i + 1))
 
 -- Step 5: output place j takes coded bit (11j + 210j²) mod 15,120.
 abbrev pub InterleavedIs : Type 0
@@ -100,9 +100,9 @@ CodedBitIs = (word : List ℕ) (j : ℕ) → j < 15120 → codedIn word ((11 * j
 abbrev pub DecodedIs : Type 0
 DecodedIs =
     (c : ℕ → ℕ) (i : ℕ)
-    → (c (3 * i + 1) ≡ second (decode 0 c) i)
-    × (c (2 * i + 1) ≡ second (decode 1 c) i)
-    × (c (3 * (i / 2) + 1 + i % 2) ≡ second (decode 2 c) i)
+    → (c (3 * i + 1) ≡ secondOutput (decode 0 c) i)
+    × (c (2 * i + 1) ≡ secondOutput (decode 1 c) i)
+    × (c (3 * (i / 2) + 1 + i % 2) ≡ secondOutput (decode 2 c) i)
 
 -- "Marked frames are 8F + 32 bits long."
 abbrev pub MarkedFrame : Type 0
@@ -114,7 +114,7 @@ OneMarkedFrame = bytesOf 6 (streams.streamBit 1 1 (0xA4 ∷ [])) ≡ 0x1A ∷ 0x
 
 -- "Question 16 looks for the new marker", before frame j of F bytes each.
 abbrev pub Question16 : Type 0
-Question16 = (size : ℕ) (stream : ℕ → ℕ) (j : ℕ) → marked size stream j ≡ eqb (val (λ r. stream (j * (32 + 8 * size) + r)) 32) 0x1ACFFC1D
+Question16 = (size : ℕ) (stream : ℕ → ℕ) (j : ℕ) → frameMarked size stream j ≡ eqb (val (λ r. stream (j * (32 + 8 * size) + r)) 32) 0x1ACFFC1D
 
 -- ---- what is promised, all of it: the contract of `card_3`
 pub record Card3 : Type 0 where

@@ -14,22 +14,22 @@ use Rattle.bits.specs.Pack.{bitAt}
 use Rattle.answers.specs.Answer.{numberOf, among}
 use Rattle.answers.specs.declared.Answer.the-variants.{Done}
 use Rattle.sizes.specs.Sizes.{infoBits, blockBytes}
-use Rattle.word.specs.Word.{SpareZero, wordOf, blockIn, writeSays, readSays}
+use Rattle.word.specs.Word.{SpareZero, wordOf, blockIn, wordWriteSays, wordReadSays}
 
 -- "The word writer must disregard them": it accepts every block of the right length, whatever the spare bits hold,
 abbrev pub Disregarded : Type 0
-Disregarded = (rate : ℕ) (block : List ℕ) → rate < 3 → length block ≡ blockBytes rate → writeSays rate block 1890 ≡ Done
+Disregarded = (rate : ℕ) (block : List ℕ) → rate < 3 → length block ≡ blockBytes rate → wordWriteSays rate block 1890 ≡ Done
 
 -- and "two packings of the same k bits give one word".
 abbrev pub OneWord : Type 0
 OneWord = (rate : ℕ) (a b : List ℕ) → rate < 3 → ((i : ℕ) → i < infoBits rate → bitAt a i ≡ bitAt b i) → wordOf rate a ≡ wordOf rate b
 
 -- "Question 9 then covers slot buffers only": no word call answers 9.
-abbrev pub WriterNumbers : Type 0
-WriterNumbers = (rate : ℕ) (block : List ℕ) (n : ℕ) → among (0 ∷ 2 ∷ 8 ∷ []) (numberOf (writeSays rate block n)) ≡ true
+abbrev pub WordWriterNumbers : Type 0
+WordWriterNumbers = (rate : ℕ) (block : List ℕ) (n : ℕ) → among (0 ∷ 2 ∷ 8 ∷ []) (numberOf (wordWriteSays rate block n)) ≡ true
 
-abbrev pub ReaderNumbers : Type 0
-ReaderNumbers = (rate : ℕ) (word : List ℕ) (n : ℕ) → among (0 ∷ 2 ∷ 8 ∷ 13 ∷ 14 ∷ 15 ∷ []) (numberOf (readSays rate word n)) ≡ true
+abbrev pub WordReaderNumbers : Type 0
+WordReaderNumbers = (rate : ℕ) (word : List ℕ) (n : ℕ) → among (0 ∷ 2 ∷ 8 ∷ 13 ∷ 14 ∷ 15 ∷ []) (numberOf (wordReadSays rate word n)) ≡ true
 
 -- "The word reader still writes them as zero", of any word.
 abbrev pub ReaderZeros : Type 0
@@ -39,6 +39,6 @@ ReaderZeros = (rate : ℕ) (word : List ℕ) → SpareZero rate (blockIn rate wo
 pub record Card7 : Type 0 where
   pub disregarded : Disregarded
   pub one-word : OneWord
-  pub writer-numbers : WriterNumbers
-  pub reader-numbers : ReaderNumbers
+  pub writer-numbers : WordWriterNumbers
+  pub reader-numbers : WordReaderNumbers
   pub reader-zeros : ReaderZeros

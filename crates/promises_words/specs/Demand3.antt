@@ -14,7 +14,7 @@ use Rattle.bits.specs.Count.{differences}
 use Rattle.answers.specs.Answer.{numberOf}
 use Rattle.answers.specs.declared.Answer.the-variants.{Done}
 use Rattle.sizes.specs.Sizes.{infoBits, blockBytes, wordBytes}
-use Rattle.word.specs.Word.{wordOf, codedIn, writeSays, readSays}
+use Rattle.word.specs.Word.{wordOf, codedIn, wordWriteSays, wordReadSays}
 
 -- "For every three information blocks of one rate, and the fourth that is their bitwise sum: the word written for the fourth is the bitwise sum of
 -- the words written for the three." The fourth, d, is any block whose k bits are the sums; the spare bits of all four are free. `plus` adds two lists
@@ -28,8 +28,8 @@ Sums =
 -- Of three blocks that the writer accepts, the sum byte by byte is such a fourth, and is accepted.
 abbrev pub SumBlock : Type 0
 SumBlock =
-    (rate : ℕ) (a b c : List ℕ) → writeSays rate a wordBytes ≡ Done → writeSays rate b wordBytes ≡ Done → writeSays rate c wordBytes ≡ Done
-    → (writeSays rate (plus (plus a b) c) wordBytes ≡ Done)
+    (rate : ℕ) (a b c : List ℕ) → wordWriteSays rate a wordBytes ≡ Done → wordWriteSays rate b wordBytes ≡ Done → wordWriteSays rate c wordBytes ≡ Done
+    → (wordWriteSays rate (plus (plus a b) c) wordBytes ≡ Done)
     × ((i : ℕ) → bitAt (plus (plus a b) c) i ≡ bitXor (bitXor (bitAt a i) (bitAt b i)) (bitAt c i))
 
 -- in how many of the 15,120 places the coded bits taken back out of the words of two blocks differ
@@ -40,7 +40,7 @@ apart rate a b = differences (codedIn (wordOf rate a)) (codedIn (wordOf rate b))
 -- 1/3, 5 at 1/2 and 3 at 2/3." They differ in bit i of the k.
 abbrev pub Distances : Type 0
 Distances =
-    (rate : ℕ) (a b : List ℕ) → writeSays rate a wordBytes ≡ Done → writeSays rate b wordBytes ≡ Done
+    (rate : ℕ) (a b : List ℕ) → wordWriteSays rate a wordBytes ≡ Done → wordWriteSays rate b wordBytes ≡ Done
     → (i : ℕ) → i < infoBits rate → (bitAt a i ≡ bitAt b i → ⊥)
     → (rate ≡ 0 → 8 ≤ apart rate a b) × (rate ≡ 1 → 5 ≤ apart rate a b) × (rate ≡ 2 → 3 ≤ apart rate a b)
 
@@ -48,7 +48,7 @@ Distances =
 -- places: 16 at rate 1/3, 10 at 1/2 and 6 at 2/3.
 abbrev pub DistancesTwice : Type 0
 DistancesTwice =
-    (rate : ℕ) (a b : List ℕ) → writeSays rate a wordBytes ≡ Done → writeSays rate b wordBytes ≡ Done
+    (rate : ℕ) (a b : List ℕ) → wordWriteSays rate a wordBytes ≡ Done → wordWriteSays rate b wordBytes ≡ Done
     → (i : ℕ) → i < infoBits rate → (bitAt a i ≡ bitAt b i → ⊥)
     → (rate ≡ 0 → 16 ≤ apart rate a b) × (rate ≡ 1 → 10 ≤ apart rate a b) × (rate ≡ 2 → 6 ≤ apart rate a b)
 
@@ -61,13 +61,13 @@ flipped flips word = bytesOf wordBytes (λ j. bitXor (bitAt word j) (bool (flips
 -- that is flipped, and the 18 begin with bit `start`.
 abbrev pub FlipsFound : Type 0
 FlipsFound =
-    (rate : ℕ) (block : List ℕ) → writeSays rate block wordBytes ≡ Done
+    (rate : ℕ) (block : List ℕ) → wordWriteSays rate block wordBytes ≡ Done
     → (flips : ℕ → Bool) (start : ℕ) → ((j : ℕ) → j < 15120 → flips j ≡ true → (start ≤ j) × (j < start + 18))
     → (i : ℕ) → i < 15120 → flips i ≡ true
     → (n : ℕ)
     → (n ≡ blockBytes rate
-    → (numberOf (readSays rate (flipped flips (wordOf rate block)) n) ≡ 13) ⊎ (numberOf (readSays rate (flipped flips (wordOf rate block)) n) ≡ 14))
-    × ((n ≡ blockBytes rate → ⊥) → numberOf (readSays rate (flipped flips (wordOf rate block)) n) ≡ 8)
+    → (numberOf (wordReadSays rate (flipped flips (wordOf rate block)) n) ≡ 13) ⊎ (numberOf (wordReadSays rate (flipped flips (wordOf rate block)) n) ≡ 14))
+    × ((n ≡ blockBytes rate → ⊥) → numberOf (wordReadSays rate (flipped flips (wordOf rate block)) n) ≡ 8)
 
 -- ---- what is promised, all of it: the contract of `demand_3`
 pub record Demand3 : Type 0 where

@@ -124,8 +124,8 @@ entryAfter Drop entry = replicate 11 0
 entryAfter (Lend to) entry = (2 + to) ∷ headerIn entry
 
 -- the area after a call
-unfoldable pub stepOf : List ℕ → Call → List ℕ
-stepOf area call = after (says area call) (put area (call .owner) (call .place) (entryAfter (call .task) (entryFor area call))) area
+unfoldable pub afterCall : List ℕ → Call → List ℕ
+afterCall area call = after (says area call) (put area (call .owner) (call .place) (entryAfter (call .task) (entryFor area call))) area
 
 -- what the slice of a read holds afterwards
 abbrev pub handed : Task → Answer → List ℕ → List ℕ

@@ -4,17 +4,17 @@ use mathlib.Core.List.{List, [], _∷_}
 use Prim.Native.Nat.{ℕ}
 use lib.Dec.{ltb, eqb}
 use Rattle.bits.specs.Basics.{pick, both}
-use Rattle.rack.specs.Rack.{entryAt, lentTo, Call, stepOf, Told, toldOf}
+use Rattle.rack.specs.Rack.{entryAt, lentTo, Call, afterCall, Told, toldOf}
 
 -- the area after all calls
 unfoldable pub afterAll : List ℕ → List Call → List ℕ
 afterAll area [] = area
-afterAll area (call ∷ calls) = afterAll (stepOf area call) calls
+afterAll area (call ∷ calls) = afterAll (afterCall area call) calls
 
 -- what mission m is told, call by call
 unfoldable pub heard : ℕ → List ℕ → List Call → List Told
 heard m area [] = []
-heard m area (call ∷ calls) = pick (eqb (call .caller) m) (toldOf area call ∷ heard m (stepOf area call) calls) (heard m (stepOf area call) calls)
+heard m area (call ∷ calls) = pick (eqb (call .caller) m) (toldOf area call ∷ heard m (afterCall area call) calls) (heard m (afterCall area call) calls)
 
 -- whether place p of mission o is lent to m; and whether it is so at some time, before, between or after the calls
 unfoldable pub lent : ℕ → List ℕ → ℕ → ℕ → Bool
@@ -22,7 +22,7 @@ lent m area o p = both (both (ltb o 4) (ltb p 4)) (lentTo m (entryAt area o p))
 
 unfoldable pub everLent : ℕ → List ℕ → List Call → ℕ → ℕ → Bool
 everLent m area [] o p = lent m area o p
-everLent m area (call ∷ calls) o p = lent m area o p || everLent m (stepOf area call) calls o p
+everLent m area (call ∷ calls) o p = lent m area o p || everLent m (afterCall area call) calls o p
 
 -- the calls of m itself, and the owners' calls to places of a set
 unfoldable pub concerns : ℕ → (ℕ → ℕ → Bool) → Call → Bool

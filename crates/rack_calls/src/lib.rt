@@ -2,7 +2,7 @@
 use answers::Answer;
 ghost use mathlib.Core.Path.{_≡_};
 ghost use Rattle.rack.specs.Rack as racks;
-ghost use Rattle.rack.specs.Rack.{entryAt, callOf, says, stepOf, handed};
+ghost use Rattle.rack.specs.Rack.{entryAt, callOf, says, afterCall, handed};
 
 // The status of a place that was loaded: a loan stays.
 fn filled(status: u8) -> u8
@@ -17,7 +17,7 @@ fn filled(status: u8) -> u8
 // Loads a header into one of the caller's places, over what was there.
 pub fn load(area: &mut [u8], caller: u64, owner: u64, place: u64, header: &[u8]) -> Answer
     ensures { λ r. ⌜ r ≡ says (now (area .entry)) (callOf caller owner place (racks.Load (now (header .entry)))) ⌝ }
-    ensures { λ _. ⌜ now (area .exit) ≡ stepOf (now (area .entry)) (callOf caller owner place (racks.Load (now (header .entry)))) ⌝ }
+    ensures { λ _. ⌜ now (area .exit) ≡ afterCall (now (area .entry)) (callOf caller owner place (racks.Load (now (header .entry)))) ⌝ }
 {
     let answer = rack_asked::load_says(area, caller, owner, place, header);
     let Answer::Done = answer else {
@@ -44,7 +44,7 @@ pub fn read(area: &[u8], caller: u64, owner: u64, place: u64, header: &mut [u8])
 // Empties a place of the caller's: nothing of the header stays, and no loan.
 pub fn drop(area: &mut [u8], caller: u64, owner: u64, place: u64) -> Answer
     ensures { λ r. ⌜ r ≡ says (now (area .entry)) (callOf caller owner place racks.Drop) ⌝ }
-    ensures { λ _. ⌜ now (area .exit) ≡ stepOf (now (area .entry)) (callOf caller owner place racks.Drop) ⌝ }
+    ensures { λ _. ⌜ now (area .exit) ≡ afterCall (now (area .entry)) (callOf caller owner place racks.Drop) ⌝ }
 {
     let answer = rack_asked::drop_says(area, caller, owner, place);
     let Answer::Done = answer else {
@@ -58,7 +58,7 @@ pub fn drop(area: &mut [u8], caller: u64, owner: u64, place: u64) -> Answer
 // Lends reading of a place of the caller's to one other mission, and ends the loan before.
 pub fn lend(area: &mut [u8], caller: u64, owner: u64, place: u64, to: u64) -> Answer
     ensures { λ r. ⌜ r ≡ says (now (area .entry)) (callOf caller owner place (racks.Lend to)) ⌝ }
-    ensures { λ _. ⌜ now (area .exit) ≡ stepOf (now (area .entry)) (callOf caller owner place (racks.Lend to)) ⌝ }
+    ensures { λ _. ⌜ now (area .exit) ≡ afterCall (now (area .entry)) (callOf caller owner place (racks.Lend to)) ⌝ }
 {
     let answer = rack_asked::lend_says(area, caller, owner, place, to);
     let Answer::Done = answer else {

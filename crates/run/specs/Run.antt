@@ -7,17 +7,17 @@ use lib.ListN.{length}
 use Rattle.answers.specs.declared.Answer.{Answer}
 use Rattle.answers.specs.Answer.{after, then, inOrder}
 use Rattle.sizes.specs.Sizes.{infoBits, blockBytes}
-use Rattle.word.specs.Word.{wordOf, blockIn, readSays as wordReads}
+use Rattle.word.specs.Word.{wordOf, blockIn, wordReadSays}
 use Rattle.header.specs.Header.{fieldsOf}
 use Rattle.header_sizes.specs.Quantities.{blockCount}
 use Rattle.header.specs.declared.Fields.{Fields}
 use Rattle.plan.specs.declared.Plan.{Plan}
 use Rattle.plan.specs.Plan.{planIn}
 use Rattle.plan.specs.Lengths.{callSays}
-use Rattle.channel.specs.Channel.{symbolCount}
+use Rattle.channel.specs.Channel.{layoutSymbols}
 use Rattle.stream_writer.specs.Stream.{streamBit, blockAt}
 use Rattle.stream_reader.specs.Frames.{joined, framesIn, framesSay}
-use Rattle.slots.specs.Writing.{symbolAt, slotsOf}
+use Rattle.slots.specs.Writing.{symbolAt, runSlots}
 use Rattle.slots.specs.Reading.{pooledIn, wordOut, slotsSay}
 
 -- ---- from frames to slots
@@ -31,7 +31,7 @@ wordAt f frames j = wordOf (f .rate) (blockAt (f .rate) (streamOf f frames) j)
 
 -- steps 8 to 10: the slots
 unfoldable pub runOf : List ℕ → List ℕ → List ℕ → List ℕ
-runOf header marker frames = slotsOf (planIn header marker) (wordAt (fieldsOf header) frames)
+runOf header marker frames = runSlots (planIn header marker) (wordAt (fieldsOf header) frames)
 
 -- ---- and back
 
@@ -48,16 +48,16 @@ framesRead header marker slots = framesOf (fieldsOf header) (wordOut (planIn hea
 -- the pooled symbols in slots are those of the run of these frames
 abbrev pub PoolsTo : List ℕ → List ℕ → List ℕ → List ℕ → Type 0
 PoolsTo header marker slots frames =
-    (s : ℕ) → s < symbolCount (planIn header marker .layout) → pooledIn (planIn header marker) slots s ≡ symbolAt (planIn header marker) (wordAt (fieldsOf header) frames) s
+    (s : ℕ) → s < layoutSymbols (planIn header marker .layout) → pooledIn (planIn header marker) slots s ≡ symbolAt (planIn header marker) (wordAt (fieldsOf header) frames) s
 
 -- ---- the questions
 
 -- 13 to 15, of one word after another: what the word reader says of word j; the first word that gives no block is the place
-unfoldable pub wordSays : Fields → (ℕ → List ℕ) → ℕ → Answer
-wordSays f word j = wordReads (f .rate) (word j) (blockBytes (f .rate))
+unfoldable pub runWordSays : Fields → (ℕ → List ℕ) → ℕ → Answer
+runWordSays f word j = wordReadSays (f .rate) (word j) (blockBytes (f .rate))
 
 unfoldable pub wordsSay : Fields → (ℕ → List ℕ) → Answer
-wordsSay f word = inOrder (blockCount f) (wordSays f word)
+wordsSay f word = inOrder (blockCount f) (runWordSays f word)
 
 -- 16 and 18, of the stream that the words hold
 unfoldable pub streamSays : Fields → (ℕ → List ℕ) → Answer
@@ -68,16 +68,16 @@ unfoldable pub bufferSays : Fields → Plan → List ℕ → Answer
 bufferSays f p slots = then (slotsSay p slots) (then (wordsSay f (wordOut p slots)) (streamSays f (wordOut p slots)))
 
 -- the two calls: 1 to 7, 20 and 8, and the reader's own
-unfoldable pub writeSays : List ℕ → List ℕ → List ℕ → ℕ → Answer
-writeSays header marker frames slotsLength = callSays header marker (length frames) slotsLength
+unfoldable pub runWriteSays : List ℕ → List ℕ → List ℕ → ℕ → Answer
+runWriteSays header marker frames slotsLength = callSays header marker (length frames) slotsLength
 
-unfoldable pub readSays : List ℕ → List ℕ → List ℕ → ℕ → Answer
-readSays header marker slots framesLength =
+unfoldable pub runReadSays : List ℕ → List ℕ → List ℕ → ℕ → Answer
+runReadSays header marker slots framesLength =
     then (callSays header marker framesLength (length slots)) (bufferSays (fieldsOf header) (planIn header marker) slots)
 
 -- what the slice lent for the result holds afterwards: the result on acceptance, otherwise what it held
 abbrev pub slotsAfter : List ℕ → List ℕ → List ℕ → List ℕ → List ℕ
-slotsAfter header marker frames old = after (writeSays header marker frames (length old)) (runOf header marker frames) old
+slotsAfter header marker frames old = after (runWriteSays header marker frames (length old)) (runOf header marker frames) old
 
 abbrev pub framesAfter : List ℕ → List ℕ → List ℕ → List ℕ → List ℕ
-framesAfter header marker slots old = after (readSays header marker slots (length old)) (framesRead header marker slots) old
+framesAfter header marker slots old = after (runReadSays header marker slots (length old)) (framesRead header marker slots) old

@@ -5,7 +5,7 @@ use Rattle.word.specs.Word.{wordOf}
 use Rattle.header.specs.Header.{fieldsOf}
 use Rattle.plan.specs.Plan.{planIn}
 use Rattle.stream_writer.specs.Stream.{streamBit, blockAt}
-use Rattle.slots.specs.Writing.{dataAt, placed, symbolAt, slotBit}
+use Rattle.slots.specs.Writing.{dataSymbol, placedSymbol, symbolAt, runSlot}
 
 module _ (header marker frames : List ℕ) where
   -- step 1: bit x of the marked frames and the fill after them; block j, packed
@@ -21,14 +21,14 @@ module _ (header marker frames : List ℕ) where
 
   -- step 8: symbol t of all words
   abbrev pub step8 : ℕ → ℕ
-  step8 t = dataAt (planIn header marker) word t
+  step8 t = dataSymbol (planIn header marker) word t
 
   abbrev pub standing : ℕ → ℕ
-  standing x = placed (planIn header marker) word x
+  standing x = placedSymbol (planIn header marker) word x
 
   -- step 10: symbol s with markers counted, and slot x
   abbrev pub step10 : ℕ → ℕ
   step10 s = symbolAt (planIn header marker) word s
 
   abbrev pub slot : ℕ → ℕ
-  slot x = slotBit (planIn header marker) word x
+  slot x = runSlot (planIn header marker) word x

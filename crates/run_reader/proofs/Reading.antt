@@ -18,7 +18,7 @@ use Rattle.answers.specs.Answer.{then, ask, isDone, numberOf, inOrder, firstRef
 use Rattle.answers.proofs.Refused.{Refusal, stands}
 use Rattle.sizes.specs.Sizes.{infoBits, blockBytes, wordBytes}
 use Rattle.sizes.proofs.Laws.Rate.{by-rate}
-use Rattle.word.specs.Word.{blockIn, readSays as wordReads}
+use Rattle.word.specs.Word.{blockIn, wordReadSays}
 use Rattle.header_sizes.specs.Quantities.{blockCount}
 use Rattle.header_sizes.specs.Inner.{Valid}
 use Rattle.header_sizes.proofs.Laws.Bounds.{blocks-most, blocks-needed, marked-most}
@@ -35,7 +35,7 @@ use Rattle.stream_reader.proofs.Laws.Same.{say-same, in-same}
 use Rattle.slots.specs.Reading.{wordOut, slotsSay}
 use Rattle.slots.specs.Inner.{RunSlots}
 use Rattle.slots_places.specs.Inner.{Cleared}
-use Rattle.run.specs.Run.{streamIn, framesOf, wordSays, wordsSay, streamSays, bufferSays}
+use Rattle.run.specs.Run.{streamIn, framesOf, runWordSays, wordsSay, streamSays, bufferSays}
 use Rattle.run.proofs.Laws.Return.{fit}
 
 -- the bytes of as many packed blocks as any rate can have
@@ -77,9 +77,9 @@ order-same n say tell h =
     (lt-or-le k n)
 
 pub words-same : (f : Fields) (word other : ℕ → List ℕ) → ((j : ℕ) → j < blockCount f → word j ≡ other j) → wordsSay f word ≡ wordsSay f other
-unfolding wordsSay wordSays
+unfolding wordsSay runWordSays
 words-same f word other h =
-    order-same (blockCount f) (wordSays f word) (wordSays f other) (λ j l. ap (λ (x : List ℕ). wordReads (f .rate) x (blockBytes (f .rate))) (h j l))
+    order-same (blockCount f) (runWordSays f word) (runWordSays f other) (λ j l. ap (λ (x : List ℕ). wordReadSays (f .rate) x (blockBytes (f .rate))) (h j l))
 
 -- a plan that is the header's
 module _ (q : Parameters) (p : Plan) (ep : p ≡ planOf q) (slots : List ℕ) where

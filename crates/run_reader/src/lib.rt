@@ -16,13 +16,13 @@ ghost use Rattle.plan.specs.Plan.{planOf};
 ghost use Rattle.stream_reader.specs.Frames.{joined, framesIn, framesSay};
 ghost use Rattle.slots.specs.Reading.{wordOut};
 ghost use Rattle.bits.specs.Pack.{piece};
-ghost use Rattle.run.specs.Run.{wordSays, wordsSay, framesOf, framesRead, bufferSays, readSays};
+ghost use Rattle.run.specs.Run.{runWordSays, wordsSay, framesOf, framesRead, bufferSays, runReadSays};
 ghost use Rattle.run_reader.specs.Inner.{ReadsWord, ReadsWords, Reads, Finishes};
 
 // Questions 13 to 15 of word j of those back to back, and its block.
 fn read_word(f: Fields, words: &[u8], j: usize, block: &mut [u8]) -> Answer
     requires { ⌜ ReadsWord f (now words) j (now block) ⌝ }
-    ensures { λ r. ⌜ r ≡ wordSays f (piece wordBytes (now (words .entry))) j ⌝ }
+    ensures { λ r. ⌜ r ≡ runWordSays f (piece wordBytes (now (words .entry))) j ⌝ }
     ensures { λ r. ⌜ now (block .exit) ≡ after r (blockIn (f .rate) (piece wordBytes (now (words .entry)) j)) (now (block .entry)) ⌝ }
 {
     let rate = f.rate;
@@ -132,7 +132,7 @@ fn read_with(q: Parameters, slots: &[u8], frames: &mut [u8]) -> Answer
 
 // Reads the frames of slots.
 pub fn read(header: &[u8], marker: &[u8], slots: &[u8], frames: &mut [u8]) -> Answer
-    ensures { λ r. ⌜ r ≡ readSays (now (header .entry)) (now (marker .entry)) (now (slots .entry)) (length (now (frames .entry))) ⌝ }
+    ensures { λ r. ⌜ r ≡ runReadSays (now (header .entry)) (now (marker .entry)) (now (slots .entry)) (length (now (frames .entry))) ⌝ }
     ensures { λ r. ⌜ now (frames .exit) ≡ after r (framesRead (now (header .entry)) (now (marker .entry)) (now (slots .entry))) (now (frames .entry)) ⌝ }
 {
     let checked = plan::check(header, marker, frames.len(), slots.len());

@@ -7,7 +7,7 @@ use lib.ListN.{length}
 use Rattle.answers.specs.declared.Answer.{Answer}
 use Rattle.answers.specs.Answer.{after}
 use Rattle.word.proofs.Laws.Word.{Packed}
-use Rattle.word.specs.Word.{wordOf, writeSays as wordWrites}
+use Rattle.word.specs.Word.{wordOf, wordWriteSays}
 use Rattle.word.proofs.Laws.Exports.{packed-written}
 use Rattle.header_sizes.specs.Quantities.{blockCount, frameBytes}
 use Rattle.header_sizes.specs.Inner.{Valid}
@@ -20,7 +20,7 @@ use Rattle.plan.proofs.Laws.Accepted.{plan-words}
 use Rattle.stream_writer.specs.Stream.{streamBit, blockAt}
 use Rattle.stream_writer.proofs.Laws.Stream.{stream-bits, block-packed}
 use Rattle.stream_writer.specs.Inner.{Frames}
-use Rattle.slots.specs.Writing.{slotsOf}
+use Rattle.slots.specs.Writing.{runSlots}
 use Rattle.slots.specs.Inner.{Lent}
 use Rattle.slots.proofs.Laws.Slots.{slots-same}
 use Rattle.run.specs.Run.{streamOf, wordAt}
@@ -29,13 +29,13 @@ use Rattle.sizes.specs.Sizes.{wordBytes}
 
 -- a packed block is always written
 pub coded : (f : Fields) → Valid f → (frames : List ℕ) (j n : ℕ) (block old new : List ℕ) (r : Answer) → block ≡ blockAt (f .rate) (streamBit (f .size) (f .frames) frames) j → n ≡ wordBytes
-    → r ≡ wordWrites (f .rate) block n → new ≡ after r (wordOf (f .rate) block) old → new ≡ wordAt f frames j
+    → r ≡ wordWriteSays (f .rate) block n → new ≡ after r (wordOf (f .rate) block) old → new ≡ wordAt f frames j
 unfolding wordAt streamOf
 coded f v frames j n block old new r eb en er e =
     let b : List ℕ = blockAt (f .rate) (streamBit (f .size) (f .frames) frames) j in
     let p = block-packed (f .rate) (streamBit (f .size) (f .frames) frames) (v .rate) (stream-bits (f .size) (f .frames) frames) j in
     let packed : Packed (f .rate) b = record { size = p .0; bytes = p .1; spare = p .2 } in
-    let said : r ≡ wordWrites (f .rate) b wordBytes = er ∙ ap (λ (x : List ℕ). wordWrites (f .rate) x n) eb ∙ ap (wordWrites (f .rate) b) en in
+    let said : r ≡ wordWriteSays (f .rate) b wordBytes = er ∙ ap (λ (x : List ℕ). wordWriteSays (f .rate) x n) eb ∙ ap (wordWriteSays (f .rate) b) en in
     e
     ∙ ap (λ (a : Answer). after a (wordOf (f .rate) block) old) (said ∙ packed-written (f .rate) b (v .rate) packed)
     ∙ ap (wordOf (f .rate)) eb
@@ -54,7 +54,7 @@ plan-lent q p words slots e fine lw ls =
 
 -- the slots of words that stand back to back
 pub slots-coded : (q : Parameters) (p : Plan) (words frames slots : List ℕ) → p ≡ planOf q → ((j : ℕ) → j < blockCount (q .fields) → piece wordBytes words j ≡ wordAt (q .fields) frames j)
-    → slots ≡ slotsOf p (piece wordBytes words) → slots ≡ slotsOf (planOf q) (wordAt (q .fields) frames)
+    → slots ≡ runSlots p (piece wordBytes words) → slots ≡ runSlots (planOf q) (wordAt (q .fields) frames)
 slots-coded q p words frames slots e h s =
-    s ∙ ap (λ (x : Plan). slotsOf x (piece wordBytes words)) e
+    s ∙ ap (λ (x : Plan). runSlots x (piece wordBytes words)) e
     ∙ slots-same (planOf q) (piece wordBytes words) (wordAt (q .fields) frames) (λ j l. h j (omega (arith, plan-words q)))

@@ -9,8 +9,8 @@ ghost use Rattle.answers.specs.Answer.{after};
 ghost use Rattle.header_sizes.specs.Quantities.{blockCount};
 ghost use Rattle.plan.specs.Inner.{Entered};
 ghost use Rattle.plan.specs.Plan.{planOf};
-ghost use Rattle.slots.specs.Writing.{slotsOf};
-ghost use Rattle.run.specs.Run.{wordAt, runOf, writeSays};
+ghost use Rattle.slots.specs.Writing.{runSlots};
+ghost use Rattle.run.specs.Run.{wordAt, runOf, runWriteSays};
 ghost use Rattle.run_writer.specs.Inner.{Codes, CodesAll, Writes};
 ghost use Rattle.bits.specs.Pack.{piece};
 ghost use Rattle.sizes.specs.Sizes.{wordBytes};
@@ -45,7 +45,7 @@ fn code_words(f: Fields, frames: &[u8], space: &mut [u8], words: &mut [u8])
 
 fn write_in(q: Parameters, frames: &[u8], space: &mut [u8], words: &mut [u8], slots: &mut [u8])
     requires { ⌜ Writes q (now frames) (now space) (now words) (now slots) ⌝ }
-    ensures { λ _. ⌜ now (slots .exit) ≡ slotsOf (planOf q) (wordAt (q .fields) (now (frames .entry))) ⌝ }
+    ensures { λ _. ⌜ now (slots .exit) ≡ runSlots (planOf q) (wordAt (q .fields) (now (frames .entry))) ⌝ }
 {
     let f = q.fields;
     code_words(f, frames, space, words);
@@ -55,7 +55,7 @@ fn write_in(q: Parameters, frames: &[u8], space: &mut [u8], words: &mut [u8], sl
 // With a buffer for as many words as a run can have.
 fn write_many(q: Parameters, frames: &[u8], slots: &mut [u8])
     requires { ⌜ Entered q (length (now frames)) (length (now slots)) ⌝ }
-    ensures { λ _. ⌜ now (slots .exit) ≡ slotsOf (planOf q) (wordAt (q .fields) (now (frames .entry))) ⌝ }
+    ensures { λ _. ⌜ now (slots .exit) ≡ runSlots (planOf q) (wordAt (q .fields) (now (frames .entry))) ⌝ }
 {
     let mut space = [0u8; 1256];
     let mut words = [0u8; 396900];
@@ -65,7 +65,7 @@ fn write_many(q: Parameters, frames: &[u8], slots: &mut [u8])
 // With a buffer for sixteen words, which takes little clearing.
 fn write_few(q: Parameters, frames: &[u8], slots: &mut [u8])
     requires { ⌜ Entered q (length (now frames)) (length (now slots)) × (blockCount (q .fields) ≤ 16) ⌝ }
-    ensures { λ _. ⌜ now (slots .exit) ≡ slotsOf (planOf q) (wordAt (q .fields) (now (frames .entry))) ⌝ }
+    ensures { λ _. ⌜ now (slots .exit) ≡ runSlots (planOf q) (wordAt (q .fields) (now (frames .entry))) ⌝ }
 {
     let mut space = [0u8; 1256];
     let mut words = [0u8; 30240];
@@ -75,7 +75,7 @@ fn write_few(q: Parameters, frames: &[u8], slots: &mut [u8])
 // The slots of the frames, with a buffer for their words.
 fn write_with(q: Parameters, frames: &[u8], slots: &mut [u8])
     requires { ⌜ Entered q (length (now frames)) (length (now slots)) ⌝ }
-    ensures { λ _. ⌜ now (slots .exit) ≡ slotsOf (planOf q) (wordAt (q .fields) (now (frames .entry))) ⌝ }
+    ensures { λ _. ⌜ now (slots .exit) ≡ runSlots (planOf q) (wordAt (q .fields) (now (frames .entry))) ⌝ }
 {
     let f = q.fields;
     if header_sizes::block_count(f) <= 16 {
@@ -87,7 +87,7 @@ fn write_with(q: Parameters, frames: &[u8], slots: &mut [u8])
 
 // Writes the slots of frames.
 pub fn write(header: &[u8], marker: &[u8], frames: &[u8], slots: &mut [u8]) -> Answer
-    ensures { λ r. ⌜ r ≡ writeSays (now (header .entry)) (now (marker .entry)) (now (frames .entry)) (length (now (slots .entry))) ⌝ }
+    ensures { λ r. ⌜ r ≡ runWriteSays (now (header .entry)) (now (marker .entry)) (now (frames .entry)) (length (now (slots .entry))) ⌝ }
     ensures { λ r. ⌜ now (slots .exit) ≡ after r (runOf (now (header .entry)) (now (marker .entry)) (now (frames .entry))) (now (slots .entry)) ⌝ }
 {
     let checked = plan::check(header, marker, frames.len(), slots.len());

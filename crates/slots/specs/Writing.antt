@@ -4,27 +4,27 @@ use Prim.Native.Nat.{ℕ, _/_}
 use Rattle.channel.specs.Channel as channel
 use Rattle.pulses.specs.Pulses as pulses
 use Rattle.plan.specs.declared.Plan.{Plan}
-use Rattle.plan.specs.Plan.{sent}
+use Rattle.plan.specs.Plan.{sentCount}
 
 -- Step 8: symbol t of all words
-abbrev pub dataAt : Plan → (ℕ → List ℕ) → ℕ → ℕ
-dataAt p word t = channel.dataAt (p .bits) (p .layout) word t
+abbrev pub dataSymbol : Plan → (ℕ → List ℕ) → ℕ → ℕ
+dataSymbol p word t = channel.dataAt (p .bits) (p .layout) word t
 
 -- Step 9: what stands at place x
-abbrev pub placed : Plan → (ℕ → List ℕ) → ℕ → ℕ
-placed p word x = channel.placed (p .layout) (dataAt p word) x
+abbrev pub placedSymbol : Plan → (ℕ → List ℕ) → ℕ → ℕ
+placedSymbol p word x = channel.placed (p .layout) (dataSymbol p word) x
 
 -- Step 10: symbol s, markers counted
 abbrev pub symbolAt : Plan → (ℕ → List ℕ) → ℕ → ℕ
-symbolAt p word s = channel.marked (p .layout) (p .marks) (placed p word) s
+symbolAt p word s = channel.withMarkers (p .layout) (p .marks) (placedSymbol p word) s
 
 -- each symbol is sent as often as the factor says, one copy after the other
 abbrev pub sentAt : Plan → (ℕ → List ℕ) → ℕ → ℕ
 sentAt p word u = symbolAt p word (u / p .copies)
 
 -- slot x, and all slots, packed
-abbrev pub slotBit : Plan → (ℕ → List ℕ) → ℕ → ℕ
-slotBit p word x = pulses.slotBit (p .group) (sent p) (sentAt p word) x
+abbrev pub runSlot : Plan → (ℕ → List ℕ) → ℕ → ℕ
+runSlot p word x = pulses.slotBit (p .group) (sentCount p) (sentAt p word) x
 
-unfoldable pub slotsOf : Plan → (ℕ → List ℕ) → List ℕ
-slotsOf p word = pulses.slotsOf (p .group) (sent p) (sentAt p word)
+unfoldable pub runSlots : Plan → (ℕ → List ℕ) → List ℕ
+runSlots p word = pulses.slotsOf (p .group) (sentCount p) (sentAt p word)

@@ -6,7 +6,7 @@ use lib.Dec.{eqb}
 use lib.ListN.{length, getD}
 use Rattle.bits.specs.Basics.{bool}
 use Rattle.bits.specs.Pack.{bitAt, Bytes, cut}
-use Rattle.channel.specs.Channel.{symbolCount}
+use Rattle.channel.specs.Channel.{layoutSymbols}
 use Rattle.plan.specs.Inner.{slotBytes}
 use Rattle.plan.specs.declared.Plan.{Plan}
 use Rattle.slots.specs.Writing.{symbolAt}
@@ -22,7 +22,7 @@ pub record Of (p : Plan) (copies group s q : ℕ) : Type 0 where
   pub copies-are : copies ≡ p .copies
   pub copies-least : 1 ≤ p .copies
   pub group-is : group ≡ p .group
-  pub among : s < symbolCount (p .layout)
+  pub among : s < layoutSymbols (p .layout)
   pub small : q < p .group
 
 -- the first `end` bytes hold groups with pulses at f 0, f 1, ..; those behind hold anything

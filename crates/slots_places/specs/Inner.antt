@@ -6,7 +6,7 @@ use lib.Dec.{ltb}
 use lib.ListN.{length, getD}
 use Rattle.bits.specs.Basics.{pick, upTo}
 use Rattle.bits.specs.Pack.{bitAt}
-use Rattle.channel.specs.Channel.{unit, symbolCount, place, symbolOf, restZero}
+use Rattle.channel.specs.Channel.{unit, layoutSymbols, place, symbolOf, restZero}
 use Rattle.plan.specs.declared.Plan.{Plan}
 use Rattle.sizes.specs.Sizes.{wordBytes, wordBits}
 use Rattle.slots.specs.Inner.{RunSlots}
@@ -16,7 +16,7 @@ use Rattle.slots.specs.Reading.{pooledIn, dataIn}
 pub record Stretch (p : Plan) (b : List ℕ) (from to : ℕ) : Type 0 where
   pub slots : RunSlots p b
   pub order : from ≤ to
-  pub most : to ≤ symbolCount (p .layout)
+  pub most : to ≤ layoutSymbols (p .layout)
   pub near : to ≤ from + unit (p .layout)
   pub passed : (s : ℕ) → from ≤ s → s < to → pooledIn p b s < p .order
 
@@ -40,8 +40,8 @@ pub record Took (p : Plan) (b : List ℕ) (s : ℕ) (words : List ℕ) : Type 0 
 
 -- `rest` is the first wrong place, or no place before s is wrong and the words have the symbols before s
 pub record Known (p : Plan) (b : List ℕ) (s rest : ℕ) (words : List ℕ) : Type 0 where
-  pub order : s ≤ symbolCount (p .layout)
-  pub most : rest ≤ symbolCount (p .layout)
-  pub ahead : rest ≡ symbolCount (p .layout) → upTo (restZero (p .layout) (pooledIn p b)) s (symbolCount (p .layout)) ≡ upTo (restZero (p .layout) (pooledIn p b)) 0 (symbolCount (p .layout))
-  pub here : rest < symbolCount (p .layout) → rest ≡ upTo (restZero (p .layout) (pooledIn p b)) 0 (symbolCount (p .layout))
-  pub took : rest ≡ symbolCount (p .layout) → Took p b s words
+  pub order : s ≤ layoutSymbols (p .layout)
+  pub most : rest ≤ layoutSymbols (p .layout)
+  pub ahead : rest ≡ layoutSymbols (p .layout) → upTo (restZero (p .layout) (pooledIn p b)) s (layoutSymbols (p .layout)) ≡ upTo (restZero (p .layout) (pooledIn p b)) 0 (layoutSymbols (p .layout))
+  pub here : rest < layoutSymbols (p .layout) → rest ≡ upTo (restZero (p .layout) (pooledIn p b)) 0 (layoutSymbols (p .layout))
+  pub took : rest ≡ layoutSymbols (p .layout) → Took p b s words

@@ -3,7 +3,7 @@ use mathlib.Core.Path.{_≡_}
 use mathlib.Core.List.{List}
 use Prim.Native.Nat.{ℕ, _+_, _*_, _≤_, _<_}
 use lib.ListN.{length}
-use Rattle.channel.specs.Channel.{unit, symbolCount}
+use Rattle.channel.specs.Channel.{unit, layoutSymbols}
 use Rattle.plan.specs.declared.Plan.{Plan}
 use Rattle.slots.specs.Inner.{RunSlots}
 use Rattle.slots_places.specs.Inner.{Known}
@@ -12,7 +12,7 @@ use Rattle.slots_places.specs.Inner.{Known}
 pub record Seeks (p : Plan) (b : List ℕ) (from to rest : ℕ) (words : List ℕ) : Type 0 where
   pub slots : RunSlots p b
   pub some : from < to
-  pub most : to ≤ symbolCount (p .layout)
+  pub most : to ≤ layoutSymbols (p .layout)
   pub near : to ≤ from + unit (p .layout)
   pub known : Known p b from rest words
 

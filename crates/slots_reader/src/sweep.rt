@@ -5,11 +5,11 @@ ghost use mathlib.Core.Path.{_≡_};
 ghost use Prim.Native.Nat.{ℕ, _+_, _*_, _≤_, _<_};
 ghost use Rattle.bits.specs.Basics.{upTo};
 ghost use Rattle.pulses.specs.Inner.{Same};
-ghost use Rattle.channel.specs.Channel.{symbolCount};
+ghost use Rattle.channel.specs.Channel.{layoutSymbols};
 ghost use Rattle.slots.specs.Inner.{RunSlots, decidedIn};
 ghost use Rattle.slots_places.specs.Inner.{Took, Known};
 ghost use Rattle.slots_reader.specs.Inner.{Seeks, Parts};
-ghost use Rattle.slots.specs.Reading.{firstBadGroup};
+ghost use Rattle.slots.specs.Reading.{firstBadSymbol};
 
 // The first undecided symbol, and the first wrong place as far as it was looked for; the number of symbols
 // where there is none.
@@ -52,8 +52,8 @@ fn others_end(b: &[u8], given: &[u8], copies: usize, c: usize, n: usize) -> usiz
 // Questions 10 and 12 of all symbols; 12 only where 10 is answered yes.
 pub fn find(p: plan::Plan, b: &[u8], words: &mut [u8]) -> Faults
     requires { ⌜ RunSlots p (now b) × Took p (now b) 0 (now words) ⌝ }
-    ensures { λ r. ⌜ r .group ≡ firstBadGroup p (now (b .entry)) ⌝ }
-    ensures { λ r. ⌜ (r .group ≡ symbolCount (p .layout) → Known p (now (b .entry)) (symbolCount (p .layout)) (r .rest) (now (words .exit))) ⌝ }
+    ensures { λ r. ⌜ r .group ≡ firstBadSymbol p (now (b .entry)) ⌝ }
+    ensures { λ r. ⌜ (r .group ≡ layoutSymbols (p .layout) → Known p (now (b .entry)) (layoutSymbols (p .layout)) (r .rest) (now (words .exit))) ⌝ }
 {
     let n = p.layout.lines * (p.layout.symbols + p.layout.markers);
     let count = 320 / p.group;

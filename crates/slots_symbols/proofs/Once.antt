@@ -12,7 +12,7 @@ use Rattle.pulses.specs.Inner.{Slots}
 use Rattle.pulses.proofs.Laws.Needs.{fewer, sizes}
 use Rattle.pulses.specs.Pulses.{symbolIn, grouped}
 use Rattle.plan.specs.declared.Plan.{Plan}
-use Rattle.channel.specs.Channel.{symbolCount}
+use Rattle.channel.specs.Channel.{layoutSymbols}
 use Rattle.slots.proofs.Laws.Bounds.{bounds, shape, lies}
 use Rattle.slots.specs.Reading.{pooledIn}
 use Rattle.slots.specs.Inner.{decidedIn, RunSlots}
@@ -20,17 +20,17 @@ use Rattle.slots.proofs.Laws.Return.{pooled-once}
 
 module _ (p : Plan) (b : List ℕ) (h : RunSlots p b) where
   -- n of them, with their copies
-  pub sent-in : (n : ℕ) → n ≤ symbolCount (p .layout) → pool.Sent (p .order) (p .group) (p .copies) n b
+  pub sent-in : (n : ℕ) → n ≤ layoutSymbols (p .layout) → pool.Sent (p .order) (p .group) (p .copies) n b
   sent-in n l =
       let k = bounds p (h .fine) in
       let long = h .long in
-      pool-laws.fewer (p .order) (p .group) (p .copies) (symbolCount (p .layout)) b
+      pool-laws.fewer (p .order) (p .group) (p .copies) (layoutSymbols (p .layout)) b
       (record { of-group = sizes (p .order) (p .group) (shape p (h .fine)); copies-most = k .copies-most; room = omega arith; bound = k .slots-bound }) n l
 
   -- each sent once
   module _ (one : p .copies ≡ 1) where
-    pub groups-in : (n : ℕ) → n ≤ symbolCount (p .layout) → Slots (p .order) (p .group) n b
-    groups-in n l = fewer (p .order) (p .group) (symbolCount (p .layout)) b (lies p (h .fine) one b (h .long)) n l
+    pub groups-in : (n : ℕ) → n ≤ layoutSymbols (p .layout) → Slots (p .order) (p .group) n b
+    groups-in n l = fewer (p .order) (p .group) (layoutSymbols (p .layout)) b (lies p (h .fine) one b (h .long)) n l
 
     pub once : (s : ℕ) → pooledIn p b s ≡ symbolIn (p .order) (p .group) b s
     once = pooled-once p (h .fine) one b

@@ -3,7 +3,7 @@ use mathlib.Core.Path.{_≡_}
 use mathlib.Core.List.{List}
 use Prim.Native.Nat.{ℕ, _<_}
 use lib.ListN.{length}
-use Rattle.channel.specs.Channel.{symbolCount}
+use Rattle.channel.specs.Channel.{layoutSymbols}
 use Rattle.plan.specs.Inner.{Fine, slotBytes}
 use Rattle.plan.specs.declared.Plan.{Plan}
 use Rattle.slots.specs.Inner.{RunSlots}
@@ -13,10 +13,10 @@ use Rattle.slots.specs.Reading.{pooledIn}
 pub record Grouped (p : Plan) (b : List ℕ) : Type 0 where
   pub fine : Fine p
   pub long : length b ≡ slotBytes p
-  pub passed : (s : ℕ) → s < symbolCount (p .layout) → pooledIn p b s < p .order
+  pub passed : (s : ℕ) → s < layoutSymbols (p .layout) → pooledIn p b s < p .order
 
 -- a symbol of slots that is decided
 pub record Decided (p : Plan) (b : List ℕ) (s : ℕ) : Type 0 where
   pub slots : RunSlots p b
-  pub among : s < symbolCount (p .layout)
+  pub among : s < layoutSymbols (p .layout)
   pub small : pooledIn p b s < p .order

@@ -4,14 +4,14 @@ ghost use mathlib.Core.Path.{_≡_};
 ghost use Prim.Native.Nat.{_≤_, _<_, _+_, _*_};
 ghost use lib.Dec.{eqb};
 ghost use Rattle.bits.specs.Basics.{bool, upTo};
-ghost use Rattle.channel.specs.Channel.{symbolCount, unit, markRight};
+ghost use Rattle.channel.specs.Channel.{layoutSymbols, unit, markRight};
 ghost use Rattle.slots.specs.Inner.{RunSlots, decidedIn};
 ghost use Rattle.slots_symbols.specs.Inner.{Decided, Grouped};
 ghost use Rattle.slots.specs.Reading.{pooledIn, firstBadMark};
 
 // Question 10: the first symbol from `from` on that is not decided, or `to`.
 pub fn undecided(p: plan::Plan, b: &[u8], from: usize, to: usize) -> usize
-    requires { ⌜ RunSlots p (now b) × (from ≤ to) × (to ≤ symbolCount (p .layout)) ⌝ }
+    requires { ⌜ RunSlots p (now b) × (from ≤ to) × (to ≤ layoutSymbols (p .layout)) ⌝ }
     ensures { λ r. ⌜ r ≡ upTo (decidedIn p (now (b .entry))) from to ⌝ }
 {
     if p.copies == 1 {

@@ -5,7 +5,7 @@ ghost use Prim.Native.Nat.{_+_, _*_, _<_};
 ghost use Rattle.bits.specs.Pack.{piece};
 ghost use Rattle.channel.specs.Channel.{unit};
 ghost use Rattle.sizes.specs.Sizes.{wordBytes};
-ghost use Rattle.slots.specs.Writing.{slotsOf};
+ghost use Rattle.slots.specs.Writing.{runSlots};
 ghost use Rattle.slots.specs.Inner.{Given, Lent};
 ghost use Rattle.slots_moves.specs.Inner.{Holds, front, Zeros};
 ghost use Rattle.slots_lines.specs.Inner.{lineEnd};
@@ -40,7 +40,7 @@ fn put_lines(p: Plan, words: &[u8], zeros: &[u8], slots: &mut [u8])
 // Steps 8 to 10: the slots of words that lie back to back.
 pub fn write(p: Plan, words: &[u8], slots: &mut [u8])
     requires { ⌜ Lent p (now words) (now slots) ⌝ }
-    ensures { λ _. ⌜ now (slots .exit) ≡ slotsOf p (piece wordBytes (now (words .entry))) ⌝ }
+    ensures { λ _. ⌜ now (slots .exit) ≡ runSlots p (piece wordBytes (now (words .entry))) ⌝ }
 {
     let group = p.group;
     let end = p.layout.lines * (p.layout.symbols + p.layout.markers) * p.copies * group;

@@ -14,11 +14,11 @@ unfoldable pub joined : ℕ → (ℕ → List ℕ) → ℕ → ℕ
 joined rate block x = bitAt (block (x / infoBits rate)) (x % infoBits rate)
 
 -- question 16: is the frame marker before frame j? And the first frame that it is not before
-unfoldable pub marked : ℕ → (ℕ → ℕ) → ℕ → Bool
-marked size stream j = eqb (val (λ r. stream (j * span size + r)) markerBits) frameMarker
+unfoldable pub frameMarked : ℕ → (ℕ → ℕ) → ℕ → Bool
+frameMarked size stream j = eqb (val (λ r. stream (j * span size + r)) markerBits) frameMarker
 
 unfoldable pub firstUnmarked : ℕ → ℕ → (ℕ → ℕ) → ℕ
-firstUnmarked size count stream = upTo (marked size stream) 0 count
+firstUnmarked size count stream = upTo (frameMarked size stream) 0 count
 
 -- question 18: are all bits after the frames, up to `end`, zero?
 abbrev pub zeroAt : (ℕ → ℕ) → ℕ → Bool

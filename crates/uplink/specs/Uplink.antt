@@ -26,8 +26,8 @@ unfoldable pub codeblock : List ℕ → ℕ → ℕ → ℕ
 codeblock frames i = randomize (codeword (frameBit frames i))
 
 -- bit g of all codeblocks, one after another
-unfoldable pub sent : List ℕ → ℕ → ℕ
-sent frames g = codeblock frames (g / 128) (g % 128)
+unfoldable pub sentBit : List ℕ → ℕ → ℕ
+sentBit frames g = codeblock frames (g / 128) (g % 128)
 
 -- slot x of the bits f, four a bit: 1000 for 0, 0100 for 1
 unfoldable pub slotOf : (ℕ → ℕ) → ℕ → ℕ
@@ -37,11 +37,11 @@ slotOf f x = bool (eqb (x % 4) (f (x / 4)))
 abbrev pub frameCount : List ℕ → ℕ
 frameCount frames = length frames / 8
 
-abbrev pub blockCount : List ℕ → ℕ
-blockCount slots = length slots / 64
+abbrev pub codeblockCount : List ℕ → ℕ
+codeblockCount slots = length slots / 64
 
-unfoldable pub slotsOf : List ℕ → List ℕ
-slotsOf frames = bytesOf (64 * frameCount frames) (slotOf (sent frames))
+unfoldable pub uplinkSlotsOf : List ℕ → List ℕ
+uplinkSlotsOf frames = bytesOf (64 * frameCount frames) (slotOf (sentBit frames))
 
 -- ---- slots to frames
 
@@ -57,8 +57,8 @@ isBit slots g = eqb (group slots g) 8 || eqb (group slots g) 4
 unfoldable pub received : List ℕ → ℕ → ℕ → ℕ
 received slots i = randomize (λ j. bitAt slots (4 * (128 * i + j) + 1))
 
-unfoldable pub framesOf : List ℕ → List ℕ
-framesOf slots = bytesOf (8 * blockCount slots) (λ y. received slots (y / 64) (y % 64))
+unfoldable pub uplinkFramesOf : List ℕ → List ℕ
+uplinkFramesOf slots = bytesOf (8 * codeblockCount slots) (λ y. received slots (y / 64) (y % 64))
 
 -- ---- the questions
 
@@ -68,28 +68,28 @@ uplinkLengthsRight count framesLength slotsLength =
     both (both (leb 1 count) (leb count 64)) (both (eqb framesLength (8 * count)) (eqb slotsLength (64 * count)))
 
 -- 28: is each group a bit? The first that is not, counted over all codeblocks
-unfoldable pub firstBadGroup : List ℕ → ℕ
-firstBadGroup slots = upTo (isBit slots) 0 (128 * blockCount slots)
+unfoldable pub firstNoBit : List ℕ → ℕ
+firstNoBit slots = upTo (isBit slots) 0 (128 * codeblockCount slots)
 
 -- 29: does each codeblock pass the parity checks? The first that fails
 unfoldable pub firstBadBlock : List ℕ → ℕ
-firstBadBlock slots = upTo (λ i. isCodeword (received slots i)) 0 (blockCount slots)
+firstBadBlock slots = upTo (λ i. isCodeword (received slots i)) 0 (codeblockCount slots)
 
-unfoldable pub writeSays : List ℕ → ℕ → Answer
-writeSays frames slotsLength = ask (uplinkLengthsRight (frameCount frames) (length frames) slotsLength) 8 0
+unfoldable pub uplinkWriteSays : List ℕ → ℕ → Answer
+uplinkWriteSays frames slotsLength = ask (uplinkLengthsRight (frameCount frames) (length frames) slotsLength) 8 0
 
 -- 28 and 29, of slots of the right length
 unfoldable pub uplinkSlotsSay : List ℕ → Answer
 uplinkSlotsSay slots =
-    then (ask (eqb (firstBadGroup slots) (128 * blockCount slots)) 28 (firstBadGroup slots))
-    (ask (eqb (firstBadBlock slots) (blockCount slots)) 29 (firstBadBlock slots))
+    then (ask (eqb (firstNoBit slots) (128 * codeblockCount slots)) 28 (firstNoBit slots))
+    (ask (eqb (firstBadBlock slots) (codeblockCount slots)) 29 (firstBadBlock slots))
 
-unfoldable pub readSays : List ℕ → ℕ → Answer
-readSays slots framesLength = then (ask (uplinkLengthsRight (blockCount slots) framesLength (length slots)) 8 0) (uplinkSlotsSay slots)
+unfoldable pub uplinkReadSays : List ℕ → ℕ → Answer
+uplinkReadSays slots framesLength = then (ask (uplinkLengthsRight (codeblockCount slots) framesLength (length slots)) 8 0) (uplinkSlotsSay slots)
 
 -- what the slice lent for the result holds afterwards: the result on acceptance, otherwise what it held
 abbrev pub uplinkSlotsAfter : List ℕ → List ℕ → List ℕ
-uplinkSlotsAfter frames old = after (writeSays frames (length old)) (slotsOf frames) old
+uplinkSlotsAfter frames old = after (uplinkWriteSays frames (length old)) (uplinkSlotsOf frames) old
 
 abbrev pub uplinkFramesAfter : List ℕ → List ℕ → List ℕ
-uplinkFramesAfter slots old = after (readSays slots (length old)) (framesOf slots) old
+uplinkFramesAfter slots old = after (uplinkReadSays slots (length old)) (uplinkFramesOf slots) old

@@ -8,7 +8,7 @@ ghost use lib.ListN.{length};
 ghost use Rattle.bits.specs.Pack.{val, bitAt};
 ghost use Rattle.answers.specs.Answer.{after};
 ghost use Rattle.ldpc.specs.Code.{isCodeword};
-ghost use Rattle.uplink.specs.Uplink.{isBit, received, framesOf, firstBadGroup, firstBadBlock, uplinkSlotsSay, readSays};
+ghost use Rattle.uplink.specs.Uplink.{isBit, received, uplinkFramesOf, firstNoBit, firstBadBlock, uplinkSlotsSay, uplinkReadSays};
 ghost use Rattle.uplink.specs.Inner.{Framed, Slotted};
 
 // Whether the four slots of group g are a bit: 1000 or 0100, which are 8 and 4. 272 has its ones at exactly these places.
@@ -23,7 +23,7 @@ fn is_bit(slots: &[u8], g: usize) -> bool
 // Question 28: the first group that is not a bit, or the number of groups.
 fn first_bad_group(slots: &[u8], count: usize) -> usize
     requires { ⌜ Slotted count (now slots) ⌝ }
-    ensures { λ g. ⌜ g ≡ firstBadGroup (now (slots .entry)) ⌝ }
+    ensures { λ g. ⌜ g ≡ firstNoBit (now (slots .entry)) ⌝ }
 {
     let end = 128 * count;
     let mut g = 0;
@@ -109,7 +109,7 @@ fn uplink_slots_say(slots: &[u8], count: usize) -> Answer
 // The frames of all codeblocks.
 fn frames_out(slots: &[u8], count: usize, frames: &mut [u8])
     requires { ⌜ Slotted count (now slots) × Framed count (now frames) ⌝ }
-    ensures { λ _. ⌜ now (frames .exit) ≡ framesOf (now (slots .entry)) ⌝ }
+    ensures { λ _. ⌜ now (frames .exit) ≡ uplinkFramesOf (now (slots .entry)) ⌝ }
 {
     let mut j = 0;
     while j < count {
@@ -120,8 +120,8 @@ fn frames_out(slots: &[u8], count: usize, frames: &mut [u8])
 
 // Reads the frames of slots. Nothing is written before the last question is answered yes.
 pub fn read(slots: &[u8], frames: &mut [u8]) -> Answer
-    ensures { λ r. ⌜ r ≡ readSays (now (slots .entry)) (length (now (frames .entry))) ⌝ }
-    ensures { λ r. ⌜ now (frames .exit) ≡ after r (framesOf (now (slots .entry))) (now (frames .entry)) ⌝ }
+    ensures { λ r. ⌜ r ≡ uplinkReadSays (now (slots .entry)) (length (now (frames .entry))) ⌝ }
+    ensures { λ r. ⌜ now (frames .exit) ≡ after r (uplinkFramesOf (now (slots .entry))) (now (frames .entry)) ⌝ }
 {
     let count = slots.len() / 64;
     if !uplink::uplink_lengths_right(count, frames.len(), slots.len()) {

@@ -5,17 +5,17 @@ use mathlib.Core.List.{List}
 use Prim.Native.Nat.{ℕ}
 use lib.ListN.{length}
 use Rattle.answers.specs.declared.Answer.the-variants.{Done, No}
-use Rattle.uplink.specs.Uplink.{frameCount, uplinkLengthsRight, writeSays}
+use Rattle.uplink.specs.Uplink.{frameCount, uplinkLengthsRight, uplinkWriteSays}
 use Rattle.uplink.proofs.Laws.Uplink.{lengths-sized}
 use Rattle.uplink.specs.Inner.{Framed, Slotted}
 
 module _ (frames : List ℕ) (m : ℕ) (t : Bool) (e : t ≡ uplinkLengthsRight (frameCount frames) (length frames) m) where
-  pub write-no : t ≡ false → No 8 0 ≡ writeSays frames m
-  unfolding writeSays
+  pub write-no : t ≡ false → No 8 0 ≡ uplinkWriteSays frames m
+  unfolding uplinkWriteSays
   write-no f = rw (← e, f) refl
 
-  pub write-yes : t ≡ true → Done ≡ writeSays frames m
-  unfolding writeSays
+  pub write-yes : t ≡ true → Done ≡ uplinkWriteSays frames m
+  unfolding uplinkWriteSays
   write-yes f = rw (← e, f) refl
 
   pub framed : t ≡ true → Framed (frameCount frames) frames

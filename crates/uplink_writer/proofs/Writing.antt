@@ -17,7 +17,7 @@ use Rattle.randomizer.specs.Randomizer.{sequence, randomize}
 use Rattle.randomizer.proofs.Laws.Randomizer.{sequence-bits}
 use Rattle.ldpc.specs.Code.{parityBit}
 use Rattle.ldpc.proofs.Laws.Code.{codeword-first, codeword-behind, parity-bits, parity-same}
-use Rattle.uplink.specs.Uplink.{frameBit, codeblock, sent, slotOf}
+use Rattle.uplink.specs.Uplink.{frameBit, codeblock, sentBit, slotOf}
 use Rattle.uplink.proofs.Laws.Uplink.{first-bits, second-bits, frame-bits, codeblock-bits, sent-at, slot-same}
 
 -- ---- slots
@@ -101,16 +101,16 @@ module _ (frames : List ℕ) (i frame : ℕ) (e : frame ≡ val (frameBit frames
       ∙ ap (codeblock frames i) g))
 
 -- one codeblock more
-pub blocks-more : (frames before middle after : List ℕ) (i : ℕ) → Laid before 0 (64 * i) (slotOf (sent frames)) middle
+pub blocks-more : (frames before middle after : List ℕ) (i : ℕ) → Laid before 0 (64 * i) (slotOf (sentBit frames)) middle
     → Laid middle (64 * i) 64 (slotOf (codeblock frames i)) after
-    → Laid before 0 (64 * (i + 1)) (slotOf (sent frames)) after
+    → Laid before 0 (64 * (i + 1)) (slotOf (sentBit frames)) after
 unfolding slotOf
 blocks-more frames before middle after i l m =
     let e : 64 * i + 64 ≡ 64 * (i + 1) = omega arith in
     let z : 64 * i ≡ 0 + 64 * i = omega arith in
     let here : Laid middle (0 + 64 * i) 64 (slotOf (codeblock frames i)) after =
     subst (λ (k : ℕ). Laid middle k 64 (slotOf (codeblock frames i)) after) z m in
-    rw e at (laid-on before middle after 0 (64 * i) 64 (slotOf (sent frames)) (slotOf (codeblock frames i)) l here (λ x h.
+    rw e at (laid-on before middle after 0 (64 * i) 64 (slotOf (sentBit frames)) (slotOf (codeblock frames i)) l here (λ x h.
     let r : x % 4 ≡ (8 * (64 * i) + x) % 4 = omega arith in
     let g : 128 * i + x / 4 ≡ (8 * (64 * i) + x) / 4 = omega arith in
-    ap₂ (λ (a b : ℕ). bool (eqb a b)) r (sym (sent-at frames i (x / 4) (omega arith)) ∙ ap (sent frames) g)))
+    ap₂ (λ (a b : ℕ). bool (eqb a b)) r (sym (sent-at frames i (x / 4) (omega arith)) ∙ ap (sentBit frames) g)))

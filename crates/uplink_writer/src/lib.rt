@@ -8,7 +8,7 @@ ghost use lib.ListN.{length};
 ghost use Rattle.bits.specs.Pack.{val, bitOf};
 ghost use Rattle.bits.specs.Inner.{Laid};
 ghost use Rattle.answers.specs.Answer.{after};
-ghost use Rattle.uplink.specs.Uplink.{codeblock, slotOf, slotsOf, writeSays};
+ghost use Rattle.uplink.specs.Uplink.{codeblock, slotOf, uplinkSlotsOf, uplinkWriteSays};
 ghost use Rattle.uplink.specs.Inner.{Framed, Slotted};
 
 // Bits 2q and 2q + 1 of v as eight slots.
@@ -46,7 +46,7 @@ fn put_codeblock(frames: &[u8], i: usize, slots: &mut [u8])
 // The codeblocks of all frames, one after another.
 fn codeblocks(frames: &[u8], count: usize, slots: &mut [u8])
     requires { ⌜ Framed count (now frames) × Slotted count (now slots) ⌝ }
-    ensures { λ _. ⌜ now (slots .exit) ≡ slotsOf (now (frames .entry)) ⌝ }
+    ensures { λ _. ⌜ now (slots .exit) ≡ uplinkSlotsOf (now (frames .entry)) ⌝ }
 {
     let mut i = 0;
     while i < count {
@@ -57,8 +57,8 @@ fn codeblocks(frames: &[u8], count: usize, slots: &mut [u8])
 
 // Writes the slots of frames.
 pub fn write(frames: &[u8], slots: &mut [u8]) -> Answer
-    ensures { λ r. ⌜ r ≡ writeSays (now (frames .entry)) (length (now (slots .entry))) ⌝ }
-    ensures { λ r. ⌜ now (slots .exit) ≡ after r (slotsOf (now (frames .entry))) (now (slots .entry)) ⌝ }
+    ensures { λ r. ⌜ r ≡ uplinkWriteSays (now (frames .entry)) (length (now (slots .entry))) ⌝ }
+    ensures { λ r. ⌜ now (slots .exit) ≡ after r (uplinkSlotsOf (now (frames .entry))) (now (slots .entry)) ⌝ }
 {
     let count = frames.len() / 8;
     if !uplink::uplink_lengths_right(count, frames.len(), slots.len()) {

@@ -14,7 +14,7 @@ use Rattle.bits.proofs.Laws.Choice.{lt-or-le}
 use Rattle.bits.proofs.Laws.Pack.{val-same}
 use Rattle.sizes.specs.Sizes.{infoBits, inputsPer, codedPer}
 use Rattle.crc.specs.Check.{register, checked, advance}
-use Rattle.convolution.specs.Code.{delay, first, second, stepOf, encode}
+use Rattle.convolution.specs.Code.{delay, first, second, inputPlace, encode}
 use Rattle.convolution.proofs.Laws.Code.{encode-same}
 use Rattle.interleaver.specs.Interleaver.{sourceBit, interleave}
 use Rattle.accumulator.specs.Accumulator.{accumulate}
@@ -58,7 +58,7 @@ by-period i =
 
 -- it begins with the byte CE at rate 1/3
 pub order-example : val (shuffled (codedOf 0 [])) 8 ≡ 0xCE
-unfolding shuffled accumulate interleave sourceBit codedOf encode stepOf first second delay inputsPer codedPer infoBits sequence window next val byPeriod
+unfolding shuffled accumulate interleave sourceBit codedOf encode inputPlace first second delay inputsPer codedPer infoBits sequence window next val byPeriod
 order-example =
     val-same (shuffled (codedOf 0 [])) (shuffled (encode 0 byPeriod)) 8 (λ j l.
     shuffled-same (codedOf 0 []) (encode 0 byPeriod) (λ x k. encode-same 0 (inputOf 0 []) byPeriod (omega arith) (λ i h. by-period i) x k) j)

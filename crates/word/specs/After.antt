@@ -4,10 +4,10 @@ use mathlib.Core.List.{List}
 use Prim.Native.Nat.{ℕ}
 use lib.ListN.{length}
 use Rattle.answers.specs.Answer.{after}
-use Rattle.word.specs.Word.{writeSays, readSays, wordOf, blockIn}
+use Rattle.word.specs.Word.{wordWriteSays, wordReadSays, wordOf, blockIn}
 
 abbrev pub wordAfter : ℕ → List ℕ → List ℕ → List ℕ
-wordAfter rate block old = after (writeSays rate block (length old)) (wordOf rate block) old
+wordAfter rate block old = after (wordWriteSays rate block (length old)) (wordOf rate block) old
 
 abbrev pub blockAfter : ℕ → List ℕ → List ℕ → List ℕ
-blockAfter rate word old = after (readSays rate word (length old)) (blockIn rate word) old
+blockAfter rate word old = after (wordReadSays rate word (length old)) (blockIn rate word) old

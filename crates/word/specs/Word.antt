@@ -95,8 +95,8 @@ unfoldable pub checkRight : ℕ → (ℕ → ℕ) → Bool
 checkRight rate x = eqb (val (λ i. x (infoBits rate + i)) 32) (register x (infoBits rate))
 
 -- the writer: questions 2 and 8; the block's spare bits are not looked at
-unfoldable pub writeSays : ℕ → List ℕ → ℕ → Answer
-writeSays rate block wordLength =
+unfoldable pub wordWriteSays : ℕ → List ℕ → ℕ → Answer
+wordWriteSays rate block wordLength =
     then (ask (ltb rate 3) 2 0)
     (ask (both (eqb (length block) (blockBytes rate)) (eqb wordLength wordBytes)) 8 0)
 
@@ -107,8 +107,8 @@ judged rate c x =
     (then (ask (endsInZeros rate x) 14 0)
     (ask (checkRight rate x) 15 0))
 
-unfoldable pub readSays : ℕ → List ℕ → ℕ → Answer
-readSays rate word blockLength =
+unfoldable pub wordReadSays : ℕ → List ℕ → ℕ → Answer
+wordReadSays rate word blockLength =
     then (ask (ltb rate 3) 2 0)
     (then (ask (both (eqb (length word) wordBytes) (eqb blockLength (blockBytes rate))) 8 0)
     (judged rate (codedIn word) (inputIn rate word)))

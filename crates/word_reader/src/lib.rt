@@ -11,7 +11,7 @@ ghost use Rattle.convolution.specs.Code as code;
 ghost use Rattle.decoder.specs.Inner.{Decodes};
 ghost use Rattle.randomizer.specs.Randomizer.{randomize};
 ghost use Rattle.answers.specs.Answer.{after};
-ghost use Rattle.word.specs.Word.{codedIn, inputIn, blockIn, packedBlock, judged, readSays};
+ghost use Rattle.word.specs.Word.{codedIn, inputIn, blockIn, packedBlock, judged, wordReadSays};
 ghost use Rattle.word_reader.specs.Inner.{Undoes, Reads, Gives, Words};
 
 // The coded bits taken back out: steps 6 and 5 undone.
@@ -84,7 +84,7 @@ fn decode(rate: u64, word: &[u8], block: &mut [u8]) -> Answer
 
 // Reads the block of a word.
 pub fn read(rate: u64, word: &[u8], block: &mut [u8]) -> Answer
-    ensures { λ r. ⌜ r ≡ readSays rate (now (word .entry)) (length (now (block .entry))) ⌝ }
+    ensures { λ r. ⌜ r ≡ wordReadSays rate (now (word .entry)) (length (now (block .entry))) ⌝ }
     ensures { λ r. ⌜ now (block .exit) ≡ after r (blockIn rate (now (word .entry))) (now (block .entry)) ⌝ }
 {
     if 2 < rate {

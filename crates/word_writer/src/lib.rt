@@ -9,14 +9,14 @@ ghost use Rattle.sizes.specs.Sizes.{infoBits, wordBits, wordBytes};
 ghost use Rattle.sizes.specs.Inner.{inputBits};
 ghost use Rattle.crc.specs.Check.{checked};
 ghost use Rattle.convolution.specs.Code.{terminated};
-ghost use Rattle.word.specs.Word.{inputOf, codedOf, shuffled, wordOf, writeSays};
+ghost use Rattle.word.specs.Word.{inputOf, codedOf, shuffled, wordOf, wordWriteSays};
 ghost use Rattle.answers.specs.Answer.{after};
 ghost use Rattle.word.specs.Inner.{WriteAccepted};
 ghost use Rattle.word_writer.specs.Inner.{Checks, Inputs, Codes, Shuffles};
 
 // Questions 2 and 8.
 fn write_says(rate: u64, block: &[u8], word_length: usize) -> Answer
-    ensures { λ r. ⌜ r ≡ writeSays rate (now (block .entry)) «word_length» ⌝ }
+    ensures { λ r. ⌜ r ≡ wordWriteSays rate (now (block .entry)) «word_length» ⌝ }
 {
     if 2 < rate {
         return Answer::No(2, 0);
@@ -82,7 +82,7 @@ fn code(rate: u64, block: &[u8], word: &mut [u8])
 
 // Writes the word of a packed block.
 pub fn write(rate: u64, block: &[u8], word: &mut [u8]) -> Answer
-    ensures { λ r. ⌜ r ≡ writeSays rate (now (block .entry)) (length (now (word .entry))) ⌝ }
+    ensures { λ r. ⌜ r ≡ wordWriteSays rate (now (block .entry)) (length (now (word .entry))) ⌝ }
     ensures { λ r. ⌜ now (word .exit) ≡ after r (wordOf rate (now (block .entry))) (now (word .entry)) ⌝ }
 {
     let answer = write_says(rate, block, word.len());

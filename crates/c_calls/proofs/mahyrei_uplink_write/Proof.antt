@@ -3,7 +3,7 @@ use mathlib.Core.Path.{ap, _∙_}
 use lib.ListN.{length}
 use Rattle.answers.specs.declared.Answer.{Answer}
 use Rattle.answers.specs.Answer.{codeOf, after}
-use Rattle.uplink.specs.Uplink.{slotsOf}
+use Rattle.uplink.specs.Uplink.{uplinkSlotsOf}
 use Rattle.uplink.proofs.Laws.Exports.{write-fits}
 use borrow.Author.Needs.{needs}
 use Rattle.c_calls.proofs.mahyrei_uplink_write.Statement.{statement}
@@ -25,7 +25,7 @@ returns c =
     let a = c .before .before .before .before .before .before .before .args in
     let r = c .before .before .before .write in (
       c .code .ensures ∙ ap codeOf (r .ensures .0),
-      r .ensures .1 ∙ ap (λ (x : Answer). after x (slotsOf (a .frames .now)) (a .slots .now)) (r .ensures .0),
+      r .ensures .1 ∙ ap (λ (x : Answer). after x (uplinkSlotsOf (a .frames .now)) (a .slots .now)) (r .ensures .0),
     )
 
 pub mahyrei-uplink-write-spec : {M : Type 1} → statement M

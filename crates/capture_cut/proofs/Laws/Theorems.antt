@@ -23,15 +23,15 @@ use Rattle.header_questions.specs.Questions.{runSays}
 use Rattle.parameters.specs.Parameters.{parametersOf}
 use Rattle.header_questions.proofs.Laws.Marks.{run-good}
 use Rattle.plan.specs.declared.Plan.{Plan}
-use Rattle.plan.specs.Plan.{planOf, planIn, sent}
+use Rattle.plan.specs.Plan.{planOf, planIn, sentCount}
 use Rattle.plan.specs.Inner.{slotBytes}
 use Rattle.plan.specs.Lengths.{runLengthsRight, callSays}
 use Rattle.plan.proofs.Laws.Accepted.{Ready, ready}
-use Rattle.channel.specs.Channel.{unit, symbolCount}
+use Rattle.channel.specs.Channel.{unit, layoutSymbols}
 use Rattle.pulses.proofs.Laws.Pulses.{slot-bits}
-use Rattle.slots.specs.Writing.{slotsOf}
+use Rattle.slots.specs.Writing.{runSlots}
 use Rattle.slots.proofs.Laws.Slots.{length-slots, bytes-slots}
-use Rattle.run.specs.Run.{wordAt, runOf, writeSays}
+use Rattle.run.specs.Run.{wordAt, runOf, runWriteSays}
 use Rattle.run.specs.Steps.{slot, step10}
 use Rattle.run.proofs.Laws.Steps.{run-is, marker-is, slot-is, slot-none}
 use Rattle.capture_search.specs.Search.{captureMost, firstFit, firstFitFrom, findSays, findFromSays, MarkerAt}
@@ -39,22 +39,22 @@ use Rattle.capture_search.proofs.Laws.Theorems.{lent, found-from, earliest-foun
 use Rattle.capture_cut.specs.Cut.{cutOf, cutSays, RunAt}
 use Rattle.capture_cut.proofs.Laws.Cut.{are-lengths}
 
-module _ (header marker frames : List ℕ) (n : ℕ) (e : writeSays header marker frames n ≡ Done) where
+module _ (header marker frames : List ℕ) (n : ℕ) (e : runWriteSays header marker frames n ≡ Done) where
   known : Ready header marker (length frames) n
-  unfolding writeSays
+  unfolding runWriteSays
   known = ready header marker (length frames) n e
 
   said : runSays header marker ≡ Done
-  unfolding writeSays callSays
+  unfolding runWriteSays callSays
   said =
       then-done (runSays header marker) (ask (runLengthsRight (fieldsOf header) (length marker) (length frames) n) 8 0) e .0
 
   -- the plan has the symbols and the slots of the header
-  symbols-are : symbolCount (planIn header marker .layout) ≡ quantities.symbolCount (fieldsOf header)
+  symbols-are : layoutSymbols (planIn header marker .layout) ≡ quantities.symbolCount (fieldsOf header)
   unfolding planOf parametersOf quantities.symbolCount quantities.layoutOf
   symbols-are = refl
 
-  slots-are : sent (planIn header marker) * planIn header marker .group ≡ quantities.slotCount (fieldsOf header)
+  slots-are : sentCount (planIn header marker) * planIn header marker .group ≡ quantities.slotCount (fieldsOf header)
   unfolding planOf parametersOf quantities.slotCount
   slots-are = ap₂ (λ (a g : ℕ). a * fieldsOf header .copies * g) symbols-are (lent header marker said (known .marker-is) .group-is)
 
@@ -85,7 +85,7 @@ module _ (header marker frames : List ℕ) (n : ℕ) (e : writeSays header marke
   run-slot i l =
       let p : Plan = planIn header marker in
       ap (λ (xs : List ℕ). bitAt xs i) (run-is header marker frames)
-      ∙ bit-bytes (slotBytes p) (slot header marker frames) (slot-bits (p .group) (sent p) (λ u. step10 header marker frames (u / p .copies))) i l
+      ∙ bit-bytes (slotBytes p) (slot header marker frames) (slot-bits (p .group) (sentCount p) (λ u. step10 header marker frames (u / p .copies))) i l
 
   run-spare : (i : ℕ) → i < 8 * slotBytes (planIn header marker) → quantities.slotCount (fieldsOf header) ≤ i
       → bitAt (runOf header marker frames) i ≡ 0
@@ -94,7 +94,7 @@ module _ (header marker frames : List ℕ) (n : ℕ) (e : writeSays header marke
       let p : Plan = planIn header marker in
       let k = lent header marker said (known .marker-is) in
       let g : 0 < p .group = let q = k .group-is in let some = k .group-some in omega arith in
-      let past : sent p ≤ i / p .group = le-div-iff-mul-le g .1 (let c = slots-are in omega arith) in
+      let past : sentCount p ≤ i / p .group = le-div-iff-mul-le g .1 (let c = slots-are in omega arith) in
       run-slot i l ∙ slot-none header marker frames i past
 
   -- where each is sent once, a run begins with its marker
@@ -107,7 +107,7 @@ module _ (header marker frames : List ℕ) (n : ℕ) (e : writeSays header marke
       let at : w * quantities.slotsPerSymbol (fieldsOf header) + r < fieldsOf header .markers * quantities.slotsPerSymbol (fieldsOf header) =
       digits-lt lw lr in
       let room : w * quantities.slotsPerSymbol (fieldsOf header) + r < 8 * slotBytes p = let m = marker-in .1 in let c = slots-are in omega arith in
-      let sym-in : w < symbolCount (p .layout) = let m = marker-in .0 in let c = symbols-are in omega arith in
+      let sym-in : w < layoutSymbols (p .layout) = let m = marker-in .0 in let c = symbols-are in omega arith in
       let line : w ≡ 0 * unit (p .layout) + w = omega arith in
       let copy : w ≡ w * fieldsOf header .copies + 0 = rw one (omega arith) in
       run-slot (w * quantities.slotsPerSymbol (fieldsOf header) + r) room
@@ -123,7 +123,7 @@ module _ (header marker frames : List ℕ) (n : ℕ) (e : writeSays header marke
     run-cut =
         let f : Fields = fieldsOf header in
         let p : Plan = planIn header marker in
-        let run : List ℕ = slotsOf p (wordAt f frames) in
+        let run : List ℕ = runSlots p (wordAt f frames) in
         let good = run-good header marker said .0 in
         let lengths = are-lengths f (length b) s n record { most = short; slots-are = known .slots-are ∙ bytes-are; inside = at .inside } in (
           rw (good, lengths) refl,

@@ -9,7 +9,7 @@ use lib.Dec.{ltb, leb, eqb}
 use lib.ListN.{length, getD}
 use borrow.Author.Tests.{ltb-true, leb-true, eqb-true, eq-eqb, lt-ltb, le-ltb, le-leb}
 use Rattle.plan.specs.declared.Plan.{Plan}
-use Rattle.pattern_search.specs.Starts.{stands, starts, firstWrong, earliest}
+use Rattle.pattern_search.specs.Starts.{stands, starts, firstMismatch, earliest}
 use Rattle.bits.proofs.Laws.Table.{both-true}
 use Rattle.answers.specs.Answer.{ask}
 use Rattle.answers.proofs.Laws.Answer.{then-done, ask-done, ask-yes, ask-no, fits-ask, fits-then}
@@ -143,15 +143,15 @@ found byte = foundFrom byte 0
 
 -- 0010 0000, 0001 0000 and 0000 0100 have the marker at slots 0, 1 and 3
 pub marker-found : (found 32 ≡ 0) × (found 16 ≡ 1) × (found 4 ≡ 3)
-unfolding earliest stands firstWrong firstFrom slotBit bitAt
+unfolding earliest stands firstMismatch firstFrom slotBit bitAt
 marker-found = (refl, refl, refl)
 
 -- in 0000 0010 it would need one slot more, in 0010 1000 a guard slot has a pulse
 pub none-found : (found 2 ≡ 4) × (found 40 ≡ 4) × (found 0 ≡ 4)
-unfolding earliest stands firstWrong firstFrom slotBit bitAt
+unfolding earliest stands firstMismatch firstFrom slotBit bitAt
 none-found = (refl, refl, refl)
 
 -- from slot 1 on 0001 0000 still has it, from slot 2 on no more; from slot 4 on, and from the last number of 64 bits on, nothing is tried
 pub from-found : (foundFrom 16 1 ≡ 1) × (foundFrom 16 2 ≡ 4) × (foundFrom 16 4 ≡ 4) × (foundFrom 4 3 ≡ 3) × (foundFrom 4 18446744073709551615 ≡ 18446744073709551615)
-unfolding earliest stands firstWrong firstFrom slotBit bitAt
+unfolding earliest stands firstMismatch firstFrom slotBit bitAt
 from-found = (refl, refl, refl, refl, refl)

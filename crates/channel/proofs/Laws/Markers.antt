@@ -13,7 +13,7 @@ use borrow.Author.Tests.{lt-ltb, le-ltb}
 use Rattle.bits.specs.Basics.{pick}
 use Rattle.bits.proofs.Laws.Choice.{lt-or-le}
 use Rattle.channel.specs.declared.Layout.{Layout}
-use Rattle.channel.specs.Channel.{total, unit, symbolCount, hitBy, placeAt, symbolOf, marked, markRight, restZero}
+use Rattle.channel.specs.Channel.{total, unit, layoutSymbols, hitBy, placeAt, symbolOf, withMarkers, markRight, restZero}
 
 -- ---- places and symbols
 
@@ -48,7 +48,7 @@ module _ (g : Layout) (least : 1 ≤ g .symbols) where
       ∙ div-add-mod' s (unit g)
 
   -- the places of the lines are symbols of theirs
-  pub sym-lt : (x : ℕ) → x < g .lines * g .symbols → symbolOf g x < symbolCount g
+  pub sym-lt : (x : ℕ) → x < g .lines * g .symbols → symbolOf g x < layoutSymbols g
   unfolding symbolOf
   sym-lt x h =
       let q : x / g .symbols < g .lines = div-lt-iff-lt-mul least .1 h in
@@ -57,22 +57,22 @@ module _ (g : Layout) (least : 1 ≤ g .symbols) where
 -- ---- what stands there
 
 module _ (g : Layout) (marks : List ℕ) where
-  pub marked-mark : (standing : ℕ → ℕ) (s : ℕ) → s % unit g < g .markers → marked g marks standing s ≡ getD marks (s % unit g) 0
-  unfolding marked
+  pub marked-mark : (standing : ℕ → ℕ) (s : ℕ) → s % unit g < g .markers → withMarkers g marks standing s ≡ getD marks (s % unit g) 0
+  unfolding withMarkers
   marked-mark standing s h = rw (lt-ltb (s % unit g) (g .markers) h) refl
 
-  pub marked-place : (standing : ℕ → ℕ) (s : ℕ) → g .markers ≤ s % unit g → marked g marks standing s ≡ standing (placeAt g s)
-  unfolding marked
+  pub marked-place : (standing : ℕ → ℕ) (s : ℕ) → g .markers ≤ s % unit g → withMarkers g marks standing s ≡ standing (placeAt g s)
+  unfolding withMarkers
   marked-place standing s h = rw (le-ltb (s % unit g) (g .markers) h) refl
 
-  pub marked-below : (standing : ℕ → ℕ) (order : ℕ) → ((i : ℕ) → getD marks i 0 < order) → ((x : ℕ) → standing x < order) → (s : ℕ) → marked g marks standing s < order
+  pub marked-below : (standing : ℕ → ℕ) (order : ℕ) → ((i : ℕ) → getD marks i 0 < order) → ((x : ℕ) → standing x < order) → (s : ℕ) → withMarkers g marks standing s < order
   marked-below standing order hm hs s =
       ⊎-elim
       (λ (h : s % unit g < g .markers). rw (marked-mark standing s h) (hm (s % unit g)))
       (λ (h : g .markers ≤ s % unit g). rw (marked-place standing s h) (hs (placeAt g s)))
       (lt-or-le (s % unit g) (g .markers))
 
-  pub marked-same : (f k : ℕ → ℕ) → ((x : ℕ) → f x ≡ k x) → (s : ℕ) → marked g marks f s ≡ marked g marks k s
+  pub marked-same : (f k : ℕ → ℕ) → ((x : ℕ) → f x ≡ k x) → (s : ℕ) → withMarkers g marks f s ≡ withMarkers g marks k s
   marked-same f k h s =
       ⊎-elim
       (λ (l : s % unit g < g .markers). marked-mark f s l ∙ sym (marked-mark k s l))
@@ -80,13 +80,13 @@ module _ (g : Layout) (marks : List ℕ) where
       (lt-or-le (s % unit g) (g .markers))
 
   -- by lines: marker symbol w of a line, and symbol k of it
-  pub line-mark : (standing : ℕ → ℕ) (line w : ℕ) → w < g .markers → marked g marks standing (line * unit g + w) ≡ getD marks w 0
+  pub line-mark : (standing : ℕ → ℕ) (line w : ℕ) → w < g .markers → withMarkers g marks standing (line * unit g + w) ≡ getD marks w 0
   line-mark standing line w l =
       let small : w < unit g = omega arith in
       let m : (line * unit g + w) % unit g ≡ w = digits-mod line small in
       marked-mark standing (line * unit g + w) (rw m l) ∙ ap (λ (i : ℕ). getD marks i 0) m
 
-  pub line-place : (standing : ℕ → ℕ) (line k : ℕ) → k < g .symbols → marked g marks standing (line * unit g + (g .markers + k)) ≡ standing (line * g .symbols + k)
+  pub line-place : (standing : ℕ → ℕ) (line k : ℕ) → k < g .symbols → withMarkers g marks standing (line * unit g + (g .markers + k)) ≡ standing (line * g .symbols + k)
   unfolding placeAt
   line-place standing line k l =
       let small : g .markers + k < unit g = omega arith in

@@ -9,7 +9,7 @@ use lib.ListN.{getD}
 use borrow.Author.Tests.{lt-ltb, le-ltb, eq-eqb, eqb-true}
 use Rattle.bits.proofs.Laws.Choice.{lt-or-le}
 use Rattle.channel.specs.declared.Layout.{Layout}
-use Rattle.channel.specs.Channel.{total, unit, symbolCount, place, hitBy, placed, placeAt, symbolOf, marked, markRight, restZero}
+use Rattle.channel.specs.Channel.{total, unit, layoutSymbols, place, hitBy, placed, placeAt, symbolOf, withMarkers, markRight, restZero}
 use Rattle.channel.specs.Inner.{delay}
 use Rattle.channel.proofs.Laws.Places.{hit-place, place-hit, place-lt, placed-hit, placed-rest}
 use Rattle.channel.proofs.Laws.Markers.{sym-mod, place-sym, sym-place, sym-lt, marked-mark, marked-place}
@@ -17,14 +17,14 @@ use Rattle.channel.proofs.Laws.Markers.{sym-mod, place-sym, sym-place, 
 -- the lines hold the places of all symbols
 module _ (g : Layout) (rows-least : 1 ≤ g .rows) (symbols-least : 1 ≤ g .symbols) (lines-are : g .lines * g .symbols ≡ total g + delay g (g .rows - 1)) where
   -- symbol t stands among the lines' symbols
-  pub stands-lt : (t : ℕ) → t < total g → symbolOf g (place g t) < symbolCount g
+  pub stands-lt : (t : ℕ) → t < total g → symbolOf g (place g t) < layoutSymbols g
   stands-lt t l =
       let p : place g t < g .lines * g .symbols = let q = place-lt g rows-least t l in omega arith in
       sym-lt g symbols-least (place g t) p
 
   module _ (marks : List ℕ) (symbol : ℕ → ℕ) where
     -- and is what is found there
-    pub stands : (t : ℕ) → t < total g → marked g marks (placed g symbol) (symbolOf g (place g t)) ≡ symbol t
+    pub stands : (t : ℕ) → t < total g → withMarkers g marks (placed g symbol) (symbolOf g (place g t)) ≡ symbol t
     stands t l =
         let s : ℕ = symbolOf g (place g t) in
         let m : s % unit g ≡ g .markers + place g t % g .symbols = sym-mod g symbols-least (place g t) in
@@ -35,7 +35,7 @@ module _ (g : Layout) (rows-least : 1 ≤ g .rows) (symbols-least : 1 ≤ g .sym
         ∙ ap symbol hit
 
     -- ---- what was sent, read as it is
-    module _ (read : ℕ → ℕ) (s : ℕ) (same : read s ≡ marked g marks (placed g symbol) s) where
+    module _ (read : ℕ → ℕ) (s : ℕ) (same : read s ≡ withMarkers g marks (placed g symbol) s) where
       pub mark-passes : markRight g marks read s ≡ true
       unfolding markRight
       mark-passes =
@@ -63,7 +63,7 @@ module _ (g : Layout) (rows-least : 1 ≤ g .rows) (symbols-least : 1 ≤ g .sym
     -- ---- what passes, with these symbols where they stand
     pub read-again : (read : ℕ → ℕ) → ((t : ℕ) → t < total g → symbol t ≡ read (symbolOf g (place g t)))
         → (s : ℕ) → markRight g marks read s ≡ true → restZero g read s ≡ true
-        → read s ≡ marked g marks (placed g symbol) s
+        → read s ≡ withMarkers g marks (placed g symbol) s
     unfolding markRight restZero
     read-again read same s mark rest =
         let x : ℕ = placeAt g s in

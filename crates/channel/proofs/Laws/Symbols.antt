@@ -13,7 +13,7 @@ use Rattle.bits.specs.Pack.{val, bitAt, Bits, Bytes, piece}
 use Rattle.bits.proofs.Laws.Pack.{val-lt, val-same, val-bits, bit-lt, bit-val, bytes-are, bit-bytes, bytes-made}
 use Rattle.sizes.specs.Sizes.{wordBits, wordBytes}
 use Rattle.channel.specs.declared.Layout.{Layout}
-use Rattle.channel.specs.Channel.{total, dataAt, wordBit, wordOf}
+use Rattle.channel.specs.Channel.{total, dataAt, wordBit, wordFrom}
 
 pub data-below : (bits : ℕ) (g : Layout) (word : ℕ → List ℕ) (t : ℕ) → dataAt bits g word t < 2 ^ bits
 unfolding dataAt
@@ -56,8 +56,8 @@ pub word-bit-lt : (bits : ℕ) (g : Layout) (symbol : ℕ → ℕ) (j : ℕ) →
 unfolding wordBit
 word-bit-lt bits g symbol j y = omega arith
 
-pub word-bytes : (bits : ℕ) (g : Layout) (symbol : ℕ → ℕ) (j : ℕ) → Bytes (wordOf bits g symbol j)
-unfolding wordOf
+pub word-bytes : (bits : ℕ) (g : Layout) (symbol : ℕ → ℕ) (j : ℕ) → Bytes (wordFrom bits g symbol j)
+unfolding wordFrom
 word-bytes bits g symbol j = bytes-are wordBytes (wordBit bits g symbol j) (word-bit-lt bits g symbol j)
 
 module _ (bits : ℕ) (g : Layout) (size : g .symbols * bits ≡ wordBits) where
@@ -94,8 +94,8 @@ module _ (bits : ℕ) (g : Layout) (size : g .symbols * bits ≡ wordBits) where
 
   -- the words of a word's symbols are the words
   pub word-again : 1 ≤ bits → (word : ℕ → List ℕ) (symbol : ℕ → ℕ) → ((t : ℕ) → t < total g → symbol t ≡ dataAt bits g word t)
-      → (j : ℕ) → j < g .words → length (word j) ≡ wordBytes → Bytes (word j) → wordOf bits g symbol j ≡ word j
-  unfolding wordOf wordBit dataAt
+      → (j : ℕ) → j < g .words → length (word j) ≡ wordBytes → Bytes (word j) → wordFrom bits g symbol j ≡ word j
+  unfolding wordFrom wordBit dataAt
   word-again pos word symbol same j h long bytes =
       sym (bytes-made wordBytes (wordBit bits g symbol j) (word j) long bytes (λ y l.
       let m : ℕ = bits in
@@ -113,14 +113,14 @@ module _ (bits : ℕ) (g : Layout) (size : g .symbols * bits ≡ wordBits) where
       )))
 
   -- and the symbols of a word of symbols are the symbols
-  pub data-again : (symbol : ℕ → ℕ) (t : ℕ) → symbol t < 2 ^ bits → dataAt bits g (wordOf bits g symbol) t ≡ symbol t
-  unfolding dataAt wordOf wordBit
+  pub data-again : (symbol : ℕ → ℕ) (t : ℕ) → symbol t < 2 ^ bits → dataAt bits g (wordFrom bits g symbol) t ≡ symbol t
+  unfolding dataAt wordFrom wordBit
   data-again symbol t small =
       let m : ℕ = bits in
       let n : ℕ = g .symbols in
       let q : ℕ = symbol t in
       let r : t % n < n = mod-lt t (symbols-least bits g size) in
-      val-same (λ i. bitAt (wordOf bits g symbol (t / n)) (m * (t % n) + i)) (λ i. q / 2 ^ (m - 1 - i) % 2) m (λ i k.
+      val-same (λ i. bitAt (wordFrom bits g symbol (t / n)) (m * (t % n) + i)) (λ i. q / 2 ^ (m - 1 - i) % 2) m (λ i k.
       let c : m * (t % n) ≡ t % n * m = mul-comm m (t % n) in
       let y : t % n * m + i < n * m = digits-lt r k in
       bit-bytes wordBytes (wordBit bits g symbol (t / n)) (word-bit-lt bits g symbol (t / n)) (m * (t % n) + i) (omega arith)

@@ -15,7 +15,7 @@ use Rattle.bits.specs.Pack.{Bits}
 use Rattle.sizes.specs.Sizes.{infoBits, inputsPer, codedPer, wordBits}
 use Rattle.sizes.specs.Inner.{inputBits}
 use Rattle.sizes.proofs.Laws.Rate.{by-rate}
-use Rattle.convolution.specs.Code.{delay, first, second, stepOf, encode, secondPlace, recover, decode}
+use Rattle.convolution.specs.Code.{delay, first, second, inputPlace, encode, secondPlace, recover, decode}
 
 -- the places of the second outputs at each rate
 pub second-example : (map (secondPlace 0) (0 ∷ 1 ∷ 2 ∷ []) ≡ 1 ∷ 4 ∷ 7 ∷ []) × (map (secondPlace 1) (0 ∷ 1 ∷ 2 ∷ []) ≡ 1 ∷ 3 ∷ 5 ∷ []) × (map (secondPlace 2) (0 ∷ 1 ∷ 2 ∷ 3 ∷ []) ≡ 1 ∷ 2 ∷ 4 ∷ 5 ∷ [])
@@ -24,11 +24,11 @@ second-example = (refl, refl, refl)
 
 -- ---- the equations of `encode` at each rate
 
-encode-first : (rate : ℕ) (x : ℕ → ℕ) (j i : ℕ) → j % codedPer rate ≡ 0 → stepOf rate j ≡ i → encode rate x j ≡ first x i
+encode-first : (rate : ℕ) (x : ℕ → ℕ) (j i : ℕ) → j % codedPer rate ≡ 0 → inputPlace rate j ≡ i → encode rate x j ≡ first x i
 unfolding encode
 encode-first rate x j i z e = rw (eq-eqb (j % codedPer rate) 0 z, e) refl
 
-encode-second : (rate : ℕ) (x : ℕ → ℕ) (j i : ℕ) → 0 < j % codedPer rate → stepOf rate j ≡ i → encode rate x j ≡ second x i
+encode-second : (rate : ℕ) (x : ℕ → ℕ) (j i : ℕ) → 0 < j % codedPer rate → inputPlace rate j ≡ i → encode rate x j ≡ second x i
 unfolding encode
 encode-second rate x j i z e =
     let ne : j % codedPer rate ≡ 0 → ⊥ = λ q. omega arith in
@@ -37,37 +37,37 @@ encode-second rate x j i z e =
 module _ (x : ℕ → ℕ) (i : ℕ) where
   -- at 1/3 all three outputs are kept
   pub third-first : encode 0 x (3 * i) ≡ first x i
-  unfolding stepOf codedPer inputsPer
+  unfolding inputPlace codedPer inputsPer
   third-first = encode-first 0 x (3 * i) i (omega arith) (omega arith)
 
   pub third-second : encode 0 x (3 * i + 1) ≡ second x i
-  unfolding stepOf codedPer inputsPer
+  unfolding inputPlace codedPer inputsPer
   third-second = encode-second 0 x (3 * i + 1) i (omega arith) (omega arith)
 
   pub third-third : encode 0 x (3 * i + 2) ≡ second x i
-  unfolding stepOf codedPer inputsPer
+  unfolding inputPlace codedPer inputsPer
   third-third = encode-second 0 x (3 * i + 2) i (omega arith) (omega arith)
 
   -- at 1/2 the first two
   pub half-first : encode 1 x (2 * i) ≡ first x i
-  unfolding stepOf codedPer inputsPer
+  unfolding inputPlace codedPer inputsPer
   half-first = encode-first 1 x (2 * i) i (omega arith) (omega arith)
 
   pub half-second : encode 1 x (2 * i + 1) ≡ second x i
-  unfolding stepOf codedPer inputsPer
+  unfolding inputPlace codedPer inputsPer
   half-second = encode-second 1 x (2 * i + 1) i (omega arith) (omega arith)
 
   -- at 2/3 the first two for input bits 0, 2, 4 and so on, the second alone for the others
   pub two-first : encode 2 x (3 * i) ≡ first x (2 * i)
-  unfolding stepOf codedPer inputsPer
+  unfolding inputPlace codedPer inputsPer
   two-first = encode-first 2 x (3 * i) (2 * i) (omega arith) (omega arith)
 
   pub two-second : encode 2 x (3 * i + 1) ≡ second x (2 * i)
-  unfolding stepOf codedPer inputsPer
+  unfolding inputPlace codedPer inputsPer
   two-second = encode-second 2 x (3 * i + 1) (2 * i) (omega arith) (omega arith)
 
   pub two-odd : encode 2 x (3 * i + 2) ≡ second x (2 * i + 1)
-  unfolding stepOf codedPer inputsPer
+  unfolding inputPlace codedPer inputsPer
   two-odd = encode-second 2 x (3 * i + 2) (2 * i + 1) (omega arith) (omega arith)
 
 -- ---- the code is linear
@@ -100,9 +100,9 @@ pub encode-plus : (rate : ℕ) (x y : ℕ → ℕ) (j : ℕ) → encode rate (λ
 unfolding encode
 encode-plus rate x y j = cases (eqb (j % codedPer rate) 0)
   where
-    cases : (t : Bool) → pick t (first (λ i. bitXor (x i) (y i)) (stepOf rate j)) (second (λ i. bitXor (x i) (y i)) (stepOf rate j)) ≡ bitXor (pick t (first x (stepOf rate j)) (second x (stepOf rate j))) (pick t (first y (stepOf rate j)) (second y (stepOf rate j)))
-    cases true = first-plus x y (stepOf rate j)
-    cases false = second-plus x y (stepOf rate j)
+    cases : (t : Bool) → pick t (first (λ i. bitXor (x i) (y i)) (inputPlace rate j)) (second (λ i. bitXor (x i) (y i)) (inputPlace rate j)) ≡ bitXor (pick t (first x (inputPlace rate j)) (second x (inputPlace rate j))) (pick t (first y (inputPlace rate j)) (second y (inputPlace rate j)))
+    cases true = first-plus x y (inputPlace rate j)
+    cases false = second-plus x y (inputPlace rate j)
 
 -- ---- bits in, bits out
 
@@ -124,9 +124,9 @@ pub encode-bits : (rate : ℕ) (x : ℕ → ℕ) → Bits x → Bits (encode rat
 unfolding encode
 encode-bits rate x h j = cases (eqb (j % codedPer rate) 0)
   where
-    cases : (t : Bool) → pick t (first x (stepOf rate j)) (second x (stepOf rate j)) < 2
-    cases true = first-bits x h (stepOf rate j)
-    cases false = second-bits x h (stepOf rate j)
+    cases : (t : Bool) → pick t (first x (inputPlace rate j)) (second x (inputPlace rate j)) < 2
+    cases true = first-bits x h (inputPlace rate j)
+    cases false = second-bits x h (inputPlace rate j)
 
 recover-bits2 : (s : ℕ → ℕ) → Bits s → (i : ℕ) → (recover s i < 2) × (recover s (suc i) < 2)
 unfolding recover
@@ -154,10 +154,10 @@ second-same x y (suc zero) h = ap₂ (λ (b c : ℕ). bitXor (bitXor b c) 0) (h 
 second-same x y (suc (suc i)) h =
     ap₂ bitXor (ap₂ bitXor (h (suc (suc i)) (omega arith)) (h (suc i) (omega arith))) (h i (omega arith))
 
-pub step-lt : (rate j : ℕ) → rate < 3 → j < wordBits → stepOf rate j < inputBits rate
-unfolding stepOf inputBits infoBits inputsPer codedPer
+pub step-lt : (rate j : ℕ) → rate < 3 → j < wordBits → inputPlace rate j < inputBits rate
+unfolding inputPlace inputBits infoBits inputsPer codedPer
 step-lt rate j h l =
-    by-rate (λ (r : ℕ). stepOf r j < inputBits r) (omega arith) (omega arith) (omega arith) rate h
+    by-rate (λ (r : ℕ). inputPlace r j < inputBits r) (omega arith) (omega arith) (omega arith) rate h
 
 pub second-lt : (rate i : ℕ) → rate < 3 → i < inputBits rate → secondPlace rate i < wordBits
 unfolding secondPlace inputBits infoBits inputsPer codedPer
@@ -167,9 +167,9 @@ second-lt rate i h l =
 pub encode-same : (rate : ℕ) (x y : ℕ → ℕ) → rate < 3 → ((i : ℕ) → i < inputBits rate → x i ≡ y i) → (j : ℕ) → j < wordBits → encode rate x j ≡ encode rate y j
 unfolding encode
 encode-same rate x y hr h j l =
-    let s : stepOf rate j < inputBits rate = step-lt rate j hr l in
-    let e : (k : ℕ) → k ≤ stepOf rate j → x k ≡ y k = λ k b. h k (omega arith) in
-    ap₂ (pick (eqb (j % codedPer rate) 0)) (first-same x y (stepOf rate j) e) (second-same x y (stepOf rate j) e)
+    let s : inputPlace rate j < inputBits rate = step-lt rate j hr l in
+    let e : (k : ℕ) → k ≤ inputPlace rate j → x k ≡ y k = λ k b. h k (omega arith) in
+    ap₂ (pick (eqb (j % codedPer rate) 0)) (first-same x y (inputPlace rate j) e) (second-same x y (inputPlace rate j) e)
 
 recover-same2 : (s t : ℕ → ℕ) (i : ℕ) → ((k : ℕ) → k ≤ suc i → s k ≡ t k) → (recover s i ≡ recover t i) × (recover s (suc i) ≡ recover t (suc i))
 unfolding recover
@@ -226,7 +226,7 @@ two-at x i =
     (bit-cases (i % 2) (omega arith))
 
 second-at : (rate : ℕ) (x : ℕ → ℕ) → rate < 3 → (i : ℕ) → encode rate x (secondPlace rate i) ≡ second x i
-unfolding secondPlace inputsPer codedPer stepOf
+unfolding secondPlace inputsPer codedPer inputPlace
 second-at rate x h i =
     by-rate (λ (r : ℕ). encode r x (secondPlace r i) ≡ second x i)
     (encode-second 0 x (secondPlace 0 i) i (omega arith) (omega arith))

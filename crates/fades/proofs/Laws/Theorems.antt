@@ -15,7 +15,7 @@ use Rattle.bits.proofs.Laws.Choice.{lt-or-le, eq-or-ne}
 use Rattle.bits.proofs.Laws.Table.{both-true, both-false, getD-tab, tab-same}
 use Rattle.bits.specs.Count.{weight}
 use Rattle.bits.proofs.Laws.Weight.{weight-same, weight-none, weight-all, weight-append, weight-swap, weight-one}
-use Rattle.channel.specs.Channel.{total, unit, symbolCount, place, hitBy, placeAt, symbolOf}
+use Rattle.channel.specs.Channel.{total, unit, layoutSymbols, place, hitBy, placeAt, symbolOf}
 use Rattle.channel.specs.Inner.{delay}
 use Rattle.channel.proofs.Laws.Places.{place-hit, hit-place, place-lt}
 use Rattle.channel.proofs.Laws.Markers.{sym-mod, place-sym, sym-place, sym-lt}
@@ -50,15 +50,15 @@ module _ (g : Layout) (least : 1 ≤ g .symbols) (fades : List ℕ) where
       cases true false e = weight-none (λ j. 0) (g .words) (λ j l. refl)
       cases false k e = weight-none (λ j. 0) (g .words) (λ j l. refl)
 
-  pub hits-sum : weight (hits g fades) (g .words) ≡ weight (λ s. bool (both (covered fades s) (carries g s))) (symbolCount g)
+  pub hits-sum : weight (hits g fades) (g .words) ≡ weight (λ s. bool (both (covered fades s) (carries g s))) (layoutSymbols g)
   unfolding hits
   hits-sum =
-      weight-swap (λ j s. bool (isHit g fades j s)) (symbolCount g) (g .words)
-      ∙ weight-same (λ s. weight (λ j. bool (isHit g fades j s)) (g .words)) (λ s. bool (both (covered fades s) (carries g s))) (symbolCount g) (λ s l. once s)
+      weight-swap (λ j s. bool (isHit g fades j s)) (layoutSymbols g) (g .words)
+      ∙ weight-same (λ s. weight (λ j. bool (isHit g fades j s)) (g .words)) (λ s. bool (both (covered fades s) (carries g s))) (layoutSymbols g) (λ s l. once s)
 
   -- the counts sum to the covered symbols that are neither marker nor filler
   pub counts-sum : weight (λ j. getD (countsOf g fades) j 0) (g .words)
-      ≡ weight (λ s. bool (both (covered fades s) (both (not (isMarker g s)) (not (isFiller g s))))) (symbolCount g)
+      ≡ weight (λ s. bool (both (covered fades s) (both (not (isMarker g s)) (not (isFiller g s))))) (layoutSymbols g)
   unfolding countsOf carries
   counts-sum = weight-same (λ j. getD (countsOf g fades) j 0) (hits g fades) (g .words) (λ j l. getD-tab (g .words) (hits g fades) j l) ∙ hits-sum
 
@@ -113,7 +113,7 @@ module _ (g : Layout) (whole : Whole g) where
   abbrev pub at : ℕ → ℕ
   at t = symbolOf g (place g t)
 
-  at-lt : (t : ℕ) → t < total g → at t < symbolCount g
+  at-lt : (t : ℕ) → t < total g → at t < layoutSymbols g
   at-lt t l =
       let e = whole .places in
       let p : place g t < total g + delay g (g .rows - 1) = place-lt g (whole .rows-least) t l in
@@ -186,23 +186,23 @@ module _ (g : Layout) (whole : Whole g) where
             rw (ne-eqb (at t) s z) (ap bool (both-false (eqb (t / g .symbols) j)))))
 
     -- each word has S hits
-    pub all-hit : j < g .words → hits g (0 ∷ symbolCount g ∷ []) j ≡ g .symbols
+    pub all-hit : j < g .words → hits g (0 ∷ layoutSymbols g ∷ []) j ≡ g .symbols
     unfolding hits covered
     all-hit l =
-        weight-same (λ s. bool (isHit g (0 ∷ symbolCount g ∷ []) j s)) (λ s. weight (λ t. bool (both (eqb (t / g .symbols) j) (eqb (at t) s))) (total g)) (symbolCount g)
-        (λ s k. rw (le-leb 0 s (omega arith), lt-ltb s (0 + symbolCount g) (omega arith)) (here s))
-        ∙ weight-swap (λ s t. bool (both (eqb (t / g .symbols) j) (eqb (at t) s))) (total g) (symbolCount g)
-        ∙ weight-same (λ t. weight (λ s. bool (both (eqb (t / g .symbols) j) (eqb (at t) s))) (symbolCount g)) (λ t. bool (eqb (t / g .symbols) j)) (total g)
+        weight-same (λ s. bool (isHit g (0 ∷ layoutSymbols g ∷ []) j s)) (λ s. weight (λ t. bool (both (eqb (t / g .symbols) j) (eqb (at t) s))) (total g)) (layoutSymbols g)
+        (λ s k. rw (le-leb 0 s (omega arith), lt-ltb s (0 + layoutSymbols g) (omega arith)) (here s))
+        ∙ weight-swap (λ s t. bool (both (eqb (t / g .symbols) j) (eqb (at t) s))) (total g) (layoutSymbols g)
+        ∙ weight-same (λ t. weight (λ s. bool (both (eqb (t / g .symbols) j) (eqb (at t) s))) (layoutSymbols g)) (λ t. bool (eqb (t / g .symbols) j)) (total g)
         (λ t k. one (eqb (t / g .symbols) j) (at t) (at-lt t k))
         ∙ word-symbols (g .symbols) (g .words) j (whole .symbols-least)
         ∙ rw (lt-ltb j (g .words) l) (omega arith)
       where
-        one : (b : Bool) (a : ℕ) → a < symbolCount g → weight (λ s. bool (both b (eqb a s))) (symbolCount g) ≡ bool b
-        one true a h = weight-one a (symbolCount g) ∙ ap bool (lt-ltb a (symbolCount g) h)
-        one false a h = weight-none (λ s. 0) (symbolCount g) (λ s k. refl)
+        one : (b : Bool) (a : ℕ) → a < layoutSymbols g → weight (λ s. bool (both b (eqb a s))) (layoutSymbols g) ≡ bool b
+        one true a h = weight-one a (layoutSymbols g) ∙ ap bool (lt-ltb a (layoutSymbols g) h)
+        one false a h = weight-none (λ s. 0) (layoutSymbols g) (λ s k. refl)
 
 -- ---- no fade
 
 pub none-hit : (g : Layout) → countsOf g [] ≡ tab (g .words) (λ j. 0)
 unfolding countsOf hits covered
-none-hit g = tab-same (g .words) (hits g []) (λ j. 0) (λ j l. weight-none (λ s. bool (isHit g [] j s)) (symbolCount g) (λ s k. refl))
+none-hit g = tab-same (g .words) (hits g []) (λ j. 0) (λ j l. weight-none (λ s. bool (isHit g [] j s)) (layoutSymbols g) (λ s k. refl))

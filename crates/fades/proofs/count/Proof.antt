@@ -36,9 +36,9 @@ module _ (header fades : List ℕ) (n : ℕ) (done : headerSays header ≡ Done)
   unfolding layoutOf
   words-are = ap (λ (x : Layout). x .words) eg
 
-  count-is : channel.symbolCount g ≡ symbolCount (fieldsOf header)
+  count-is : channel.layoutSymbols g ≡ symbolCount (fieldsOf header)
   unfolding layoutOf symbolCount
-  count-is = ap (λ (x : Layout). channel.symbolCount x) eg
+  count-is = ap (λ (x : Layout). channel.layoutSymbols x) eg
 
   small-run : Small g
   small-run = rw eg (valid-small (fieldsOf header) (header-good header done .valid))
@@ -47,7 +47,7 @@ module _ (header fades : List ℕ) (n : ℕ) (done : headerSays header ≡ Done)
   unfolding fadesSay
   said-8 ne = rw (done, ne-eqb n (blockCount (fieldsOf header)) (λ e. ne (e ∙ sym words-are))) refl
 
-  said-22 : n ≡ g .words → fadesSay header fades n ≡ ask (listGood (channel.symbolCount g) fades) 22 0
+  said-22 : n ≡ g .words → fadesSay header fades n ≡ ask (listGood (channel.layoutSymbols g) fades) 22 0
   unfolding fadesSay
   said-22 e = rw (done, eq-eqb n (blockCount (fieldsOf header)) (e ∙ words-are)) (ap (λ (k : ℕ). ask (listGood k fades) 22 0) (sym count-is))
 
@@ -124,7 +124,7 @@ returns-3 c =
     let done : headerSays (a .header .now) ≡ Done = sym (h .ensures) ∙ c .before .before .before .before .before .before .before .before .enum-told .given .1 in
     let long : length (a .counts .now) ≡ g .result .words = c .before .before .before .before .if1 .left in (
       sym (said-22 (a .header .now) (a .fades .now) (length (a .counts .now)) done (g .result) eg long
-          ∙ ask-no (listGood (channel.symbolCount (g .result)) (a .fades .now)) 22 0 (sym (k .ensures) ∙ not-true (k .result) (c .if2 .taken))),
+          ∙ ask-no (listGood (channel.layoutSymbols (g .result)) (a .fades .now)) 22 0 (sym (k .ensures) ∙ not-true (k .result) (c .if2 .taken))),
       refl,
     )
 
@@ -160,9 +160,9 @@ returns-4 c =
     let eg : g .result ≡ layoutOf (fieldsOf (a .header .now)) = g .ensures ∙ ap layoutOf (c .before .before .before .before .before .before .before .before .before .before .before .before .before .before .before .read .ensures) in
     let done : headerSays (a .header .now) ≡ Done = sym (h .ensures) ∙ c .before .before .before .before .before .before .before .before .before .before .before .before .before .before .before .before .enum-told .given .1 in
     let long : length (a .counts .now) ≡ g .result .words = c .before .before .before .before .before .before .before .before .before .before .before .before .if1 .left in
-    let list : listGood (channel.symbolCount (g .result)) (a .fades .now) ≡ true = sym (k .ensures) ∙ not-false (k .result) (c .before .before .before .before .before .before .before .before .if2 .left) in (
+    let list : listGood (channel.layoutSymbols (g .result)) (a .fades .now) ≡ true = sym (k .ensures) ∙ not-false (k .result) (c .before .before .before .before .before .before .before .before .if2 .left) in (
       sym (said-22 (a .header .now) (a .fades .now) (length (a .counts .now)) done (g .result) eg long
-          ∙ ask-yes (listGood (channel.symbolCount (g .result)) (a .fades .now)) 22 0 list),
+          ∙ ask-yes (listGood (channel.layoutSymbols (g .result)) (a .fades .now)) 22 0 list),
       c .before .before .walk .ensures ∙ ap (λ (x : Layout). countsOf x (a .fades .now)) eg,
     )
 

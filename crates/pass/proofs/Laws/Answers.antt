@@ -20,7 +20,7 @@ use Rattle.answers.specs.Inner.{Fits}
 use Rattle.sizes.specs.Sizes.{blockBytes, wordBytes}
 use Rattle.sizes.proofs.Laws.Rate.{block-size, info-pos}
 use Rattle.word.proofs.Laws.Exports as word-laws
-use Rattle.pass.specs.Pass.{passMost, blocksIn, wordsIn, passLengthsRight, blockSays, wordSays, writeSays, readSays}
+use Rattle.pass.specs.Pass.{passMost, blocksIn, wordsIn, passLengthsRight, passBlockSays, passWordSays, passWriteSays, passReadSays}
 use Rattle.pass.proofs.Laws.Row.{inside, whole}
 
 -- a block has bytes
@@ -58,15 +58,15 @@ right-said n size b w e =
 -- ---- the writer
 
 module _ (rate : ℕ) (blocks : List ℕ) (m : ℕ) (h : rate < 3) where
-  pub write-each : passLengthsRight (blocksIn rate blocks) (blockBytes rate) (length blocks) m ≡ true → writeSays rate blocks m ≡ inOrder (blocksIn rate blocks) (blockSays rate blocks)
-  unfolding writeSays
+  pub write-each : passLengthsRight (blocksIn rate blocks) (blockBytes rate) (length blocks) m ≡ true → passWriteSays rate blocks m ≡ inOrder (blocksIn rate blocks) (passBlockSays rate blocks)
+  unfolding passWriteSays
   write-each e = rw (lt-ltb rate 3 h, e) refl
 
   -- no block of the right length is refused
-  pub write-done : passLengthsRight (blocksIn rate blocks) (blockBytes rate) (length blocks) m ≡ true → writeSays rate blocks m ≡ Done
+  pub write-done : passLengthsRight (blocksIn rate blocks) (blockBytes rate) (length blocks) m ≡ true → passWriteSays rate blocks m ≡ Done
   write-done e =
       let r = right-said (blocksIn rate blocks) (blockBytes rate) (length blocks) m e in
-      write-each e ∙ done-all (blocksIn rate blocks) (blockSays rate blocks) (λ j l.
+      write-each e ∙ done-all (blocksIn rate blocks) (passBlockSays rate blocks) (λ j l.
       word-laws.always-written rate (piece (blockBytes rate) blocks j) h
       (length-piece (blockBytes rate) blocks j (omega (arith, inside (blocksIn rate blocks) (blockBytes rate) j l, r .blocks-are))))
 
@@ -76,21 +76,21 @@ pub record Accepted (rate n blocksLength wordsLength : ℕ) (say : ℕ → Answe
   pub right-is : Right n (blockBytes rate) blocksLength wordsLength
   pub each : (j : ℕ) → j < n → say j ≡ Done
 
-pub write-accepted : (rate : ℕ) (blocks : List ℕ) (m : ℕ) → writeSays rate blocks m ≡ Done → Accepted rate (blocksIn rate blocks) (length blocks) m (blockSays rate blocks)
-unfolding writeSays
+pub write-accepted : (rate : ℕ) (blocks : List ℕ) (m : ℕ) → passWriteSays rate blocks m ≡ Done → Accepted rate (blocksIn rate blocks) (length blocks) m (passBlockSays rate blocks)
+unfolding passWriteSays
 write-accepted rate blocks m e =
     let n : ℕ = blocksIn rate blocks in
     let test : Bool = passLengthsRight n (blockBytes rate) (length blocks) m in
-    let q2 = then-done (ask (ltb rate 3) 2 0) (then (ask test 8 0) (inOrder n (blockSays rate blocks))) e in
-    let q8 = then-done (ask test 8 0) (inOrder n (blockSays rate blocks)) (q2 .1) in
+    let q2 = then-done (ask (ltb rate 3) 2 0) (then (ask test 8 0) (inOrder n (passBlockSays rate blocks))) e in
+    let q8 = then-done (ask test 8 0) (inOrder n (passBlockSays rate blocks)) (q2 .1) in
     record {
       rate-is = ltb-true rate 3 (ask-done (ltb rate 3) 2 0 (q2 .0));
       right-is = right-said n (blockBytes rate) (length blocks) m (ask-done test 8 0 (q8 .0));
-      each = all-done n (blockSays rate blocks) (q8 .1);
+      each = all-done n (passBlockSays rate blocks) (q8 .1);
     }
 
 -- every count from 1 to 211 is accepted
-pub write-all : (rate : ℕ) (blocks : List ℕ) (n m : ℕ) → rate < 3 → 1 ≤ n → n ≤ passMost → length blocks ≡ n * blockBytes rate → m ≡ n * wordBytes → writeSays rate blocks m ≡ Done
+pub write-all : (rate : ℕ) (blocks : List ℕ) (n m : ℕ) → rate < 3 → 1 ≤ n → n ≤ passMost → length blocks ≡ n * blockBytes rate → m ≡ n * wordBytes → passWriteSays rate blocks m ≡ Done
 write-all rate blocks n m h some few eb ew =
     let c : blocksIn rate blocks ≡ n = blocks-count rate n blocks h eb in
     write-done rate blocks m h (ap (λ (x : ℕ). passLengthsRight x (blockBytes rate) (length blocks) m) c ∙ right n (blockBytes rate) (length blocks) m (record { some = some; few = few; blocks-are = eb; words-are = ew }))
@@ -98,30 +98,30 @@ write-all rate blocks n m h some few eb ew =
 -- ---- the reader
 
 module _ (rate : ℕ) (words : List ℕ) (m : ℕ) (h : rate < 3) where
-  pub read-each : passLengthsRight (wordsIn words) (blockBytes rate) m (length words) ≡ true → readSays rate words m ≡ inOrder (wordsIn words) (wordSays rate words)
-  unfolding readSays
+  pub read-each : passLengthsRight (wordsIn words) (blockBytes rate) m (length words) ≡ true → passReadSays rate words m ≡ inOrder (wordsIn words) (passWordSays rate words)
+  unfolding passReadSays
   read-each e = rw (lt-ltb rate 3 h, e) refl
 
-pub read-accepted : (rate : ℕ) (words : List ℕ) (m : ℕ) → readSays rate words m ≡ Done → Accepted rate (wordsIn words) m (length words) (wordSays rate words)
-unfolding readSays
+pub read-accepted : (rate : ℕ) (words : List ℕ) (m : ℕ) → passReadSays rate words m ≡ Done → Accepted rate (wordsIn words) m (length words) (passWordSays rate words)
+unfolding passReadSays
 read-accepted rate words m e =
     let n : ℕ = wordsIn words in
     let test : Bool = passLengthsRight n (blockBytes rate) m (length words) in
-    let q2 = then-done (ask (ltb rate 3) 2 0) (then (ask test 8 0) (inOrder n (wordSays rate words))) e in
-    let q8 = then-done (ask test 8 0) (inOrder n (wordSays rate words)) (q2 .1) in
+    let q2 = then-done (ask (ltb rate 3) 2 0) (then (ask test 8 0) (inOrder n (passWordSays rate words))) e in
+    let q8 = then-done (ask test 8 0) (inOrder n (passWordSays rate words)) (q2 .1) in
     record {
       rate-is = ltb-true rate 3 (ask-done (ltb rate 3) 2 0 (q2 .0));
       right-is = right-said n (blockBytes rate) m (length words) (ask-done test 8 0 (q8 .0));
-      each = all-done n (wordSays rate words) (q8 .1);
+      each = all-done n (passWordSays rate words) (q8 .1);
     }
 
 -- where the lengths are right, the words decide
 pub read-right : (rate : ℕ) (words : List ℕ) (n m : ℕ) → rate < 3 → 1 ≤ n → n ≤ passMost → m ≡ n * blockBytes rate → length words ≡ n * wordBytes
-    → readSays rate words m ≡ inOrder n (wordSays rate words)
+    → passReadSays rate words m ≡ inOrder n (passWordSays rate words)
 read-right rate words n m h some few eb ew =
     let c : wordsIn words ≡ n = words-count n words ew in
     read-each rate words m h (ap (λ (x : ℕ). passLengthsRight x (blockBytes rate) m (length words)) c ∙ right n (blockBytes rate) m (length words) (record { some = some; few = few; blocks-are = eb; words-are = ew }))
-    ∙ ap (λ (x : ℕ). inOrder x (wordSays rate words)) c
+    ∙ ap (λ (x : ℕ). inOrder x (passWordSays rate words)) c
 
 -- the lowest piece that is refused gives its number, and its index is the place
 pub order-lowest : (n j : ℕ) (say : ℕ → Answer) → j < n → ((i : ℕ) → i < j → say i ≡ Done) → isDone (say j) ≡ false → inOrder n say ≡ No (numberOf (say j)) j
@@ -132,44 +132,44 @@ order-lowest n j say l before bad =
 
 -- ---- the answers fit the number that C gets
 
-pub write-fits : (rate : ℕ) (blocks : List ℕ) (m : ℕ) → Fits (writeSays rate blocks m)
-unfolding writeSays
+pub write-fits : (rate : ℕ) (blocks : List ℕ) (m : ℕ) → Fits (passWriteSays rate blocks m)
+unfolding passWriteSays
 write-fits rate blocks m =
     let n : ℕ = blocksIn rate blocks in
     let test : Bool = passLengthsRight n (blockBytes rate) (length blocks) m in
     fits-then (ask (ltb rate 3) 2 0) _ (fits-ask (ltb rate 3) 2 0 (omega arith) (omega arith) (λ z. omega arith))
     (λ e. fits-then (ask test 8 0) _ (fits-ask test 8 0 (omega arith) (omega arith) (λ z. omega arith))
-    (λ f. fits-order n (blockSays rate blocks) (omega (arith, right-said n (blockBytes rate) (length blocks) m (ask-done test 8 0 f) .few))
+    (λ f. fits-order n (passBlockSays rate blocks) (omega (arith, right-said n (blockBytes rate) (length blocks) m (ask-done test 8 0 f) .few))
     (λ j. word-laws.write-fits rate (piece (blockBytes rate) blocks j) wordBytes)))
 
-pub read-fits : (rate : ℕ) (words : List ℕ) (m : ℕ) → Fits (readSays rate words m)
-unfolding readSays
+pub read-fits : (rate : ℕ) (words : List ℕ) (m : ℕ) → Fits (passReadSays rate words m)
+unfolding passReadSays
 read-fits rate words m =
     let n : ℕ = wordsIn words in
     let test : Bool = passLengthsRight n (blockBytes rate) m (length words) in
     fits-then (ask (ltb rate 3) 2 0) _ (fits-ask (ltb rate 3) 2 0 (omega arith) (omega arith) (λ z. omega arith))
     (λ e. fits-then (ask test 8 0) _ (fits-ask test 8 0 (omega arith) (omega arith) (λ z. omega arith))
-    (λ f. fits-order n (wordSays rate words) (omega (arith, right-said n (blockBytes rate) m (length words) (ask-done test 8 0 f) .few))
+    (λ f. fits-order n (passWordSays rate words) (omega (arith, right-said n (blockBytes rate) m (length words) (ask-done test 8 0 f) .few))
     (λ j. word-laws.read-fits rate (piece wordBytes words j) (blockBytes rate))))
 
 -- ---- the numbers that the two calls can answer
 
-pub write-numbers : (rate : ℕ) (blocks : List ℕ) (m : ℕ) → among (0 ∷ 2 ∷ 8 ∷ []) (numberOf (writeSays rate blocks m)) ≡ true
-unfolding writeSays
+pub write-numbers : (rate : ℕ) (blocks : List ℕ) (m : ℕ) → among (0 ∷ 2 ∷ 8 ∷ []) (numberOf (passWriteSays rate blocks m)) ≡ true
+unfolding passWriteSays
 write-numbers rate blocks m =
     let ns : List ℕ = 0 ∷ 2 ∷ 8 ∷ [] in
     let n : ℕ = blocksIn rate blocks in
     let test : Bool = passLengthsRight n (blockBytes rate) (length blocks) m in
     among-then ns (ask (ltb rate 3) 2 0) _ (among-ask ns (ltb rate 3) 2 0 refl refl)
-    (among-then ns (ask test 8 0) (inOrder n (blockSays rate blocks)) (among-ask ns test 8 0 refl refl)
-    (among-order ns n (blockSays rate blocks) refl (λ j. word-laws.write-numbers rate (piece (blockBytes rate) blocks j) wordBytes)))
+    (among-then ns (ask test 8 0) (inOrder n (passBlockSays rate blocks)) (among-ask ns test 8 0 refl refl)
+    (among-order ns n (passBlockSays rate blocks) refl (λ j. word-laws.write-numbers rate (piece (blockBytes rate) blocks j) wordBytes)))
 
-pub read-numbers : (rate : ℕ) (words : List ℕ) (m : ℕ) → among (0 ∷ 2 ∷ 8 ∷ 13 ∷ 14 ∷ 15 ∷ []) (numberOf (readSays rate words m)) ≡ true
-unfolding readSays
+pub read-numbers : (rate : ℕ) (words : List ℕ) (m : ℕ) → among (0 ∷ 2 ∷ 8 ∷ 13 ∷ 14 ∷ 15 ∷ []) (numberOf (passReadSays rate words m)) ≡ true
+unfolding passReadSays
 read-numbers rate words m =
     let ns : List ℕ = 0 ∷ 2 ∷ 8 ∷ 13 ∷ 14 ∷ 15 ∷ [] in
     let n : ℕ = wordsIn words in
     let test : Bool = passLengthsRight n (blockBytes rate) m (length words) in
     among-then ns (ask (ltb rate 3) 2 0) _ (among-ask ns (ltb rate 3) 2 0 refl refl)
-    (among-then ns (ask test 8 0) (inOrder n (wordSays rate words)) (among-ask ns test 8 0 refl refl)
-    (among-order ns n (wordSays rate words) refl (λ j. word-laws.read-numbers rate (piece wordBytes words j) (blockBytes rate))))
+    (among-then ns (ask test 8 0) (inOrder n (passWordSays rate words)) (among-ask ns test 8 0 refl refl)
+    (among-order ns n (passWordSays rate words) refl (λ j. word-laws.read-numbers rate (piece wordBytes words j) (blockBytes rate))))

@@ -9,10 +9,10 @@ use Rattle.bits.proofs.Laws.Pieces.{length-piece}
 use Rattle.answers.specs.declared.Answer.the-variants.{Done}
 use Rattle.answers.proofs.Laws.Answer.{done-all}
 use Rattle.sizes.specs.Sizes.{blockBytes, wordBytes}
-use Rattle.word.specs.Word.{SameBits, SpareZero, wordOf, blockIn, readSays as wordReads}
+use Rattle.word.specs.Word.{SameBits, SpareZero, wordOf, blockIn, wordReadSays}
 use Rattle.word.proofs.Laws.Exports as word-laws
 use Rattle.word.proofs.Laws.Return as word-return
-use Rattle.pass.specs.Pass.{inRow, blocksIn, wordsIn, wordsOf, blocksOf, wordSays, writeSays, readSays}
+use Rattle.pass.specs.Pass.{inRow, blocksIn, wordsIn, wordsOf, blocksOf, passWordSays, passWriteSays, passReadSays}
 use Rattle.pass.proofs.Laws.Row.{inside, row-length, row-piece, row-made, bytes-row, bytes-piece}
 use Rattle.pass.proofs.Laws.Answers.{Right, block-pos, blocks-count, words-count, write-accepted, write-all, read-accepted, read-right}
 
@@ -71,7 +71,7 @@ blocks-made rate n words blocks h ew eb each =
 
 -- ---- there and back
 
-module _ (rate : ℕ) (blocks : List ℕ) (m : ℕ) (e : writeSays rate blocks m ≡ Done) where
+module _ (rate : ℕ) (blocks : List ℕ) (m : ℕ) (e : passWriteSays rate blocks m ≡ Done) where
   n : ℕ
   n = blocksIn rate blocks
 
@@ -92,25 +92,25 @@ module _ (rate : ℕ) (blocks : List ℕ) (m : ℕ) (e : writeSays rate blocks m
   unfolding block
   block-length j l = length-piece (blockBytes rate) blocks j (omega (arith, inside n (blockBytes rate) j l, right-is .blocks-are))
 
-  back : (j : ℕ) → j < n → (wordSays rate words j ≡ Done) × SameBits rate (blockIn rate (piece wordBytes words j)) (block j) × SpareZero rate (blockIn rate (piece wordBytes words j))
+  back : (j : ℕ) → j < n → (passWordSays rate words j ≡ Done) × SameBits rate (blockIn rate (piece wordBytes words j)) (block j) × SpareZero rate (blockIn rate (piece wordBytes words j))
   unfolding n words block
   back j l =
       let w : piece wordBytes words j ≡ wordOf rate (block j) = words-piece rate blocks j l in
       let r = word-return.written-read rate (block j) (word-laws.always-written rate (block j) rate-is (block-length j l)) in (
-        ap (λ (x : List ℕ). wordReads rate x (blockBytes rate)) w ∙ ap (wordReads rate (wordOf rate (block j))) (sym (block-length j l)) ∙ r .0,
+        ap (λ (x : List ℕ). wordReadSays rate x (blockBytes rate)) w ∙ ap (wordReadSays rate (wordOf rate (block j))) (sym (block-length j l)) ∙ r .0,
         λ i k. ap (λ (x : List ℕ). bitAt (blockIn rate x) i) w ∙ r .1 i k,
         λ i k u. ap (λ (x : List ℕ). bitAt (blockIn rate x) i) w ∙ r .2 i k u,
       )
 
   -- Reading what was written gives the blocks back, each its k bits with spare bits of 0.
-  pub written-read : (readSays rate (wordsOf rate blocks) (length blocks) ≡ Done)
+  pub written-read : (passReadSays rate (wordsOf rate blocks) (length blocks) ≡ Done)
       × ((j : ℕ) → j < blocksIn rate blocks
       → SameBits rate (piece (blockBytes rate) (blocksOf rate (wordsOf rate blocks)) j) (piece (blockBytes rate) blocks j)
       × SpareZero rate (piece (blockBytes rate) (blocksOf rate (wordsOf rate blocks)) j))
   unfolding n words block
   written-read = (
     read-right rate words n (length blocks) rate-is (right-is .some) (right-is .few) (right-is .blocks-are) (words-length rate blocks)
-        ∙ done-all n (wordSays rate words) (λ j l. back j l .0),
+        ∙ done-all n (passWordSays rate words) (λ j l. back j l .0),
     λ j l.
         let k : j < wordsIn words = rw (words-count n words (words-length rate blocks)) l in
         let p : piece (blockBytes rate) (blocksOf rate words) j ≡ blockIn rate (piece wordBytes words j) = blocks-piece rate words j k in
@@ -126,8 +126,8 @@ module _ (rate : ℕ) (blocks : List ℕ) (m : ℕ) (e : writeSays rate blocks m
       ∙ word-return.whole-back rate (block j) (bytes-piece (blockBytes rate) blocks j b) (word-laws.always-written rate (block j) rate-is (block-length j l)) (zero j l))))
 
 -- Whatever is accepted was written from the blocks that are returned.
-pub read-written : (rate : ℕ) (words : List ℕ) (m : ℕ) → Bytes words → readSays rate words m ≡ Done
-    → (writeSays rate (blocksOf rate words) (length words) ≡ Done) × (wordsOf rate (blocksOf rate words) ≡ words)
+pub read-written : (rate : ℕ) (words : List ℕ) (m : ℕ) → Bytes words → passReadSays rate words m ≡ Done
+    → (passWriteSays rate (blocksOf rate words) (length words) ≡ Done) × (wordsOf rate (blocksOf rate words) ≡ words)
 read-written rate words m b e =
     let a = read-accepted rate words m e in
     let n : ℕ = wordsIn words in

@@ -20,7 +20,7 @@ use Rattle.answers.proofs.Refused.{is-not-done, moved}
 use Rattle.sizes.specs.Sizes.{blockBytes, wordBytes}
 use Rattle.sizes.proofs.Laws.Rate.{block-room}
 use Rattle.word.specs.Word.{blockIn}
-use Rattle.pass.specs.Pass.{wordSays}
+use Rattle.pass.specs.Pass.{passWordSays}
 use Rattle.pass.proofs.Laws.Row.{inside}
 use Rattle.pass.proofs.Laws.Return.{blocks-made}
 use Rattle.pass_reader.proofs.read_all.Statement.{statement}
@@ -28,7 +28,7 @@ use Rattle.pass_reader.proofs.read_all.Tie as tie
 
 -- word j gives a block
 abbrev gives : ℕ → List ℕ → ℕ → Bool
-gives rate words j = isDone (wordSays rate words j)
+gives rate words j = isDone (passWordSays rate words j)
 
 abbrev Inv-loop : tie.InvT-loop
 Inv-loop rate n words room₀ size j₀ room j =
@@ -106,7 +106,7 @@ returns c =
     let l = c .before .before .before .before .before .before .before .before .loop in
     let r = c .before .before .before .before .before .read-word in
     let keys = c .before .before .match .keys2 in
-    let e = order-no (s .args .n) (s .args .n) (l .j) (wordSays (s .args .rate) (s .args .words .now)) (r .result) refl
+    let e = order-no (s .args .n) (s .args .n) (l .j) (passWordSays (s .args .rate) (s .args .words .now)) (r .result) refl
     (c .before .before .before .before .before .before .before .loop-test .taken) (l .inv .3) (r .ensures .0) (is-not-done (r .result) keys) in
     let m = c .moved-to .ensures ∙ moved (r .result) (l .j) keys in
     (m ∙ e, λ d. absurd (no-done (sym m ∙ d)))
@@ -147,7 +147,7 @@ returns-2 c =
     let s = c .before .before .before .before .before in
     let l = c .before .loop in
     let h = c .before .before .block-bytes in (
-      order-yes (s .args .n) (s .args .n) (l .j) (wordSays (s .args .rate) (s .args .words .now)) refl (c .loop-test .left) (l .inv .0) (l .inv .3),
+      order-yes (s .args .n) (s .args .n) (l .j) (passWordSays (s .args .rate) (s .args .words .now)) refl (c .loop-test .left) (l .inv .0) (l .inv .3),
       λ d. blocks-made (s .args .rate) (s .args .n) (s .args .words .now) (l .room) (s .pre .rate-is) (s .pre .words-are)
           (l .inv .1 ∙ ap (λ (x : ℕ). s .args .n * x) (h .ensures))
           (λ j b. ap (λ (x : ℕ). piece x (l .room) j) (sym (h .ensures)) ∙ l .inv .2 j (omega (arith, c .loop-test .left))),

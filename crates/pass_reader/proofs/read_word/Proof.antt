@@ -6,7 +6,7 @@ use lib.ListN.{length, take, drop}
 use borrow.Author.Needs.{needs}
 use Rattle.answers.specs.Answer.{after}
 use Rattle.sizes.specs.Sizes.{wordBytes}
-use Rattle.word.specs.Word.{blockIn, readSays as wordReads}
+use Rattle.word.specs.Word.{blockIn, wordReadSays}
 use Rattle.bits.specs.Pack.{piece}
 use Rattle.pass.proofs.Laws.Parts.{part-piece}
 use Rattle.pass_reader.proofs.read_word.Statement.{statement}
@@ -40,7 +40,7 @@ returns c =
     let at : ℕ = s .args .j * wordBytes in
     let word : List ℕ = piece wordBytes (s .args .words .now) (s .args .j) in
     let part : take (at + wordBytes - at) (drop at (s .args .words .now)) ≡ word = part-piece wordBytes wordBytes (s .args .words .now) (s .args .j) refl in (
-      r .ensures .0 ∙ ap (λ (x : List ℕ). wordReads (s .args .rate) x (length (s .args .block .now))) part ∙ ap (wordReads (s .args .rate) word) (s .pre .block-is),
+      r .ensures .0 ∙ ap (λ (x : List ℕ). wordReadSays (s .args .rate) x (length (s .args .block .now))) part ∙ ap (wordReadSays (s .args .rate) word) (s .pre .block-is),
       r .ensures .1 ∙ ap (λ (x : List ℕ). after (r .result) (blockIn (s .args .rate) x) (s .args .block .now)) part,
     )
 

@@ -13,7 +13,7 @@ use Rattle.answers.specs.declared.Answer.the-variants.{Done}
 use Rattle.answers.specs.Answer.{after}
 use Rattle.sizes.specs.Sizes.{blockBytes}
 use Rattle.sizes.proofs.Laws.Rate.{block-room}
-use Rattle.word.specs.Word.{wordOf, writeSays as wordWrites}
+use Rattle.word.specs.Word.{wordOf, wordWriteSays}
 use Rattle.word.proofs.Laws.Exports.{always-written}
 use Rattle.pass.proofs.Laws.Row.{inside}
 use Rattle.pass.proofs.Laws.Parts.{part-piece}
@@ -71,7 +71,7 @@ returns c =
     let part : take (s .args .j * size .result + size .result - s .args .j * size .result) (drop (s .args .j * size .result) (s .args .blocks .now)) ≡ block = part-piece (size .result) (blockBytes rate) (s .args .blocks .now) (s .args .j) (size .ensures) in
     let long : length block ≡ blockBytes rate = length-piece (blockBytes rate) (s .args .blocks .now) (s .args .j) (omega (arith, inside (s .args .n) (blockBytes rate) (s .args .j) (s .pre .below), s .pre .blocks-are)) in
     let said : r .result ≡ Done =
-    r .ensures .0 ∙ ap (λ (x : List ℕ). wordWrites rate x (length (s .args .word .now))) part ∙ ap (wordWrites rate block) (s .pre .word-is)
+    r .ensures .0 ∙ ap (λ (x : List ℕ). wordWriteSays rate x (length (s .args .word .now))) part ∙ ap (wordWriteSays rate block) (s .pre .word-is)
     ∙ always-written rate block (s .pre .rate-is) long in
     r .ensures .1 ∙ ap (λ (x : Answer). after x (wordOf rate (take (s .args .j * size .result + size .result - s .args .j * size .result) (drop (s .args .j * size .result) (s .args .blocks .now)))) (s .args .word .now)) said
     ∙ ap (wordOf rate) part

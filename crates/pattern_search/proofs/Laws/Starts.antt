@@ -11,18 +11,18 @@ use Rattle.bits.specs.Basics.{firstFrom, upTo}
 use Rattle.bits.proofs.Laws.Choice.{lt-or-le}
 use Rattle.bits.proofs.Laws.First.{all-pass, none-fails, found, found-at, first-same, same-from}
 use Rattle.bits.specs.Pack.{bitAt}
-use Rattle.pattern_search.specs.Starts.{right, firstWrong, stands, starts, missed, earliest}
+use Rattle.pattern_search.specs.Starts.{right, firstMismatch, stands, starts, missed, earliest}
 
 -- ---- at one slot
 
 module _ (marker : ℕ → ℕ) (n : ℕ) (b : List ℕ) (x : ℕ) where
   -- every slot is right
   pub stands-all : stands marker n b x ≡ true → (i : ℕ) → i < n → bitAt b (x + i) ≡ marker i
-  unfolding stands firstWrong
+  unfolding stands firstMismatch
   stands-all e i l = eqb-true (bitAt b (x + i)) (marker i) (none-fails (right marker b x) n (eqb-true (upTo (right marker b x) 0 n) n e) i l)
 
   pub all-stands : ((i : ℕ) → i < n → bitAt b (x + i) ≡ marker i) → stands marker n b x ≡ true
-  unfolding stands firstWrong
+  unfolding stands firstMismatch
   all-stands h = eq-eqb (upTo (right marker b x) 0 n) n (all-pass (right marker b x) n (λ i l. eq-eqb (bitAt b (x + i)) (marker i) (h i l)))
 
 -- ---- in a capture, from a slot on
@@ -66,7 +66,7 @@ module _ (marker : ℕ → ℕ) (n : ℕ) (b : List ℕ) (from : ℕ) where
 -- markers that are the same in their n slots are found at the same slot
 pub earliest-same : (marker other : ℕ → ℕ) (n : ℕ) (b : List ℕ) (from : ℕ) → ((i : ℕ) → i < n → marker i ≡ other i)
     → earliest marker n b from ≡ earliest other n b from
-unfolding earliest stands firstWrong
+unfolding earliest stands firstMismatch
 earliest-same marker other n b from h =
     same-from (missed marker n b) (missed other n b) (starts n b - from) from (λ x a l.
     ap (λ (k : ℕ). not (eqb k n)) (first-same (right marker b x) (right other b x) n (λ i k. ap (eqb (bitAt b (x + i))) (h i k))))

@@ -15,14 +15,14 @@ use Rattle.answers.specs.declared.Answer.{Answer}
 use Rattle.answers.specs.declared.Answer.the-variants.{Done, No}
 use Rattle.header_questions.specs.Questions.{headerSays}
 use Rattle.rack.proofs.Laws.Rack.{emptyRack, accepted, step-refused, length-step, step-elsewhere, same-or-other}
-use Rattle.rack.specs.Rack.{entryNumber, entryAt, statusIn, headerIn, loaded, lentTo, Task, Load, Read, Drop, Lend, Call, callOf, loanRight, allowed, headerAsked, entryFor, says, filled, entryAfter, stepOf, toldOf}
+use Rattle.rack.specs.Rack.{entryNumber, entryAt, statusIn, headerIn, loaded, lentTo, Task, Load, Read, Drop, Lend, Call, callOf, loanRight, allowed, headerAsked, entryFor, says, filled, entryAfter, afterCall, toldOf}
 use Rattle.rack.specs.Traces.{afterAll, lent}
 use Rattle.rack.proofs.Laws.Places.{step-made, header-told}
 
 pub length-all : (calls : List Call) (area : List ℕ) → length (afterAll area calls) ≡ length area
 unfolding afterAll
 length-all [] area = refl
-length-all (call ∷ calls) area = length-all calls (stepOf area call) ∙ length-step area call
+length-all (call ∷ calls) area = length-all calls (afterCall area call) ∙ length-step area call
 
 -- ---- headers
 
@@ -54,22 +54,22 @@ loan-holds c o (Lend to) entry load drop may =
 -- so an accepted call leaves it that neither loads nor drops there, and so does every refused one
 step-holds : (area : List ℕ) (call : Call) (o p : ℕ) → p < 4
     → ((call .owner ≡ o) × (call .place ≡ p) → says area call ≡ Done → ((header : List ℕ) → call .task ≡ Load header → ⊥) × (call .task ≡ Drop → ⊥))
-    → Holds (stepOf area call) area o p
+    → Holds (afterCall area call) area o p
 step-holds area call o p hp quiet =
     ⊎-elim
     (λ (r : (call .owner ≡ o) × (call .place ≡ p)). here r (says area call) refl)
-    (λ (n : (call .owner ≡ o) × (call .place ≡ p) → ⊥). holds-same (stepOf area call) area o p (step-elsewhere area call o p hp n))
+    (λ (n : (call .owner ≡ o) × (call .place ≡ p) → ⊥). holds-same (afterCall area call) area o p (step-elsewhere area call o p hp n))
     (same-or-other (call .owner) (call .place) o p)
   where
-    here : (call .owner ≡ o) × (call .place ≡ p) → (answer : Answer) → says area call ≡ answer → Holds (stepOf area call) area o p
+    here : (call .owner ≡ o) × (call .place ≡ p) → (answer : Answer) → says area call ≡ answer → Holds (afterCall area call) area o p
     here r Done d =
         let t = quiet r d in
         let k = loan-holds (call .caller) (call .owner) (call .task) (entryFor area call) (t .0) (t .1) (accepted area call d .may) in
-        let made : entryAt (stepOf area call) o p ≡ entryAfter (call .task) (entryFor area call) =
-        ap₂ (λ (x y : ℕ). entryAt (stepOf area call) x y) (sym (r .0)) (sym (r .1)) ∙ step-made area call d in
+        let made : entryAt (afterCall area call) o p ≡ entryAfter (call .task) (entryFor area call) =
+        ap₂ (λ (x y : ℕ). entryAt (afterCall area call) x y) (sym (r .0)) (sym (r .1)) ∙ step-made area call d in
         let old : entryFor area call ≡ entryAt area o p = ap₂ (entryAt area) (r .0) (r .1) in
         record { header = ap headerIn made ∙ k .0 ∙ ap headerIn old; there = ap loaded made ∙ k .1 ∙ ap loaded old }
-    here r (No number place) d = holds-same (stepOf area call) area o p (ap (λ (a : List ℕ). entryAt a o p) (step-refused area call number place d))
+    here r (No number place) d = holds-same (afterCall area call) area o p (ap (λ (a : List ℕ). entryAt a o p) (step-refused area call number place d))
 
 -- the call with its owner, place and task by other names
 call-is : (call : Call) (o p : ℕ) (task : Task) → (call .owner ≡ o) × (call .place ≡ p) → call .task ≡ task → call ≡ callOf (call .caller) o p task
@@ -90,7 +90,7 @@ all-holds (call ∷ calls) area o p hp quiet =
           let q = call-is call o p Drop r e in
           quiet [] calls (call .caller) .1 (ap (λ (x : Call). x ∷ calls) q) (ap (says area) (sym q) ∙ d),
     )) in
-    let r = all-holds calls (stepOf area call) o p hp (λ u v c. (
+    let r = all-holds calls (afterCall area call) o p hp (λ u v c. (
       λ header e d. quiet (call ∷ u) v c .0 header (ap (λ (x : List Call). call ∷ x) e) d,
       λ e d. quiet (call ∷ u) v c .1 (ap (λ (x : List Call). call ∷ x) e) d,
     )) in
@@ -98,18 +98,18 @@ all-holds (call ∷ calls) area o p hp quiet =
 
 -- what the owner loaded is what it reads, and each mission that the place is lent to, until a load or drop there is accepted
 pub loaded-read : (area : List ℕ) (o p : ℕ) (header : List ℕ) (calls : List Call) (c : ℕ) (slice : List ℕ)
-    → says area (callOf o o p (Load header)) ≡ Done → Untouched (stepOf area (callOf o o p (Load header))) o p calls → c < 4 → length slice ≡ 10
-    → (c ≡ o) ⊎ (lent c (afterAll (stepOf area (callOf o o p (Load header))) calls) o p ≡ true)
-    → toldOf (afterAll (stepOf area (callOf o o p (Load header))) calls) (callOf c o p (Read slice)) ≡ record { code = 0; slice = header }
+    → says area (callOf o o p (Load header)) ≡ Done → Untouched (afterCall area (callOf o o p (Load header))) o p calls → c < 4 → length slice ≡ 10
+    → (c ≡ o) ⊎ (lent c (afterAll (afterCall area (callOf o o p (Load header))) calls) o p ≡ true)
+    → toldOf (afterAll (afterCall area (callOf o o p (Load header))) calls) (callOf c o p (Read slice)) ≡ record { code = 0; slice = header }
 unfolding loaded
 loaded-read area o p header calls c slice e quiet hc room may =
     let call : Call = callOf o o p (Load header) in
-    let end : List ℕ = afterAll (stepOf area call) calls in
+    let end : List ℕ = afterAll (afterCall area call) calls in
     let a = accepted area call e in
     let made = step-made area call e in
-    let h = all-holds calls (stepOf area call) o p (a .place) quiet in
+    let h = all-holds calls (afterCall area call) o p (a .place) quiet in
     let there : loaded (entryAt end o p) ≡ true = h .there ∙ ap loaded made ∙ there-now (entryAt area o p) in
-    let long : length end ≡ 176 = length-all calls (stepOf area call) ∙ length-step area call ∙ a .long in
+    let long : length end ≡ 176 = length-all calls (afterCall area call) ∙ length-step area call ∙ a .long in
     header-told end c o p hc (a .owner) (a .place) slice there may long room
     ∙ ap (λ (x : List ℕ). record { code = 0; slice = x }) (h .header ∙ ap headerIn made)
   where
@@ -148,16 +148,16 @@ status-task c (Read slice) entry loan h = h
 status-task c Drop entry loan h = omega arith
 status-task c (Lend to) entry loan h = let l : to < 4 = ltb-true to 4 (both-true (ltb to 4) (not (eqb to c)) loan .0) in omega arith
 
-status-step : (area : List ℕ) (call : Call) → ((o p : ℕ) → p < 4 → statusIn (entryAt area o p) < 6) → (o p : ℕ) → p < 4 → statusIn (entryAt (stepOf area call) o p) < 6
+status-step : (area : List ℕ) (call : Call) → ((o p : ℕ) → p < 4 → statusIn (entryAt area o p) < 6) → (o p : ℕ) → p < 4 → statusIn (entryAt (afterCall area call) o p) < 6
 status-step area call h o p hp = cases (says area call) refl
   where
-    cases : (answer : Answer) → says area call ≡ answer → statusIn (entryAt (stepOf area call) o p) < 6
+    cases : (answer : Answer) → says area call ≡ answer → statusIn (entryAt (afterCall area call) o p) < 6
     cases Done d =
         let a = accepted area call d in
         ⊎-elim
         (λ (r : (call .owner ≡ o) × (call .place ≡ p)).
-        let made : entryAt (stepOf area call) o p ≡ entryAfter (call .task) (entryFor area call) =
-        ap₂ (λ (x y : ℕ). entryAt (stepOf area call) x y) (sym (r .0)) (sym (r .1)) ∙ step-made area call d in
+        let made : entryAt (afterCall area call) o p ≡ entryAfter (call .task) (entryFor area call) =
+        ap₂ (λ (x y : ℕ). entryAt (afterCall area call) x y) (sym (r .0)) (sym (r .1)) ∙ step-made area call d in
         rw made (status-task (call .caller) (call .task) (entryFor area call) (a .loan) (h (call .owner) (call .place) (a .place))))
         (λ (n : (call .owner ≡ o) × (call .place ≡ p) → ⊥). rw (step-elsewhere area call o p hp n) (h o p hp))
         (same-or-other (call .owner) (call .place) o p)
@@ -167,7 +167,7 @@ status-step area call h o p hp = cases (says area call) refl
 pub status-most : (calls : List Call) (area : List ℕ) → ((o p : ℕ) → p < 4 → statusIn (entryAt area o p) < 6) → (o p : ℕ) → p < 4 → statusIn (entryAt (afterAll area calls) o p) < 6
 unfolding afterAll
 status-most [] area h = h
-status-most (call ∷ calls) area h = status-most calls (stepOf area call) (status-step area call h)
+status-most (call ∷ calls) area h = status-most calls (afterCall area call) (status-step area call h)
 
 pub status-start : (o p : ℕ) → statusIn (entryAt emptyRack o p) < 6
 status-start o p = rw (empty-entry o p) (omega arith)
@@ -186,16 +186,16 @@ good-task c o (Read slice) entry asked may good e = good e
 good-task c o Drop entry asked may good e = absurd (true-false true refl (sym e))
 good-task c o (Lend to) entry asked may good e = good (both-true (loaded entry) (eqb c o) may .0)
 
-good-step : (area : List ℕ) (call : Call) → Good area → Good (stepOf area call)
+good-step : (area : List ℕ) (call : Call) → Good area → Good (afterCall area call)
 good-step area call good = cases (says area call) refl
   where
-    cases : (answer : Answer) → says area call ≡ answer → Good (stepOf area call)
+    cases : (answer : Answer) → says area call ≡ answer → Good (afterCall area call)
     cases Done d o p ho hp e =
         let a = accepted area call d in
         ⊎-elim
         (λ (r : (call .owner ≡ o) × (call .place ≡ p)).
-        let made : entryAt (stepOf area call) o p ≡ entryAfter (call .task) (entryFor area call) =
-        ap₂ (λ (x y : ℕ). entryAt (stepOf area call) x y) (sym (r .0)) (sym (r .1)) ∙ step-made area call d in
+        let made : entryAt (afterCall area call) o p ≡ entryAfter (call .task) (entryFor area call) =
+        ap₂ (λ (x y : ℕ). entryAt (afterCall area call) x y) (sym (r .0)) (sym (r .1)) ∙ step-made area call d in
         ap (λ (x : List ℕ). headerSays (headerIn x)) made
         ∙ good-task (call .caller) (call .owner) (call .task) (entryFor area call) (a .header) (a .may) (good (call .owner) (call .place) (a .owner) (a .place)) (ap loaded (sym made) ∙ e))
         (λ (n : (call .owner ≡ o) × (call .place ≡ p) → ⊥).
@@ -209,7 +209,7 @@ good-step area call good = cases (says area call) refl
 pub held-good : (calls : List Call) (area : List ℕ) → Good area → Good (afterAll area calls)
 unfolding afterAll
 held-good [] area good = good
-held-good (call ∷ calls) area good = held-good calls (stepOf area call) (good-step area call good)
+held-good (call ∷ calls) area good = held-good calls (afterCall area call) (good-step area call good)
 
 pub good-start : Good emptyRack
 good-start o p ho hp e = absurd (true-false (loaded (entryAt emptyRack o p)) e (empty-start o p))

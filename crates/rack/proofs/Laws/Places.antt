@@ -16,7 +16,7 @@ use Rattle.answers.specs.declared.Answer.the-variants.{Done, No}
 use Rattle.answers.specs.Answer.{ask, then}
 use Rattle.header_questions.specs.Questions.{headerSays}
 use Rattle.header_questions.proofs.Laws.Good.{header-good}
-use Rattle.rack.specs.Rack.{entryNumber, entryAt, statusIn, headerIn, loaded, lentTo, Task, Load, Read, Drop, Lend, Call, callOf, missionsRight, placeRight, allowed, headerAsked, entryFor, says, entryAfter, stepOf, toldOf}
+use Rattle.rack.specs.Rack.{entryNumber, entryAt, statusIn, headerIn, loaded, lentTo, Task, Load, Read, Drop, Lend, Call, callOf, missionsRight, placeRight, allowed, headerAsked, entryFor, says, entryAfter, afterCall, toldOf}
 use Rattle.rack.specs.Traces.{lent}
 use Rattle.rack.proofs.Laws.Rack.{not-allowed, accepted, step-refused, step-elsewhere, step-here, same-or-other}
 
@@ -33,7 +33,7 @@ length-after Drop entry e l = refl
 length-after (Lend to) entry e l = let d = length-drop 1 entry in omega arith
 
 -- the entry after an accepted call
-pub step-made : (area : List ℕ) (call : Call) → says area call ≡ Done → entryFor (stepOf area call) call ≡ entryAfter (call .task) (entryFor area call)
+pub step-made : (area : List ℕ) (call : Call) → says area call ≡ Done → entryFor (afterCall area call) call ≡ entryAfter (call .task) (entryFor area call)
 step-made area call e =
     let made : List ℕ = entryAfter (call .task) (entryFor area call) in
     let long : length made ≡ 11 = length-after (call .task) (entryFor area call) (accepted area call e .header) (length-entry area (call .owner) (call .place)) in
@@ -66,15 +66,15 @@ load-lent m header entry = ap (both (ltb m 4)) (cases (eqb (statusIn entry) 0) r
         ne-eqb 1 (2 + m) (λ q. omega arith) ∙ sym (ne-eqb (statusIn entry) (2 + m) (λ q. omega arith))
     cases false e = refl
 
-pub load-keeps-loans : (area : List ℕ) (c o p : ℕ) (header : List ℕ) (m x y : ℕ) → lent m (stepOf area (callOf c o p (Load header))) x y ≡ lent m area x y
+pub load-keeps-loans : (area : List ℕ) (c o p : ℕ) (header : List ℕ) (m x y : ℕ) → lent m (afterCall area (callOf c o p (Load header))) x y ≡ lent m area x y
 load-keeps-loans area c o p header m x y = cases (says area call) refl
   where
     call : Call
     call = callOf c o p (Load header)
 
-    cases : (answer : Answer) → says area call ≡ answer → lent m (stepOf area call) x y ≡ lent m area x y
+    cases : (answer : Answer) → says area call ≡ answer → lent m (afterCall area call) x y ≡ lent m area x y
     cases Done e =
-        lent-same m (stepOf area call) area x y (λ hy.
+        lent-same m (afterCall area call) area x y (λ hy.
         ⊎-elim
         (λ (r : (o ≡ x) × (p ≡ y)). rw (← r .0, ← r .1) (ap (lentTo m) (step-made area call e) ∙ load-lent m header (entryAt area o p)))
         (λ (n : (o ≡ x) × (p ≡ y) → ⊥). ap (lentTo m) (step-elsewhere area call x y hy n))
@@ -82,13 +82,13 @@ load-keeps-loans area c o p header m x y = cases (says area call) refl
     cases (No number place) e = ap (λ (a : List ℕ). lent m a x y) (step-refused area call number place e)
 
 -- a loan is to the one mission and to no other
-pub lend-lends : (area : List ℕ) (c o p to : ℕ) → says area (callOf c o p (Lend to)) ≡ Done → (m : ℕ) → lent m (stepOf area (callOf c o p (Lend to))) o p ≡ eqb m to
+pub lend-lends : (area : List ℕ) (c o p to : ℕ) → says area (callOf c o p (Lend to)) ≡ Done → (m : ℕ) → lent m (afterCall area (callOf c o p (Lend to))) o p ≡ eqb m to
 unfolding lentTo
 lend-lends area c o p to e m =
     let call : Call = callOf c o p (Lend to) in
     let a = accepted area call e in
     let small : to < 4 = ltb-true to 4 (both-true (ltb to 4) (not (eqb to c)) (a .loan) .0) in
-    lent-in m (stepOf area call) o p (a .owner) (a .place)
+    lent-in m (afterCall area call) o p (a .owner) (a .place)
     ∙ ap (lentTo m) (step-made area call e)
     ∙ ⊎-elim
     (λ (q : m ≡ to). let l : m < 4 = omega arith in rw (lt-ltb m 4 l, eq-eqb m to q, eq-eqb (2 + to) (2 + m) (omega arith)) refl)
@@ -96,7 +96,7 @@ lend-lends area c o p to e m =
     (eq-or-ne m to)
 
 -- a place that was dropped is empty and lent to nobody
-pub drop-empties : (area : List ℕ) (c o p : ℕ) → says area (callOf c o p Drop) ≡ Done → entryAt (stepOf area (callOf c o p Drop)) o p ≡ replicate 11 0
+pub drop-empties : (area : List ℕ) (c o p : ℕ) → says area (callOf c o p Drop) ≡ Done → entryAt (afterCall area (callOf c o p Drop)) o p ≡ replicate 11 0
 drop-empties area c o p e = step-made area (callOf c o p Drop) e
 
 pub empty-unlent : (m : ℕ) (area : List ℕ) (o p : ℕ) → loaded (entryAt area o p) ≡ false → lent m area o p ≡ false
@@ -105,9 +105,9 @@ empty-unlent m area o p e =
     let z : statusIn (entryAt area o p) ≡ 0 = eqb-true (statusIn (entryAt area o p)) 0 (not-false (eqb (statusIn (entryAt area o p)) 0) e) in
     rw (ne-eqb (statusIn (entryAt area o p)) (2 + m) (λ q. omega arith)) (rw (both-false (ltb m 4)) (both-false (both (ltb o 4) (ltb p 4))))
 
-pub drop-ends-loan : (area : List ℕ) (c o p : ℕ) → says area (callOf c o p Drop) ≡ Done → (m : ℕ) → lent m (stepOf area (callOf c o p Drop)) o p ≡ false
+pub drop-ends-loan : (area : List ℕ) (c o p : ℕ) → says area (callOf c o p Drop) ≡ Done → (m : ℕ) → lent m (afterCall area (callOf c o p Drop)) o p ≡ false
 unfolding loaded
-drop-ends-loan area c o p e m = empty-unlent m (stepOf area (callOf c o p Drop)) o p (ap loaded (drop-empties area c o p e))
+drop-ends-loan area c o p e m = empty-unlent m (afterCall area (callOf c o p Drop)) o p (ap loaded (drop-empties area c o p e))
 
 -- a loan that was not there before is one that the owner made
 made-how : (m c o : ℕ) (task : Task) (entry : List ℕ) → allowed c o task entry ≡ true → lentTo m (entryAfter task entry) ≡ true
@@ -120,7 +120,7 @@ made-how m c o (Lend to) entry may e =
     let q = eqb-true (2 + to) (2 + m) (both-true (ltb m 4) (eqb (2 + to) (2 + m)) e .1) in
     inr (eqb-true c o (both-true (loaded entry) (eqb c o) may .1), ap Lend (omega arith))
 
-pub lent-how : (area : List ℕ) (call : Call) (m o p : ℕ) → lent m (stepOf area call) o p ≡ true
+pub lent-how : (area : List ℕ) (call : Call) (m o p : ℕ) → lent m (afterCall area call) o p ≡ true
     → (lent m area o p ≡ true) ⊎ ((call ≡ callOf o o p (Lend m)) × (says area call ≡ Done))
 lent-how area call m o p e = cases (says area call) refl
   where
@@ -134,14 +134,14 @@ lent-how area call m o p e = cases (says area call) refl
         (λ (r : (call .owner ≡ o) × (call .place ≡ p)).
         let ho : o < 4 = rw (← r .0) (a .owner) in
         let hp : p < 4 = rw (← r .1) (a .place) in
-        let made : lentTo m (entryFor (stepOf area call) call) ≡ true =
-        ap₂ (λ (x y : ℕ). lentTo m (entryAt (stepOf area call) x y)) (r .0) (r .1) ∙ sym (lent-in m (stepOf area call) o p ho hp) ∙ e in
+        let made : lentTo m (entryFor (afterCall area call) call) ≡ true =
+        ap₂ (λ (x y : ℕ). lentTo m (entryAt (afterCall area call) x y)) (r .0) (r .1) ∙ sym (lent-in m (afterCall area call) o p ho hp) ∙ e in
         ⊎-elim
         (λ (l : lentTo m (entryFor area call) ≡ true). inl (lent-in m area o p ho hp ∙ rw (← r .0, ← r .1) l))
         (λ (w : (call .caller ≡ call .owner) × (call .task ≡ Lend m)). inr (whole (call .caller) (call .owner) (call .place) (call .task) (w .0 ∙ r .0) (r .0) (r .1) (w .1), d))
         (made-how m (call .caller) (call .owner) (call .task) (entryFor area call) (a .may) (ap (lentTo m) (sym (step-made area call d)) ∙ made)))
         (λ (n : (call .owner ≡ o) × (call .place ≡ p) → ⊥).
-        inl (lent-same m area (stepOf area call) o p (λ hp. ap (lentTo m) (sym (step-elsewhere area call o p hp n))) ∙ e))
+        inl (lent-same m area (afterCall area call) o p (λ hp. ap (lentTo m) (sym (step-elsewhere area call o p hp n))) ∙ e))
         (same-or-other (call .owner) (call .place) o p)
     cases (No number place) d = inl (ap (λ (a : List ℕ). lent m a o p) (sym (step-refused area call number place d)) ∙ e)
 

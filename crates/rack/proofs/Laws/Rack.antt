@@ -15,7 +15,7 @@ use Rattle.answers.specs.declared.Answer.{Answer}
 use Rattle.answers.specs.declared.Answer.the-variants.{Done, No}
 use Rattle.answers.specs.Answer.{ask, after}
 use Rattle.answers.proofs.Laws.Answer.{then-done, then-when, ask-done}
-use Rattle.rack.specs.Rack.{entryNumber, entryAt, put, loaded, lentTo, Task, Load, Read, Drop, Lend, Call, callOf, loanRight, missionsRight, placeRight, allowed, headerAsked, rackLengthsRight, entryFor, says, entryAfter, stepOf}
+use Rattle.rack.specs.Rack.{entryNumber, entryAt, put, loaded, lentTo, Task, Load, Read, Drop, Lend, Call, callOf, loanRight, missionsRight, placeRight, allowed, headerAsked, rackLengthsRight, entryFor, says, entryAfter, afterCall}
 
 -- the rack at the start
 abbrev pub emptyRack : List ℕ
@@ -147,19 +147,19 @@ says-same a b call long h =
 -- an accepted call that leaves the entry leaves the area
 step-kept : (area : List ℕ) (call : Call)
     → (allowed (call .caller) (call .owner) (call .task) (entryFor area call) ≡ true → entryAfter (call .task) (entryFor area call) ≡ entryFor area call)
-    → stepOf area call ≡ area
-unfolding stepOf
+    → afterCall area call ≡ area
+unfolding afterCall
 step-kept area call same = cases (says area call) refl
   where
     cases : (answer : Answer) → says area call ≡ answer → after answer (put area (call .owner) (call .place) (entryAfter (call .task) (entryFor area call))) area ≡ area
     cases Done e = ap (put area (call .owner) (call .place)) (same (accepted area call e .may)) ∙ put-back area (call .owner) (call .place)
     cases (No number place) e = refl
 
-pub step-read : (area : List ℕ) (c o p : ℕ) (slice : List ℕ) → stepOf area (callOf c o p (Read slice)) ≡ area
+pub step-read : (area : List ℕ) (c o p : ℕ) (slice : List ℕ) → afterCall area (callOf c o p (Read slice)) ≡ area
 step-read area c o p slice = step-kept area (callOf c o p (Read slice)) (λ e. refl)
 
 -- so does a call on another's place: it is refused, or it reads
-pub step-other : (area : List ℕ) (call : Call) → (call .caller ≡ call .owner → ⊥) → stepOf area call ≡ area
+pub step-other : (area : List ℕ) (call : Call) → (call .caller ≡ call .owner → ⊥) → afterCall area call ≡ area
 step-other area call n = step-kept area call (same (call .task) (entryFor area call))
   where
     same : (task : Task) (entry : List ℕ) → allowed (call .caller) (call .owner) task entry ≡ true → entryAfter task entry ≡ entry
@@ -168,12 +168,12 @@ step-other area call n = step-kept area call (same (call .task) (entryFor area c
     same Drop entry e = absurd (n (eqb-true (call .caller) (call .owner) (both-true (loaded entry) _ e .1)))
     same (Lend to) entry e = absurd (n (eqb-true (call .caller) (call .owner) (both-true (loaded entry) _ e .1)))
 
-pub step-refused : (area : List ℕ) (call : Call) (number place : ℕ) → says area call ≡ No number place → stepOf area call ≡ area
-unfolding stepOf
+pub step-refused : (area : List ℕ) (call : Call) (number place : ℕ) → says area call ≡ No number place → afterCall area call ≡ area
+unfolding afterCall
 step-refused area call number place e = rw e refl
 
-pub length-step : (area : List ℕ) (call : Call) → length (stepOf area call) ≡ length area
-unfolding stepOf
+pub length-step : (area : List ℕ) (call : Call) → length (afterCall area call) ≡ length area
+unfolding afterCall
 length-step area call = cases (says area call)
   where
     entry : List ℕ
@@ -184,8 +184,8 @@ length-step area call = cases (says area call)
     cases (No number place) = refl
 
 -- no other entry changes
-pub step-elsewhere : (area : List ℕ) (call : Call) (o p : ℕ) → p < 4 → ((call .owner ≡ o) × (call .place ≡ p) → ⊥) → entryAt (stepOf area call) o p ≡ entryAt area o p
-unfolding stepOf
+pub step-elsewhere : (area : List ℕ) (call : Call) (o p : ℕ) → p < 4 → ((call .owner ≡ o) × (call .place ≡ p) → ⊥) → entryAt (afterCall area call) o p ≡ entryAt area o p
+unfolding afterCall
 step-elsewhere area call o p h n = cases (says area call) refl
   where
     entry : List ℕ
@@ -196,8 +196,8 @@ step-elsewhere area call o p h n = cases (says area call) refl
     cases (No number place) e = refl
 
 -- and that of an accepted call is the one that it makes
-pub step-here : (area : List ℕ) (call : Call) → says area call ≡ Done → entryAt (stepOf area call) (call .owner) (call .place) ≡ tab 11 (λ k. getD (entryAfter (call .task) (entryFor area call)) k 0)
-unfolding stepOf
+pub step-here : (area : List ℕ) (call : Call) → says area call ≡ Done → entryAt (afterCall area call) (call .owner) (call .place) ≡ tab 11 (λ k. getD (entryAfter (call .task) (entryFor area call)) k 0)
+unfolding afterCall
 step-here area call e =
     let a = accepted area call e in
     let o = a .owner in

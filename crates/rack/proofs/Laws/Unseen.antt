@@ -14,7 +14,7 @@ use Rattle.bits.proofs.Laws.Table.{true-false, both-true, either-left, either-r
 use Rattle.answers.specs.declared.Answer.{Answer}
 use Rattle.answers.specs.declared.Answer.the-variants.{Done, No}
 use Rattle.answers.specs.Answer.{codeOf}
-use Rattle.rack.specs.Rack.{entryAt, headerIn, lentTo, Task, Load, Read, Drop, Lend, Call, allowed, entryFor, says, entryAfter, stepOf, handed, Told, toldOf}
+use Rattle.rack.specs.Rack.{entryAt, headerIn, lentTo, Task, Load, Read, Drop, Lend, Call, allowed, entryFor, says, entryAfter, afterCall, handed, Told, toldOf}
 use Rattle.rack.specs.Traces.{heard, lent, everLent, concerns, kept}
 use Rattle.rack.proofs.Laws.Rack.{not-allowed, accepted, says-same, step-other, step-refused, length-step, step-elsewhere, step-here, same-or-other}
 
@@ -29,7 +29,7 @@ handed-same (Lend to) answer e f h = refl
 ever-first : (m : ℕ) (area : List ℕ) (calls : List Call) (o p : ℕ) → lent m area o p ≡ true → everLent m area calls o p ≡ true
 unfolding everLent
 ever-first m area [] o p e = e
-ever-first m area (call ∷ calls) o p e = either-left (lent m area o p) (everLent m (stepOf area call) calls o p) e
+ever-first m area (call ∷ calls) o p e = either-left (lent m area o p) (everLent m (afterCall area call) calls o p) e
 
 -- only places of the rack are
 lent-rack : (m : ℕ) (area : List ℕ) (o p : ℕ) → lent m area o p ≡ true → (o < 4) × (p < 4)
@@ -41,10 +41,10 @@ lent-rack m area o p e =
 pub ever-rack : (m : ℕ) (area : List ℕ) (calls : List Call) (o p : ℕ) → everLent m area calls o p ≡ true → (o < 4) × (p < 4)
 unfolding everLent
 ever-rack m area [] o p e = lent-rack m area o p e
-ever-rack m area (call ∷ calls) o p e = cases (lent m area o p) refl (ever-rack m (stepOf area call) calls o p) e
+ever-rack m area (call ∷ calls) o p e = cases (lent m area o p) refl (ever-rack m (afterCall area call) calls o p) e
   where
-    cases : (t : Bool) → lent m area o p ≡ t → (everLent m (stepOf area call) calls o p ≡ true → (o < 4) × (p < 4))
-        → t || everLent m (stepOf area call) calls o p ≡ true → (o < 4) × (p < 4)
+    cases : (t : Bool) → lent m area o p ≡ t → (everLent m (afterCall area call) calls o p ≡ true → (o < 4) × (p < 4))
+        → t || everLent m (afterCall area call) calls o p ≡ true → (o < 4) × (p < 4)
     cases true l rest q = lent-rack m area o p l
     cases false l rest q = rest q
 
@@ -140,7 +140,7 @@ module _ (m : ℕ) (places : ℕ → ℕ → Bool) where
       rw other (rw (eq-eqb (call .caller) o own) at (b .1))
 
   -- a call that concerns m does the same to areas that are the same
-  same-step : (a b : List ℕ) (call : Call) → concerns m places call ≡ true → Same a b → Same (stepOf a call) (stepOf b call)
+  same-step : (a b : List ℕ) (call : Call) → concerns m places call ≡ true → Same a b → Same (afterCall a call) (afterCall b call)
   same-step a b call c same =
       ⊎-elim
       (λ (own : call .caller ≡ call .owner).
@@ -150,7 +150,7 @@ module _ (m : ℕ) (places : ℕ → ℕ → Bool) where
       (λ (n : call .caller ≡ call .owner → ⊥). rw (step-other a call n, step-other b call n) same)
       (eq-or-ne (call .caller) (call .owner))
     where
-      cases : seen (call .owner) (call .place) ≡ true → (answer : Answer) → says a call ≡ answer → says b call ≡ says a call → Same (stepOf a call) (stepOf b call)
+      cases : seen (call .owner) (call .place) ≡ true → (answer : Answer) → says a call ≡ answer → says b call ≡ says a call → Same (afterCall a call) (afterCall b call)
       cases s Done e f =
           let k = accepted a call e in
           let before : entryFor a call ≡ entryFor b call = same .entries (call .owner) (call .place) (k .owner) (k .place) s in
@@ -167,7 +167,7 @@ module _ (m : ℕ) (places : ℕ → ℕ → Bool) where
       cases s (No number place) e f = rw (step-refused a call number place e, step-refused b call number place (f ∙ e)) same
 
   -- one that does not changes nothing that is seen
-  same-unseen : (a b : List ℕ) (call : Call) → concerns m places call ≡ false → Same a b → Same (stepOf a call) b
+  same-unseen : (a b : List ℕ) (call : Call) → concerns m places call ≡ false → Same a b → Same (afterCall a call) b
   same-unseen a b call c same =
       ⊎-elim
       (λ (own : call .caller ≡ call .owner).
@@ -181,7 +181,7 @@ module _ (m : ℕ) (places : ℕ → ℕ → Bool) where
       (eq-or-ne (call .caller) (call .owner))
 
   -- and one that does lends m no other place
-  quiet-step : (area : List ℕ) (call : Call) → concerns m places call ≡ true → Quiet area → Quiet (stepOf area call)
+  quiet-step : (area : List ℕ) (call : Call) → concerns m places call ≡ true → Quiet area → Quiet (afterCall area call)
   unfolding lent
   quiet-step area call c quiet o p e =
       ⊎-elim
@@ -189,7 +189,7 @@ module _ (m : ℕ) (places : ℕ → ℕ → Bool) where
       ⊎-elim
       (λ (r : (call .owner ≡ o) × (call .place ≡ p)). rw (← r .0, ← r .1) (seen-changed call c own))
       (λ (n : (call .owner ≡ o) × (call .place ≡ p) → ⊥).
-      let small : p < 4 = lent-rack m (stepOf area call) o p e .1 in
+      let small : p < 4 = lent-rack m (afterCall area call) o p e .1 in
       quiet o p (rw (step-elsewhere area call o p small n) at e))
       (same-or-other (call .owner) (call .place) o p))
       (λ (n : call .caller ≡ call .owner → ⊥). quiet o p (rw (step-other area call n) at e))
@@ -204,34 +204,34 @@ module _ (m : ℕ) (places : ℕ → ℕ → Bool) where
   covered-first : (area : List ℕ) (calls : List Call) → Covered area calls → Quiet area
   covered-first area calls h o p e = either-right (eqb o m) (places o p) (h o p (ever-first m area calls o p e))
 
-  covered-rest : (area : List ℕ) (call : Call) (calls : List Call) → Covered area (call ∷ calls) → Covered (stepOf area call) calls
+  covered-rest : (area : List ℕ) (call : Call) (calls : List Call) → Covered area (call ∷ calls) → Covered (afterCall area call) calls
   unfolding everLent
-  covered-rest area call calls h o p e = h o p (either-right (lent m area o p) (everLent m (stepOf area call) calls o p) e)
+  covered-rest area call calls h o p e = h o p (either-right (lent m area o p) (everLent m (afterCall area call) calls o p) e)
 
   -- the calls that do not concern m can be left out
   pub only-kept : (calls : List Call) (a b : List ℕ) → Same a b → Quiet b → Covered a calls → heard m a calls ≡ heard m b (kept m places calls)
   unfolding heard kept
   only-kept [] a b same quiet covered = refl
   only-kept (call ∷ calls) a b same quiet covered =
-      cases (concerns m places call) refl (only-kept calls (stepOf a call) (stepOf b call)) (only-kept calls (stepOf a call) b)
+      cases (concerns m places call) refl (only-kept calls (afterCall a call) (afterCall b call)) (only-kept calls (afterCall a call) b)
     where
       -- told here, and what follows
       on : List ℕ → List Call → List Told
-      on area rest = pick (eqb (call .caller) m) (toldOf area call ∷ heard m (stepOf area call) rest) (heard m (stepOf area call) rest)
+      on area rest = pick (eqb (call .caller) m) (toldOf area call ∷ heard m (afterCall area call) rest) (heard m (afterCall area call) rest)
 
-      rest : Covered (stepOf a call) calls
+      rest : Covered (afterCall a call) calls
       rest = covered-rest a call calls covered
 
-      told : heard m (stepOf a call) calls ≡ heard m (stepOf b call) (kept m places calls) → (t : Bool) → eqb (call .caller) m ≡ t
-          → pick t (toldOf a call ∷ heard m (stepOf a call) calls) (heard m (stepOf a call) calls)
-          ≡ pick t (toldOf b call ∷ heard m (stepOf b call) (kept m places calls)) (heard m (stepOf b call) (kept m places calls))
+      told : heard m (afterCall a call) calls ≡ heard m (afterCall b call) (kept m places calls) → (t : Bool) → eqb (call .caller) m ≡ t
+          → pick t (toldOf a call ∷ heard m (afterCall a call) calls) (heard m (afterCall a call) calls)
+          ≡ pick t (toldOf b call ∷ heard m (afterCall b call) (kept m places calls)) (heard m (afterCall b call) (kept m places calls))
       told ih true e =
           ap₂ (λ (x : Told) (xs : List Told). x ∷ xs) (told-alike a b call same (covered-first a (call ∷ calls) covered) quiet (eqb-true (call .caller) m e)) ih
       told ih false e = ih
 
       cases : (t : Bool) → concerns m places call ≡ t
-          → (Same (stepOf a call) (stepOf b call) → Quiet (stepOf b call) → Covered (stepOf a call) calls → heard m (stepOf a call) calls ≡ heard m (stepOf b call) (kept m places calls))
-          → (Same (stepOf a call) b → Quiet b → Covered (stepOf a call) calls → heard m (stepOf a call) calls ≡ heard m b (kept m places calls))
+          → (Same (afterCall a call) (afterCall b call) → Quiet (afterCall b call) → Covered (afterCall a call) calls → heard m (afterCall a call) calls ≡ heard m (afterCall b call) (kept m places calls))
+          → (Same (afterCall a call) b → Quiet b → Covered (afterCall a call) calls → heard m (afterCall a call) calls ≡ heard m b (kept m places calls))
           → on a calls ≡ heard m b (pick t (call ∷ kept m places calls) (kept m places calls))
       cases true c with-it without = told (with-it (same-step a b call c same) (quiet-step b call c quiet) rest) (eqb (call .caller) m) refl
       cases false c with-it without =

@@ -14,7 +14,7 @@ use Rattle.answers.specs.Answer.{ask, then, after}
 use Rattle.answers.proofs.Refused.{Refusal, stands, kept}
 use Rattle.header_questions.proofs.Laws.Good.{header-good}
 use Rattle.rack.proofs.Laws.Rack.{accepted}
-use Rattle.rack.specs.Rack.{entryAt, put, statusIn, loaded, Task, Load, Read, Drop, Lend, Call, callOf, loanRight, missionsRight, placeRight, allowed, headerAsked, rackLengthsRight, entryFor, says, entryAfter, stepOf}
+use Rattle.rack.specs.Rack.{entryAt, put, statusIn, loaded, Task, Load, Read, Drop, Lend, Call, callOf, loanRight, missionsRight, placeRight, allowed, headerAsked, rackLengthsRight, entryFor, says, entryAfter, afterCall}
 use Rattle.rack_entries.specs.Inner.{OwnedPlace}
 
 module _ (area : List ℕ) (c o p : ℕ) (task : Task) where
@@ -59,15 +59,15 @@ lend-as-drop area c o p to e = sym (rw e refl)
 
 -- ---- what is left of a refused call, and of an accepted one
 
-pub step-no : (area : List ℕ) (call : Call) (a : Answer) → a ≡ says area call → Refusal a → area ≡ stepOf area call
-unfolding stepOf
+pub step-no : (area : List ℕ) (call : Call) (a : Answer) → a ≡ says area call → Refusal a → area ≡ afterCall area call
+unfolding afterCall
 step-no area call a e t =
     let new : List ℕ = put area (call .owner) (call .place) (entryAfter (call .task) (entryFor area call)) in
     kept a new area t ∙ ap (λ (x : Answer). after x new area) e
 
 pub step-yes : (area : List ℕ) (call : Call) (a : Answer) → a ≡ says area call → a ≡ Done
-    → put area (call .owner) (call .place) (entryAfter (call .task) (entryFor area call)) ≡ stepOf area call
-unfolding stepOf
+    → put area (call .owner) (call .place) (entryAfter (call .task) (entryFor area call)) ≡ afterCall area call
+unfolding afterCall
 step-yes area call a e d = sym (rw (sym e ∙ d) refl)
 
 -- ---- the status that was read

@@ -19,32 +19,32 @@ use Rattle.answers.specs.declared.Answer.{Answer}
 use Rattle.answers.specs.declared.Answer.the-variants.{Done, No}
 use Rattle.answers.specs.Answer.{numberOf, ask, then, among}
 use Rattle.answers.proofs.Laws.Answer.{no-done, then-then, then-done, ask-done, ask-yes, ask-no, ask-refused, all-done, done-all}
-use Rattle.channel.specs.Channel.{total, unit, symbolCount, place, hitBy, markRight, restZero}
+use Rattle.channel.specs.Channel.{total, unit, layoutSymbols, place, hitBy, markRight, restZero}
 use Rattle.channel.specs.declared.Layout.{Layout}
 use Rattle.channel.proofs.Laws.Places.{hit-none, hit-here}
 use Rattle.channel.proofs.Laws.Markers.{mark-here, mark-else, rest-hit, rest-unhit, rest-else}
 use Rattle.sizes.specs.Sizes.{frameMarker, markerBits, span, infoBits, blockBytes}
-use Rattle.word.specs.Word.{blockIn, readSays as wordReads}
+use Rattle.word.specs.Word.{blockIn, wordReadSays}
 use Rattle.word.proofs.Laws.Exports.{read-numbers}
 use Rattle.header.specs.Header.{fieldsOf}
 use Rattle.header.specs.declared.Fields.{Fields}
 use Rattle.header_sizes.specs.Quantities as quantities
 use Rattle.header_questions.specs.Questions.{question1, question2, question3, question4, question5, question6, question7, question20, marksGood}
 use Rattle.plan.specs.declared.Plan.{Plan}
-use Rattle.plan.specs.Plan.{planIn, sent}
+use Rattle.plan.specs.Plan.{planIn, sentCount}
 use Rattle.plan.specs.Inner.{Fine, slotBytes}
 use Rattle.plan.specs.Lengths.{runLengthsRight, callSays}
 use Rattle.plan.proofs.Laws.Accepted.{ready}
 use Rattle.stream_writer.specs.Stream.{markerBit}
 use Rattle.stream_writer.proofs.Laws.Stream.{marker-val}
-use Rattle.stream_reader.specs.Frames.{marked, firstUnmarked, zeroAt, fillZero}
+use Rattle.stream_reader.specs.Frames.{frameMarked, firstUnmarked, zeroAt, fillZero}
 use Rattle.stream_reader.proofs.Laws.Blocks.{joined-bits}
 use Rattle.pulses.specs.Pulses as pulses
 use Rattle.pool.specs.Pooled.{firstUndecided}
 use Rattle.slots.proofs.Laws.Bounds.{bounds}
-use Rattle.slots.specs.Reading.{spareEmpty, pooledIn, firstBadGroup, firstBadMark, firstBadRest, wordOut}
+use Rattle.slots.specs.Reading.{spareSlotsEmpty, pooledIn, firstBadSymbol, firstBadMark, firstBadRest, wordOut}
 use Rattle.slots.specs.Inner.{decidedIn}
-use Rattle.run.specs.Run.{streamIn, wordSays, wordsSay, readSays}
+use Rattle.run.specs.Run.{streamIn, runWordSays, wordsSay, runReadSays}
 use Rattle.run.proofs.Laws.Refusals.{FirstNo, AllYes, FirstRefused, Never, never-ask, never-then, among-others, last-of, others-done, not-yes, put-yes, yes-put, put-no, no-put, order-no, no-order}
 use Rattle.run.proofs.Laws.Return.{fit}
 use Rattle.run.proofs.Laws.Steps.{called-in-order, asked-in-order}
@@ -123,15 +123,15 @@ module _ (g : Layout) (some : 1 ≤ g .symbols) (read : ℕ → ℕ) where
 -- ---- 16 and 18: the marker before frame j, and the fill behind the last
 
 module _ (size : ℕ) (stream : ℕ → ℕ) (bits : Bits stream) where
-  pub frame-told : (j : ℕ) → marked size stream j ≡ true → (r : ℕ) → r < markerBits → stream (j * span size + r) ≡ frameMarker / 2 ^ (31 - r) % 2
-  unfolding marked
+  pub frame-told : (j : ℕ) → frameMarked size stream j ≡ true → (r : ℕ) → r < markerBits → stream (j * span size + r) ≡ frameMarker / 2 ^ (31 - r) % 2
+  unfolding frameMarked
   frame-told j t r l =
       let at : ℕ → ℕ = λ r. stream (j * span size + r) in
       sym (bit-val at (λ i. bits (j * span size + i)) (31 - r) r markerBits (omega arith))
       ∙ ap (λ (v : ℕ). v / 2 ^ (31 - r) % 2) (eqb-true (val at markerBits) frameMarker t)
 
-  pub frame-tells : (j : ℕ) → ((r : ℕ) → r < markerBits → stream (j * span size + r) ≡ frameMarker / 2 ^ (31 - r) % 2) → marked size stream j ≡ true
-  unfolding marked markerBit
+  pub frame-tells : (j : ℕ) → ((r : ℕ) → r < markerBits → stream (j * span size + r) ≡ frameMarker / 2 ^ (31 - r) % 2) → frameMarked size stream j ≡ true
+  unfolding frameMarked markerBit
   frame-tells j h =
       let at : ℕ → ℕ = λ r. stream (j * span size + r) in
       eq-eqb (val at markerBits) frameMarker (val-same at markerBit markerBits h ∙ marker-val)
@@ -167,9 +167,9 @@ call-never header marker k n number big other =
 
 -- nor those of a word: it gives 2, 8 and 13 to 15
 pub words-never : (f : Fields) (word : ℕ → List ℕ) (number : ℕ) → 9 ≤ number → (number < 13) ⊎ (15 < number) → Never number (wordsSay f word)
-unfolding wordsSay wordSays
+unfolding wordsSay runWordSays
 words-never f word number big off p e =
-    let r = order-no (quantities.blockCount f) (λ j. wordReads (f .rate) (word j) (blockBytes (f .rate))) number p e in
+    let r = order-no (quantities.blockCount f) (λ j. wordReadSays (f .rate) (word j) (blockBytes (f .rate))) number p e in
     let listed = ap (among (0 ∷ 2 ∷ 8 ∷ 13 ∷ 14 ∷ 15 ∷ [])) (sym (r .2)) ∙ read-numbers (f .rate) (word p) (blockBytes (f .rate)) in
     let other : (k : ℕ) → (number ≡ k → ⊥) → eqb number k ≡ false = λ k ne. ne-eqb number k ne in
     let ne0 : number ≡ 0 → ⊥ = λ z. omega arith in
@@ -192,7 +192,7 @@ module _ (header marker slots : List ℕ) (n : ℕ) (mark : ℕ → ℕ)
   p = planIn header marker
 
   abbrev count : ℕ
-  count = symbolCount (p .layout)
+  count = layoutSymbols (p .layout)
 
   abbrev read : ℕ → ℕ
   read s = pooledIn p slots s
@@ -205,7 +205,7 @@ module _ (header marker slots : List ℕ) (n : ℕ) (mark : ℕ → ℕ)
 
   -- what each asks
   abbrev pub SpareZero : Type 0
-  SpareZero = (x : ℕ) → sent p * p .group ≤ x → x < 8 * length slots → bitAt slots x ≡ 0
+  SpareZero = (x : ℕ) → sentCount p * p .group ≤ x → x < 8 * length slots → bitAt slots x ≡ 0
 
   abbrev pub Decided : ℕ → Type 0
   Decided s = read s < p .order
@@ -219,7 +219,7 @@ module _ (header marker slots : List ℕ) (n : ℕ) (mark : ℕ → ℕ)
       → ((t : ℕ) → t < total (p .layout) → place (p .layout) t ≡ line * p .layout .symbols + i → ⊥) → read s ≡ 0
 
   abbrev pub WordGood : ℕ → Type 0
-  WordGood j = wordSays f (wordOut p slots) j ≡ Done
+  WordGood j = runWordSays f (wordOut p slots) j ≡ Done
 
   abbrev pub Marked : ℕ → Type 0
   Marked j = (r : ℕ) → r < 32 → stream (j * span (f .size) + r) ≡ frameMarker / 2 ^ (31 - r) % 2
@@ -254,10 +254,10 @@ module _ (header marker slots : List ℕ) (n : ℕ) (mark : ℕ → ℕ)
   c = callSays header marker n (length slots)
 
   abbrev q9 : Answer
-  q9 = ask (spareEmpty p slots) 9 0
+  q9 = ask (spareSlotsEmpty p slots) 9 0
 
   abbrev q10 : Answer
-  q10 = ask (eqb (firstBadGroup p slots) count) 10 (firstBadGroup p slots)
+  q10 = ask (eqb (firstBadSymbol p slots) count) 10 (firstBadSymbol p slots)
 
   abbrev q11 : Answer
   q11 = ask (eqb (firstBadMark p slots) count) 11 (firstBadMark p slots)
@@ -274,26 +274,26 @@ module _ (header marker slots : List ℕ) (n : ℕ) (mark : ℕ → ℕ)
   abbrev q18 : Answer
   q18 = ask (fillZero (f .size) (f .frames) (quantities.blockCount f * infoBits (f .rate)) (streamIn f (wordOut p slots))) 18 0
 
-  said-9 : readSays header marker slots n ≡ then c (then q9 (then q10 (then q11 (then q12 (then q13 (then q16 q18))))))
-  unfolding readSays
+  said-9 : runReadSays header marker slots n ≡ then c (then q9 (then q10 (then q11 (then q12 (then q13 (then q16 q18))))))
+  unfolding runReadSays
   said-9 = ap (then c) (asked-in-order f p slots)
 
-  said-10 : readSays header marker slots n ≡ then (then c q9) (then q10 (then q11 (then q12 (then q13 (then q16 q18)))))
+  said-10 : runReadSays header marker slots n ≡ then (then c q9) (then q10 (then q11 (then q12 (then q13 (then q16 q18)))))
   said-10 = said-9 ∙ sym (then-then c q9 (then q10 (then q11 (then q12 (then q13 (then q16 q18))))))
 
-  said-11 : readSays header marker slots n ≡ then (then (then c q9) q10) (then q11 (then q12 (then q13 (then q16 q18))))
+  said-11 : runReadSays header marker slots n ≡ then (then (then c q9) q10) (then q11 (then q12 (then q13 (then q16 q18))))
   said-11 = said-10 ∙ sym (then-then (then c q9) q10 (then q11 (then q12 (then q13 (then q16 q18)))))
 
-  said-12 : readSays header marker slots n ≡ then (then (then (then c q9) q10) q11) (then q12 (then q13 (then q16 q18)))
+  said-12 : runReadSays header marker slots n ≡ then (then (then (then c q9) q10) q11) (then q12 (then q13 (then q16 q18)))
   said-12 = said-11 ∙ sym (then-then (then (then c q9) q10) q11 (then q12 (then q13 (then q16 q18))))
 
-  said-13 : readSays header marker slots n ≡ then (then (then (then (then c q9) q10) q11) q12) (then q13 (then q16 q18))
+  said-13 : runReadSays header marker slots n ≡ then (then (then (then (then c q9) q10) q11) q12) (then q13 (then q16 q18))
   said-13 = said-12 ∙ sym (then-then (then (then (then c q9) q10) q11) q12 (then q13 (then q16 q18)))
 
-  said-16 : readSays header marker slots n ≡ then (then (then (then (then (then c q9) q10) q11) q12) q13) (then q16 q18)
+  said-16 : runReadSays header marker slots n ≡ then (then (then (then (then (then c q9) q10) q11) q12) q13) (then q16 q18)
   said-16 = said-13 ∙ sym (then-then (then (then (then (then c q9) q10) q11) q12) q13 (then q16 q18))
 
-  said-18 : readSays header marker slots n ≡ then (then (then (then (then (then (then c q9) q10) q11) q12) q13) q16) q18
+  said-18 : runReadSays header marker slots n ≡ then (then (then (then (then (then (then c q9) q10) q11) q12) q13) q16) q18
   said-18 = said-16 ∙ sym (then-then (then (then (then (then (then c q9) q10) q11) q12) q13) q16 q18)
 
   -- ---- each question is the test that the definitions have
@@ -301,7 +301,7 @@ module _ (header marker slots : List ℕ) (n : ℕ) (mark : ℕ → ℕ)
   fine : Called → Fine p
   fine e = ready header marker n (length slots) e .fine
 
-  fits : Called → sent p * p .group ≤ 8 * length slots
+  fits : Called → sentCount p * p .group ≤ 8 * length slots
   fits e = let long : length slots ≡ slotBytes p = ready header marker n (length slots) e .slots-are in omega arith
 
   stream-bits : Bits stream
@@ -309,10 +309,10 @@ module _ (header marker slots : List ℕ) (n : ℕ) (mark : ℕ → ℕ)
   stream-bits = joined-bits (f .rate) (λ j. blockIn (f .rate) (wordOut p slots j))
 
   spare-yes : Called → q9 ≡ Done → SpareZero
-  spare-yes e d = spare-told (p .group) (sent p) slots (fits e) (ask-done (spareEmpty p slots) 9 0 d)
+  spare-yes e d = spare-told (p .group) (sentCount p) slots (fits e) (ask-done (spareSlotsEmpty p slots) 9 0 d)
 
   yes-spare : Called → SpareZero → q9 ≡ Done
-  yes-spare e h = ask-yes (spareEmpty p slots) 9 0 (spare-tells (p .group) (sent p) slots (fits e) h)
+  yes-spare e h = ask-yes (spareSlotsEmpty p slots) 9 0 (spare-tells (p .group) (sentCount p) slots (fits e) h)
 
   module _ where
     group-told : (s : ℕ) → s < count → decidedIn p slots s ≡ true → Decided s
@@ -387,34 +387,34 @@ module _ (header marker slots : List ℕ) (n : ℕ) (mark : ℕ → ℕ)
 
   words-yes : q13 ≡ Done → AllYes (quantities.blockCount f) WordGood
   unfolding wordsSay
-  words-yes = all-done (quantities.blockCount f) (wordSays f (wordOut p slots))
+  words-yes = all-done (quantities.blockCount f) (runWordSays f (wordOut p slots))
 
   yes-words : AllYes (quantities.blockCount f) WordGood → q13 ≡ Done
   unfolding wordsSay
-  yes-words = done-all (quantities.blockCount f) (wordSays f (wordOut p slots))
+  yes-words = done-all (quantities.blockCount f) (runWordSays f (wordOut p slots))
 
   module _ where
-    frame-yes : (j : ℕ) → j < f .frames → marked (f .size) (streamIn f (wordOut p slots)) j ≡ true → Marked j
+    frame-yes : (j : ℕ) → j < f .frames → frameMarked (f .size) (streamIn f (wordOut p slots)) j ≡ true → Marked j
     frame-yes j l e = frame-told (f .size) (streamIn f (wordOut p slots)) stream-bits j e
 
-    yes-frame : (j : ℕ) → j < f .frames → Marked j → marked (f .size) (streamIn f (wordOut p slots)) j ≡ true
+    yes-frame : (j : ℕ) → j < f .frames → Marked j → frameMarked (f .size) (streamIn f (wordOut p slots)) j ≡ true
     yes-frame j l h = frame-tells (f .size) (streamIn f (wordOut p slots)) stream-bits j h
 
     frames-yes : q16 ≡ Done → AllYes (f .frames) Marked
     unfolding firstUnmarked
-    frames-yes = put-yes (f .frames) (marked (f .size) (streamIn f (wordOut p slots))) Marked frame-yes yes-frame 16
+    frames-yes = put-yes (f .frames) (frameMarked (f .size) (streamIn f (wordOut p slots))) Marked frame-yes yes-frame 16
 
     yes-frames : AllYes (f .frames) Marked → q16 ≡ Done
     unfolding firstUnmarked
-    yes-frames = yes-put (f .frames) (marked (f .size) (streamIn f (wordOut p slots))) Marked frame-yes yes-frame 16
+    yes-frames = yes-put (f .frames) (frameMarked (f .size) (streamIn f (wordOut p slots))) Marked frame-yes yes-frame 16
 
     frames-no : (s : ℕ) → q16 ≡ No 16 s → FirstNo (f .frames) Marked s
     unfolding firstUnmarked
-    frames-no = put-no (f .frames) (marked (f .size) (streamIn f (wordOut p slots))) Marked frame-yes yes-frame 16
+    frames-no = put-no (f .frames) (frameMarked (f .size) (streamIn f (wordOut p slots))) Marked frame-yes yes-frame 16
 
     no-frames : (s : ℕ) → FirstNo (f .frames) Marked s → q16 ≡ No 16 s
     unfolding firstUnmarked
-    no-frames = no-put (f .frames) (marked (f .size) (streamIn f (wordOut p slots))) Marked frame-yes yes-frame 16
+    no-frames = no-put (f .frames) (frameMarked (f .size) (streamIn f (wordOut p slots))) Marked frame-yes yes-frame 16
 
   -- ---- what was answered yes before each
 
@@ -466,10 +466,10 @@ module _ (header marker slots : List ℕ) (n : ℕ) (mark : ℕ → ℕ)
   no-c number big other = call-never header marker n (length slots) number big other
 
   no-9 : (number : ℕ) → (9 ≡ number → ⊥) → Never number q9
-  no-9 number other = never-ask number (spareEmpty p slots) 9 0 other
+  no-9 number other = never-ask number (spareSlotsEmpty p slots) 9 0 other
 
   no-10 : (number : ℕ) → (10 ≡ number → ⊥) → Never number q10
-  no-10 number other = never-ask number (eqb (firstBadGroup p slots) count) 10 (firstBadGroup p slots) other
+  no-10 number other = never-ask number (eqb (firstBadSymbol p slots) count) 10 (firstBadSymbol p slots) other
 
   no-11 : (number : ℕ) → (11 ≡ number → ⊥) → Never number q11
   no-11 number other = never-ask number (eqb (firstBadMark p slots) count) 11 (firstBadMark p slots) other
@@ -527,20 +527,20 @@ module _ (header marker slots : List ℕ) (n : ℕ) (mark : ℕ → ℕ)
   -- ---- the refusals
 
   pub exactly-9 : (s : ℕ)
-      → (readSays header marker slots n ≡ No 9 s → Called × (SpareZero → ⊥) × (s ≡ 0))
-      × (Called × (SpareZero → ⊥) × (s ≡ 0) → readSays header marker slots n ≡ No 9 s)
+      → (runReadSays header marker slots n ≡ No 9 s → Called × (SpareZero → ⊥) × (s ≡ 0))
+      × (Called × (SpareZero → ⊥) × (s ≡ 0) → runReadSays header marker slots n ≡ No 9 s)
   exactly-9 s = (
     λ e.
         let d = among-others c q9 _ 9 s (no-c 9 (omega arith) (λ z. omega arith)) (behind-9 9 (omega arith) (omega arith)) (sym said-9 ∙ e) in
-        let r = ask-refused (spareEmpty p slots) 9 0 9 s (d .1) in
+        let r = ask-refused (spareSlotsEmpty p slots) 9 0 9 s (d .1) in
         (d .0, λ h. no-done (sym (d .1) ∙ yes-spare (d .0) h), sym (r .2)),
     λ h. said-9 ∙ others-done c q9 _ 9 s (h .0)
-        (ask-no (spareEmpty p slots) 9 0 (not-yes (spareEmpty p slots) (λ e. h .1 (spare-yes (h .0) (ask-yes (spareEmpty p slots) 9 0 e)))) ∙ ap (No 9) (sym (h .2))),
+        (ask-no (spareSlotsEmpty p slots) 9 0 (not-yes (spareSlotsEmpty p slots) (λ e. h .1 (spare-yes (h .0) (ask-yes (spareSlotsEmpty p slots) 9 0 e)))) ∙ ap (No 9) (sym (h .2))),
   )
 
   pub exactly-10 : (s : ℕ)
-      → (readSays header marker slots n ≡ No 10 s → Before10 × FirstNo count Decided s)
-      × (Before10 × FirstNo count Decided s → readSays header marker slots n ≡ No 10 s)
+      → (runReadSays header marker slots n ≡ No 10 s → Before10 × FirstNo count Decided s)
+      × (Before10 × FirstNo count Decided s → runReadSays header marker slots n ≡ No 10 s)
   exactly-10 s = (
     λ e.
         let d = among-others (then c q9) q10 _ 10 s (before-10 10 (omega arith) (omega arith)) (behind-10 10 (omega arith) (omega arith)) (sym said-10 ∙ e) in
@@ -549,8 +549,8 @@ module _ (header marker slots : List ℕ) (n : ℕ) (mark : ℕ → ℕ)
   )
 
   pub exactly-11 : (s : ℕ)
-      → (readSays header marker slots n ≡ No 11 s → Before11 × FirstNo count MarkerRight s)
-      × (Before11 × FirstNo count MarkerRight s → readSays header marker slots n ≡ No 11 s)
+      → (runReadSays header marker slots n ≡ No 11 s → Before11 × FirstNo count MarkerRight s)
+      × (Before11 × FirstNo count MarkerRight s → runReadSays header marker slots n ≡ No 11 s)
   exactly-11 s = (
     λ e.
         let d = among-others (then (then c q9) q10) q11 _ 11 s (before-11 11 (omega arith) (omega arith)) (behind-11 11 (omega arith) (omega arith)) (sym said-11 ∙ e) in
@@ -560,8 +560,8 @@ module _ (header marker slots : List ℕ) (n : ℕ) (mark : ℕ → ℕ)
   )
 
   pub exactly-12 : (s : ℕ)
-      → (readSays header marker slots n ≡ No 12 s → Before12 × FirstNo count UnhitZero s)
-      × (Before12 × FirstNo count UnhitZero s → readSays header marker slots n ≡ No 12 s)
+      → (runReadSays header marker slots n ≡ No 12 s → Before12 × FirstNo count UnhitZero s)
+      × (Before12 × FirstNo count UnhitZero s → runReadSays header marker slots n ≡ No 12 s)
   exactly-12 s = (
     λ e.
         let d = among-others (then (then (then c q9) q10) q11) q12 _ 12 s (before-12 12 (omega arith) (omega arith)) (behind-12 12 (omega arith) (omega arith)) (sym said-12 ∙ e) in
@@ -572,21 +572,21 @@ module _ (header marker slots : List ℕ) (n : ℕ) (mark : ℕ → ℕ)
 
   -- 13 to 15, of the first word that is refused
   pub exactly-13 : (number j : ℕ) → 12 < number → number < 16
-      → (readSays header marker slots n ≡ No number j → Before13 × FirstRefused (quantities.blockCount f) (wordSays f (wordOut p slots)) number j)
-      × (Before13 × FirstRefused (quantities.blockCount f) (wordSays f (wordOut p slots)) number j → readSays header marker slots n ≡ No number j)
+      → (runReadSays header marker slots n ≡ No number j → Before13 × FirstRefused (quantities.blockCount f) (runWordSays f (wordOut p slots)) number j)
+      × (Before13 × FirstRefused (quantities.blockCount f) (runWordSays f (wordOut p slots)) number j → runReadSays header marker slots n ≡ No number j)
   unfolding wordsSay
   exactly-13 number j a b = (
     λ e.
         let d =
         among-others (then (then (then (then c q9) q10) q11) q12) q13 _ number j (before-13 number a (omega arith)) (behind-13 number (λ z. omega arith) (λ z. omega arith)) (sym said-13 ∙ e) in
-        (done-13 (d .0), order-no (quantities.blockCount f) (wordSays f (wordOut p slots)) number j (d .1)),
+        (done-13 (d .0), order-no (quantities.blockCount f) (runWordSays f (wordOut p slots)) number j (d .1)),
     λ h. said-13 ∙ others-done (then (then (then (then c q9) q10) q11) q12) q13 _ number j (made-13 (h .0))
-        (no-order (quantities.blockCount f) (wordSays f (wordOut p slots)) number j (omega arith) (h .1)),
+        (no-order (quantities.blockCount f) (runWordSays f (wordOut p slots)) number j (omega arith) (h .1)),
   )
 
   pub exactly-16 : (j : ℕ)
-      → (readSays header marker slots n ≡ No 16 j → Before16 × FirstNo (f .frames) Marked j)
-      × (Before16 × FirstNo (f .frames) Marked j → readSays header marker slots n ≡ No 16 j)
+      → (runReadSays header marker slots n ≡ No 16 j → Before16 × FirstNo (f .frames) Marked j)
+      × (Before16 × FirstNo (f .frames) Marked j → runReadSays header marker slots n ≡ No 16 j)
   exactly-16 j = (
     λ e.
         let d =
@@ -614,8 +614,8 @@ module _ (header marker slots : List ℕ) (n : ℕ) (mark : ℕ → ℕ)
         ask-yes (fillZero (f .size) (f .frames) end (streamIn f (wordOut p slots))) 18 0 (fill-tells (f .size) (streamIn f (wordOut p slots)) stream-bits (f .frames) end fill-fit h)
 
   pub exactly-18 : (s : ℕ)
-      → (readSays header marker slots n ≡ No 18 s → Before18 × (FillZero → ⊥) × (s ≡ 0))
-      × (Before18 × (FillZero → ⊥) × (s ≡ 0) → readSays header marker slots n ≡ No 18 s)
+      → (runReadSays header marker slots n ≡ No 18 s → Before18 × (FillZero → ⊥) × (s ≡ 0))
+      × (Before18 × (FillZero → ⊥) × (s ≡ 0) → runReadSays header marker slots n ≡ No 18 s)
   exactly-18 s =
       let test : Bool = fillZero (f .size) (f .frames) (quantities.blockCount f * infoBits (f .rate)) (streamIn f (wordOut p slots)) in (
         λ e.

@@ -21,18 +21,18 @@ use Rattle.header_questions.proofs.Laws.InOrder.{asks-on}
 use Rattle.parameters.specs.Parameters.{parametersOf}
 use Rattle.plan.specs.declared.Plan.{Plan}
 use Rattle.plan.specs.Lengths.{runLengthsRight, callSays}
-use Rattle.plan.specs.Plan.{planOf, planIn, sent}
+use Rattle.plan.specs.Plan.{planOf, planIn, sentCount}
 use Rattle.plan.specs.Inner.{slotBytes}
 use Rattle.stream_writer.proofs.Laws.Stream.{stream-bits, block-bit}
 use Rattle.stream_reader.specs.Frames.{firstUnmarked, fillZero, framesSay}
 use Rattle.channel.specs.Channel as channel
 use Rattle.channel.proofs.Laws.Places.{hit-place, hit-none, placed-hit, placed-rest}
 use Rattle.channel.proofs.Laws.Markers.{line-mark, line-place}
-use Rattle.channel.specs.Channel.{total, unit, symbolCount, place, hitBy}
+use Rattle.channel.specs.Channel.{total, unit, layoutSymbols, place, hitBy}
 use Rattle.pulses.specs.Pulses as pulses
 use Rattle.pulses.proofs.Laws.Pulses.{slot-in, slot-past}
-use Rattle.slots.specs.Writing.{dataAt, sentAt, slotsOf}
-use Rattle.slots.specs.Reading.{spareEmpty, firstBadGroup, firstBadMark, firstBadRest, wordOut, slotsSay}
+use Rattle.slots.specs.Writing.{dataSymbol, sentAt, runSlots}
+use Rattle.slots.specs.Reading.{spareSlotsEmpty, firstBadSymbol, firstBadMark, firstBadRest, wordOut, slotsSay}
 use Rattle.run.specs.Run.{streamOf, wordAt, runOf, streamIn, wordsSay, streamSays, bufferSays}
 use Rattle.run.specs.Steps.{step1, block, word, step8, standing, step10, slot}
 
@@ -46,7 +46,7 @@ module _ (header marker frames : List ℕ) where
 
   -- a run is these slots, packed
   pub run-is : runOf header marker frames ≡ bytesOf (slotBytes (planIn header marker)) (slot header marker frames)
-  unfolding runOf slotsOf pulses.slotsOf wordAt streamOf
+  unfolding runOf runSlots pulses.slotsOf wordAt streamOf
   run-is = refl
 
   -- ---- how each step's result is made of the one before
@@ -86,35 +86,35 @@ module _ (header marker frames : List ℕ) where
   copies-are = refl
 
   -- slot r of copy c of symbol s has a pulse if it is the symbol, and there is none behind the last copy
-  pub slot-is : (s c r : ℕ) → s < symbolCount (planIn header marker .layout) → c < fieldsOf header .copies → r < planIn header marker .group
+  pub slot-is : (s c r : ℕ) → s < layoutSymbols (planIn header marker .layout) → c < fieldsOf header .copies → r < planIn header marker .group
       → (slot header marker frames) ((s * fieldsOf header .copies + c) * planIn header marker .group + r) ≡ bool (eqb r ((step10 header marker frames) s))
   slot-is s c r h k l =
       let p : Plan = planIn header marker in
       let k' : c < p .copies = let e = copies-are in omega arith in
       ap (λ (n : ℕ). (slot header marker frames) ((s * n + c) * p .group + r)) (sym copies-are)
-      ∙ slot-in (p .group) (sent p) (sentAt p (word header marker frames)) (s * p .copies + c) r l (digits-lt h k')
+      ∙ slot-in (p .group) (sentCount p) (sentAt p (word header marker frames)) (s * p .copies + c) r l (digits-lt h k')
       ∙ ap (λ (u : ℕ). bool (eqb r ((step10 header marker frames) u))) (digits-div s k')
 
-  pub slot-none : (x : ℕ) → symbolCount (planIn header marker .layout) * fieldsOf header .copies ≤ x / planIn header marker .group → (slot header marker frames) x ≡ 0
+  pub slot-none : (x : ℕ) → layoutSymbols (planIn header marker .layout) * fieldsOf header .copies ≤ x / planIn header marker .group → (slot header marker frames) x ≡ 0
   slot-none x h =
       let p : Plan = planIn header marker in
-      let e : sent p ≡ symbolCount (p .layout) * fieldsOf header .copies = ap (λ (n : ℕ). symbolCount (p .layout) * n) copies-are in
-      slot-past (p .group) (sent p) (sentAt p (word header marker frames)) x (omega arith)
+      let e : sentCount p ≡ layoutSymbols (p .layout) * fieldsOf header .copies = ap (λ (n : ℕ). layoutSymbols (p .layout) * n) copies-are in
+      slot-past (p .group) (sentCount p) (sentAt p (word header marker frames)) x (omega arith)
 
 -- the reader's questions about slots of the right length, one after another; the first no is the answer
 pub asked-in-order : (f : Fields) (p : Plan) (b : List ℕ)
     → bufferSays f p b
-    ≡ then (ask (spareEmpty p b) 9 0)
-    (then (ask (eqb (firstBadGroup p b) (symbolCount (p .layout))) 10 (firstBadGroup p b))
-    (then (ask (eqb (firstBadMark p b) (symbolCount (p .layout))) 11 (firstBadMark p b))
-    (then (ask (eqb (firstBadRest p b) (symbolCount (p .layout))) 12 (firstBadRest p b))
+    ≡ then (ask (spareSlotsEmpty p b) 9 0)
+    (then (ask (eqb (firstBadSymbol p b) (layoutSymbols (p .layout))) 10 (firstBadSymbol p b))
+    (then (ask (eqb (firstBadMark p b) (layoutSymbols (p .layout))) 11 (firstBadMark p b))
+    (then (ask (eqb (firstBadRest p b) (layoutSymbols (p .layout))) 12 (firstBadRest p b))
     (then (wordsSay f (wordOut p b))
     (then (ask (eqb (firstUnmarked (f .size) (f .frames) (streamIn f (wordOut p b))) (f .frames)) 16 (firstUnmarked (f .size) (f .frames) (streamIn f (wordOut p b))))
     (ask (fillZero (f .size) (f .frames) (quantities.blockCount f * infoBits (f .rate)) (streamIn f (wordOut p b))) 18 0))))))
 unfolding bufferSays slotsSay streamSays framesSay
 asked-in-order f p b =
-    flat (ask (spareEmpty p b) 9 0) (ask (eqb (firstBadGroup p b) (symbolCount (p .layout))) 10 (firstBadGroup p b)) (ask (eqb (firstBadMark p b) (symbolCount (p .layout))) 11 (firstBadMark p b))
-    (ask (eqb (firstBadRest p b) (symbolCount (p .layout))) 12 (firstBadRest p b)) (then (wordsSay f (wordOut p b)) (streamSays f (wordOut p b)))
+    flat (ask (spareSlotsEmpty p b) 9 0) (ask (eqb (firstBadSymbol p b) (layoutSymbols (p .layout))) 10 (firstBadSymbol p b)) (ask (eqb (firstBadMark p b) (layoutSymbols (p .layout))) 11 (firstBadMark p b))
+    (ask (eqb (firstBadRest p b) (layoutSymbols (p .layout))) 12 (firstBadRest p b)) (then (wordsSay f (wordOut p b)) (streamSays f (wordOut p b)))
   where
     flat : (k l m n rest : Answer) → then (then k (then l (then m n))) rest ≡ then k (then l (then m (then n rest)))
     flat k l m n rest =

@@ -13,7 +13,7 @@ use Rattle.plan.specs.Plan.{planIn, planOf}
 use Rattle.plan.specs.Lengths.{callSays}
 use Rattle.plan.proofs.Laws.Accepted.{entered}
 use Rattle.slots.specs.Reading.{wordOut}
-use Rattle.run.specs.Run.{framesOf, framesRead, bufferSays, readSays}
+use Rattle.run.specs.Run.{framesOf, framesRead, bufferSays, runReadSays}
 use Rattle.answers.specs.declared.Answer.the-variants.{Done}
 use borrow.Author.Needs.{needs}
 use Rattle.run_reader.proofs.read.Statement.{statement}
@@ -21,8 +21,8 @@ use Rattle.run_reader.proofs.read.Tie as tie
 
 -- what the checked parameters say, and give, is what the header does
 module _ (header marker slots : List ℕ) (n : ℕ) (q : Parameters) (e : q ≡ parametersOf (fieldsOf header) marker) where
-  says : callSays header marker n (length slots) ≡ Done → bufferSays (q .fields) (planOf q) slots ≡ readSays header marker slots n
-  unfolding readSays parametersOf
+  says : callSays header marker n (length slots) ≡ Done → bufferSays (q .fields) (planOf q) slots ≡ runReadSays header marker slots n
+  unfolding runReadSays parametersOf
   says d = ap (λ (x : Parameters). bufferSays (x .fields) (planOf x) slots) e ∙ sym (ap (λ (a : Answer). then a (bufferSays (fieldsOf header) (planIn header marker) slots)) d)
 
   gives : framesOf (q .fields) (wordOut (planOf q) slots) ≡ framesRead header marker slots
@@ -39,7 +39,7 @@ enum-told-2 : tie.Need-enum-told-2
 enum-told-2 c = search needs
 
 returns : tie.Need-returns
-unfolding readSays
+unfolding runReadSays
 returns c =
     let a = c .before .before .before .before .before .before .before .args in
     let k = c .before .before .check in

@@ -6,9 +6,9 @@ use native.Mathlib.Omega.{arith}
 use lib.ListN.{take, drop}
 use Rattle.bits.specs.Pack.{piece}
 use Rattle.sizes.specs.Sizes.{wordBytes}
-use Rattle.word.specs.Word.{blockIn, readSays as wordReads}
+use Rattle.word.specs.Word.{blockIn, wordReadSays}
 use Rattle.answers.specs.Answer.{after}
-use Rattle.run.specs.Run.{wordSays}
+use Rattle.run.specs.Run.{runWordSays}
 use borrow.Author.Needs.{needs}
 use Rattle.run_reader.proofs.read_word.Statement.{statement}
 use Rattle.run_reader.proofs.read_word.Tie as tie
@@ -35,7 +35,7 @@ same-length : tie.Need-same-length
 same-length c = search needs
 
 returns : tie.Need-returns
-unfolding wordSays
+unfolding runWordSays
 returns c =
     let s = c .before .before .before .before .before .before .before in
     let r = (c .before .before) .read in
@@ -44,7 +44,7 @@ returns c =
     let words : List ℕ = s .args .words .now in
     let n : at + wordBytes - at ≡ wordBytes = omega arith in
     let part : take (at + wordBytes - at) (drop at words) ≡ piece wordBytes words (s .args .j) = ap (λ (k : ℕ). take k (drop at words)) n in (
-      r .ensures .0 ∙ ap₂ (λ (x : List ℕ) (k : ℕ). wordReads rate x k) part (s .pre .block-is),
+      r .ensures .0 ∙ ap₂ (λ (x : List ℕ) (k : ℕ). wordReadSays rate x k) part (s .pre .block-is),
       r .ensures .1 ∙ ap (λ (x : List ℕ). after (r .result) (blockIn rate x) (s .args .block .now)) part,
     )
 

@@ -21,14 +21,14 @@ use Rattle.answers.specs.declared.Answer.the-variants.{Done}
 use Rattle.answers.proofs.Refused.{is-not-done, moved}
 use Rattle.header.specs.declared.Fields.{Fields}
 use Rattle.header_sizes.specs.Quantities.{blockCount}
-use Rattle.run.specs.Run.{wordSays, wordsSay}
+use Rattle.run.specs.Run.{runWordSays, wordsSay}
 use Rattle.run_reader.proofs.Reading.{most-blocks}
 use Rattle.run_reader.proofs.read_words.Statement.{statement}
 use Rattle.run_reader.proofs.read_words.Tie as tie
 
 -- word j gives a block
 abbrev gives : Fields → (ℕ → List ℕ) → ℕ → Bool
-gives f word j = isDone (wordSays f word j)
+gives f word j = isDone (runWordSays f word j)
 
 abbrev Inv-loop : tie.InvT-loop
 Inv-loop f words blocks₀ n h j₀ blocks j =
@@ -110,7 +110,7 @@ returns c =
     let n = (c .before .before .before .before .before .before .before .before .before .before) .block-count in
     let r = (c .before .before .before .before .before) .read-word in
     let keys = (c .before .before) .match .keys2 in
-    let e = order-no (blockCount (s .args .f)) (n .result) (l .j) (wordSays (s .args .f) (piece wordBytes (s .args .words .now))) (r .result) (n .ensures)
+    let e = order-no (blockCount (s .args .f)) (n .result) (l .j) (runWordSays (s .args .f) (piece wordBytes (s .args .words .now))) (r .result) (n .ensures)
     ((c .before .before .before .before .before .before .before) .loop-test .taken) (l .inv .3) (r .ensures .0) (is-not-done (r .result) keys) in
     let m = c .moved-to .ensures ∙ moved (r .result) (l .j) keys in
     (m ∙ e, λ d. absurd (no-done (sym m ∙ d)))
@@ -155,7 +155,7 @@ returns-2 c =
     let l = (c .before) .loop in
     let n = (c .before .before .before) .block-count in
     let h = (c .before .before) .block-bytes in (
-      order-yes (blockCount (s .args .f)) (n .result) (l .j) (wordSays (s .args .f) (piece wordBytes (s .args .words .now))) (n .ensures) (c .loop-test .left) (l .inv .0) (l .inv .3),
+      order-yes (blockCount (s .args .f)) (n .result) (l .j) (runWordSays (s .args .f) (piece wordBytes (s .args .words .now))) (n .ensures) (c .loop-test .left) (l .inv .0) (l .inv .3),
       λ d j b. ap (λ (k : ℕ). piece k (l .blocks) j) (sym (h .ensures)) ∙ l .inv .2 j (omega (arith, n .ensures, c .loop-test .left)),
     )
 

@@ -10,16 +10,16 @@ use Rattle.parameters.specs.Parameters.{parametersOf}
 use Rattle.parameters.specs.declared.Parameters.{Parameters}
 use Rattle.plan.specs.Plan.{planOf}
 use Rattle.plan.proofs.Laws.Accepted.{entered}
-use Rattle.slots.specs.Writing.{slotsOf}
-use Rattle.run.specs.Run.{wordAt, runOf, writeSays}
+use Rattle.slots.specs.Writing.{runSlots}
+use Rattle.run.specs.Run.{wordAt, runOf, runWriteSays}
 use borrow.Author.Needs.{needs}
 use Rattle.run_writer.proofs.write.Statement.{statement}
 use Rattle.run_writer.proofs.write.Tie as tie
 
 -- the slots of the checked parameters are the header's
-run-is : (header marker frames : List _) (q : Parameters) → q ≡ parametersOf (fieldsOf header) marker → slotsOf (planOf q) (wordAt (q .fields) frames) ≡ runOf header marker frames
+run-is : (header marker frames : List _) (q : Parameters) → q ≡ parametersOf (fieldsOf header) marker → runSlots (planOf q) (wordAt (q .fields) frames) ≡ runOf header marker frames
 unfolding runOf parametersOf
-run-is header marker frames q e = ap (λ (x : Parameters). slotsOf (planOf x) (wordAt (x .fields) frames)) e
+run-is header marker frames q e = ap (λ (x : Parameters). runSlots (planOf x) (wordAt (x .fields) frames)) e
 
 check-requires : tie.Need-check-requires
 check-requires c κs = search needs
@@ -31,7 +31,7 @@ enum-told-2 : tie.Need-enum-told-2
 enum-told-2 c = search needs
 
 returns : tie.Need-returns
-unfolding writeSays
+unfolding runWriteSays
 returns c =
     let k = c .before .before .check in
     (k .ensures .0, kept (k .result .answer) _ _ (c .before .match .keys2))
@@ -47,7 +47,7 @@ same-length : tie.Need-same-length
 same-length c = search needs
 
 returns-2 : tie.Need-returns-2
-unfolding writeSays
+unfolding runWriteSays
 returns-2 c =
     let a = c .before .before .before .before .before .before .before .before .before .before .before .args in
     let k = c .before .before .before .before .before .before .check in

@@ -12,8 +12,8 @@ use Rattle.channel.proofs.Laws.Symbols as symbols
 use Rattle.pulses.specs.Inner.{Order, Slots}
 use Rattle.plan.specs.declared.Plan.{Plan}
 use Rattle.plan.specs.Inner.{Fine, slotBytes}
-use Rattle.plan.specs.Plan.{sent}
-use Rattle.channel.specs.Channel.{total, symbolCount}
+use Rattle.plan.specs.Plan.{sentCount}
+use Rattle.channel.specs.Channel.{total, layoutSymbols}
 
 pub record Bounds (p : Plan) : Type 0 where
   pub copies-least : 1 ≤ p .copies
@@ -27,16 +27,16 @@ pub record Bounds (p : Plan) : Type 0 where
   pub group-most : p .group ≤ 320
   pub markers-most : p .layout .markers ≤ 32
   pub back-most : p .layout .step * p .layout .rows ≤ 32768
-  pub places : p .layout .lines * p .layout .symbols ≤ symbolCount (p .layout)
+  pub places : p .layout .lines * p .layout .symbols ≤ layoutSymbols (p .layout)
   pub words : total (p .layout) ≤ p .layout .lines * p .layout .symbols
-  pub symbols-bound : symbolCount (p .layout) < 2 ^ 23
-  pub sent-bound : sent p < 2 ^ 28
-  pub slots-bound : sent p * p .group < 2 ^ 36
+  pub symbols-bound : layoutSymbols (p .layout) < 2 ^ 23
+  pub sent-bound : sentCount p < 2 ^ 28
+  pub slots-bound : sentCount p * p .group < 2 ^ 36
 
 -- 32 copies of fewer than 2^31 slots
-sent-most : (p : Plan) → Fine p → sent p * p .group < 2 ^ 36
+sent-most : (p : Plan) → Fine p → sentCount p * p .group < 2 ^ 36
 sent-most p fine =
-    let n : ℕ = symbolCount (p .layout) in
+    let n : ℕ = layoutSymbols (p .layout) in
     let e : n * p .copies * p .group ≡ n * p .group * p .copies = mul-assoc n (p .copies) (p .group) ∙ ap (λ (v : ℕ). n * v) (mul-comm (p .copies) (p .group)) ∙ sym (mul-assoc n (p .group) (p .copies)) in
     let one : n * p .group ≤ 2 ^ 31 - 1 = let b = fine .slots-bound in omega arith in
     let all : n * p .group * p .copies ≤ (2 ^ 31 - 1) * 32 = mul-le-mul one (fine .copies-most) in
@@ -49,8 +49,8 @@ bounds p fine =
     let group = fine .group-is in
     let two : 2 ≤ p .group = let l : 2 ^ 2 ≤ 2 ^ p .bits = pow-mono (fine .bits-least) in let e = fine .order-is in omega arith in
     let size : p .layout .symbols * p .bits ≡ wordBits = fine .symbols-are in
-    let few : symbolCount (p .layout) ≤ 2 ^ 23 - 1 = let b = fine .symbols-bound in omega arith in
-    let copied : sent p ≤ (2 ^ 23 - 1) * 32 = mul-le-mul few (fine .copies-most) in
+    let few : layoutSymbols (p .layout) ≤ 2 ^ 23 - 1 = let b = fine .symbols-bound in omega arith in
+    let copied : sentCount p ≤ (2 ^ 23 - 1) * 32 = mul-le-mul few (fine .copies-most) in
     record {
       copies-least = fine .copies-least;
       copies-most = fine .copies-most;
@@ -81,8 +81,8 @@ pub shape : (p : Plan) → Fine p → Order (p .order) (p .group)
 shape p fine = record { bits = p .bits; bits-least = fine .bits-least; bits-most = fine .bits-most; order-is = fine .order-is; group-is = fine .group-is }
 
 -- sent once
-pub lies : (p : Plan) → Fine p → p .copies ≡ 1 → (b : List ℕ) → length b ≡ slotBytes p → Slots (p .order) (p .group) (symbolCount (p .layout)) b
+pub lies : (p : Plan) → Fine p → p .copies ≡ 1 → (b : List ℕ) → length b ≡ slotBytes p → Slots (p .order) (p .group) (layoutSymbols (p .layout)) b
 lies p fine one b long =
-    let e : sent p ≡ symbolCount (p .layout) = ap (λ (k : ℕ). symbolCount (p .layout) * k) one ∙ mul-one (symbolCount (p .layout)) in
-    let room : length b ≡ (symbolCount (p .layout) * p .group + 7) / 8 = long ∙ ap (λ (n : ℕ). (n * p .group + 7) / 8) e in
+    let e : sentCount p ≡ layoutSymbols (p .layout) = ap (λ (k : ℕ). layoutSymbols (p .layout) * k) one ∙ mul-one (layoutSymbols (p .layout)) in
+    let room : length b ≡ (layoutSymbols (p .layout) * p .group + 7) / 8 = long ∙ ap (λ (n : ℕ). (n * p .group + 7) / 8) e in
     record { shape = shape p fine; room = omega arith; bound = fine .slots-bound }

@@ -21,10 +21,10 @@ use Rattle.channel.proofs.Laws.Places.{source, hit-is, placed-hit, placed-rest,
 use Rattle.pulses.specs.Pulses as pulses
 use Rattle.plan.specs.declared.Plan.{Plan}
 use Rattle.plan.specs.Inner.{Fine, slotBytes}
-use Rattle.plan.specs.Plan.{sent}
-use Rattle.channel.specs.Channel.{total, unit, symbolCount, hitBy}
+use Rattle.plan.specs.Plan.{sentCount}
+use Rattle.channel.specs.Channel.{total, unit, layoutSymbols, hitBy}
 use Rattle.slots.proofs.Laws.Bounds.{Bounds, bounds}
-use Rattle.slots.specs.Writing.{dataAt, placed, symbolAt, slotBit, slotsOf}
+use Rattle.slots.specs.Writing.{dataSymbol, placedSymbol, symbolAt, runSlot, runSlots}
 use Rattle.slots_moves.specs.Inner.{Holds, Moved, front}
 use Rattle.slots_lines.specs.Inner.{lineEnd, stride, sooner, soFar}
 
@@ -41,17 +41,17 @@ delay-most p fine x =
 pub record Sizes (p : Plan) (j r : ℕ) : Type 0 where
   pub of-plan : Bounds p
   pub places : j * p .layout .symbols + p .layout .symbols < 2 ^ 23
-  pub symbols : j * unit (p .layout) + unit (p .layout) ≤ symbolCount (p .layout)
+  pub symbols : j * unit (p .layout) + unit (p .layout) ≤ layoutSymbols (p .layout)
   pub late : delay (p .layout) (r % p .layout .rows) ≤ 2 ^ 22
   pub rows-least : 1 ≤ p .layout .rows
   pub stride-least : 1 ≤ stride (p .layout .rows)
   pub stride-most : stride (p .layout .rows) ≤ 128
 
 -- the copies of the symbols before line j lie within, and their slots
-pub line-copies-inside : (p : Plan) (j : ℕ) → j ≤ p .layout .lines → j * unit (p .layout) * p .copies ≤ sent p
+pub line-copies-inside : (p : Plan) (j : ℕ) → j ≤ p .layout .lines → j * unit (p .layout) * p .copies ≤ sentCount p
 line-copies-inside p j l = mul-le-mul (mul-le-mul l (le-refl (unit (p .layout)))) (le-refl (p .copies))
 
-pub line-end-inside : (p : Plan) (j : ℕ) → j ≤ p .layout .lines → j * unit (p .layout) * p .copies * p .group ≤ sent p * p .group
+pub line-end-inside : (p : Plan) (j : ℕ) → j ≤ p .layout .lines → j * unit (p .layout) * p .copies * p .group ≤ sentCount p * p .group
 line-end-inside p j l = mul-le-mul (line-copies-inside p j l) (le-refl (p .group))
 
 pub line-end-on : (p : Plan) (j : ℕ) → j * unit (p .layout) * p .copies * p .group ≤ (j + 1) * unit (p .layout) * p .copies * p .group
@@ -82,18 +82,18 @@ holds-next p word s end q slots after same h m =
 
 -- with all of them, and no pulse behind them, it is the definition
 pub holds-all : (p : Plan) → Fine p → (word : ℕ → List ℕ) (slots after : List ℕ) → Holds p (front p word (p .layout .lines * unit (p .layout))) (lineEnd p (p .layout .lines)) slots
-    → Ends slots (p .layout .lines * unit (p .layout) * p .copies * p .group) after → Bytes after → after ≡ slotsOf p word
-unfolding slotsOf pulses.slotsOf pulses.slotBit
+    → Ends slots (p .layout .lines * unit (p .layout) * p .copies * p .group) after → Bytes after → after ≡ runSlots p word
+unfolding runSlots pulses.slotsOf pulses.slotBit
 holds-all p fine word slots after h e bytes =
-    let n : ℕ = sent p in
+    let n : ℕ = sentCount p in
     let g : 0 < p .group = let k = bounds p fine in omega arith in
     let room : length slots ≡ slotBytes p = h .room in
-    bytes-made (slotBytes p) (slotBit p word) after (e .long ∙ room) bytes (λ x l.
+    bytes-made (slotBytes p) (runSlot p word) after (e .long ∙ room) bytes (λ x l.
     e .bits x (omega arith) ∙ ⊎-elim
     (λ (a : x / p .group < n).
     let low : x < n * p .group = div-lt-iff-lt-mul g .0 a in
-    let b : x / p .group / p .copies < symbolCount (p .layout) = div-lt-iff-lt-mul (fine .copies-least) .1 a in
-    cut-in (n * p .group) (bitAt slots) x low ∙ h .bits x l ∙ rw (cut-in (symbolCount (p .layout)) (symbolAt p word) (x / p .group / p .copies) b, lt-ltb (x / p .group) n a) refl)
+    let b : x / p .group / p .copies < layoutSymbols (p .layout) = div-lt-iff-lt-mul (fine .copies-least) .1 a in
+    cut-in (n * p .group) (bitAt slots) x low ∙ h .bits x l ∙ rw (cut-in (layoutSymbols (p .layout)) (symbolAt p word) (x / p .group / p .copies) b, lt-ltb (x / p .group) n a) refl)
     (λ (a : n ≤ x / p .group).
     let high : n * p .group ≤ x = le-div-iff-mul-le g .0 a in
     cut-past (n * p .group) (bitAt slots) x high ∙ sym (rw (le-ltb (x / p .group) n a) refl))
@@ -135,7 +135,7 @@ stride-delay g r x =
 pub sizes : (p : Plan) → Fine p → (j r : ℕ) → j < p .layout .lines → Sizes p j r
 sizes p fine j r l =
     let k = bounds p fine in
-    let symbols : j * unit (p .layout) + unit (p .layout) ≤ symbolCount (p .layout) = line-in (unit (p .layout)) (p .layout .lines) j l in
+    let symbols : j * unit (p .layout) + unit (p .layout) ≤ layoutSymbols (p .layout) = line-in (unit (p .layout)) (p .layout .lines) j l in
     record {
       of-plan = k;
       places = omega arith;
@@ -189,25 +189,25 @@ module _ (p : Plan) (fine : Fine p) (word : ℕ → List ℕ) (r y : ℕ) (res :
   source-is = hit-is (p .layout) y ∙ ap (λ (d : ℕ). pick (ltb y d) (total (p .layout)) (pick (ltb (y - d) (total (p .layout))) (y - d) (total (p .layout)))) same-delay
 
   -- before the first symbol comes there, and behind the last
-  pub placed-early : y < delay (p .layout) (r % p .layout .rows) → placed p word y ≡ 0
+  pub placed-early : y < delay (p .layout) (r % p .layout .rows) → placedSymbol p word y ≡ 0
   placed-early h =
       let e : hitBy (p .layout) y ≡ total (p .layout) = source-is ∙ rw (lt-ltb y (delay (p .layout) (r % p .layout .rows)) h) refl in
-      placed-rest (p .layout) (dataAt p word) y (omega arith)
+      placed-rest (p .layout) (dataSymbol p word) y (omega arith)
 
-  pub placed-late : delay (p .layout) (r % p .layout .rows) + total (p .layout) ≤ y → placed p word y ≡ 0
+  pub placed-late : delay (p .layout) (r % p .layout .rows) + total (p .layout) ≤ y → placedSymbol p word y ≡ 0
   placed-late h =
       let d : ℕ = delay (p .layout) (r % p .layout .rows) in
       let a : d ≤ y = omega arith in
       let b : total (p .layout) ≤ y - d = omega arith in
       let e : hitBy (p .layout) y ≡ total (p .layout) = source-is ∙ rw (le-ltb y d a, le-ltb (y - d) (total (p .layout)) b) refl in
-      placed-rest (p .layout) (dataAt p word) y (omega arith)
+      placed-rest (p .layout) (dataSymbol p word) y (omega arith)
 
-  pub placed-at : delay (p .layout) (r % p .layout .rows) ≤ y → y < delay (p .layout) (r % p .layout .rows) + total (p .layout) → placed p word y ≡ dataAt p word (y - delay (p .layout) (r % p .layout .rows))
+  pub placed-at : delay (p .layout) (r % p .layout .rows) ≤ y → y < delay (p .layout) (r % p .layout .rows) + total (p .layout) → placedSymbol p word y ≡ dataSymbol p word (y - delay (p .layout) (r % p .layout .rows))
   placed-at a h =
       let d : ℕ = delay (p .layout) (r % p .layout .rows) in
       let b : y - d < total (p .layout) = omega arith in
       let e : hitBy (p .layout) y ≡ y - d = source-is ∙ rw (le-ltb y d a, lt-ltb (y - d) (total (p .layout)) b) refl in
-      placed-hit (p .layout) (dataAt p word) y (rw e b) ∙ ap (dataAt p word) e
+      placed-hit (p .layout) (dataSymbol p word) y (rw e b) ∙ ap (dataSymbol p word) e
 
   -- its first symbol comes no sooner than at delay + r
   pub not-yet : r < stride (p .layout .rows) → y < delay (p .layout) (r % p .layout .rows) + r → y < delay (p .layout) (r % p .layout .rows)
@@ -226,10 +226,10 @@ module _ (p : Plan) (fine : Fine p) (word : ℕ → List ℕ) (r y : ℕ) (res :
 -- ---- the symbols of a line so far
 
 module _ (p : Plan) (word : ℕ → List ℕ) (j : ℕ) where
-  place-in-line : (k : ℕ) → k < p .layout .symbols → symbolAt p word (j * unit (p .layout) + p .layout .markers + k) ≡ placed p word (j * p .layout .symbols + k)
+  place-in-line : (k : ℕ) → k < p .layout .symbols → symbolAt p word (j * unit (p .layout) + p .layout .markers + k) ≡ placedSymbol p word (j * p .layout .symbols + k)
   place-in-line k l =
       let e : j * unit (p .layout) + p .layout .markers + k ≡ j * unit (p .layout) + (p .layout .markers + k) = omega arith in
-      ap (symbolAt p word) e ∙ line-place (p .layout) (p .marks) (placed p word) j k l
+      ap (symbolAt p word) e ∙ line-place (p .layout) (p .marks) (placedSymbol p word) j k l
 
   so-front : (r x s : ℕ) → s < j * unit (p .layout) + p .layout .markers → soFar p word j r x s ≡ symbolAt p word s
   unfolding soFar cut
@@ -238,7 +238,7 @@ module _ (p : Plan) (word : ℕ → List ℕ) (j : ℕ) where
       let m : s < first + p .layout .symbols = omega arith in
       rw (lt-ltb s (first + p .layout .symbols) m, lt-ltb s first l) refl
 
-  so-line : (r x k : ℕ) → k < p .layout .symbols → soFar p word j r x (j * unit (p .layout) + p .layout .markers + k) ≡ pick (sooner (stride (p .layout .rows)) r x (j * p .layout .symbols + k)) (placed p word (j * p .layout .symbols + k)) 0
+  so-line : (r x k : ℕ) → k < p .layout .symbols → soFar p word j r x (j * unit (p .layout) + p .layout .markers + k) ≡ pick (sooner (stride (p .layout .rows)) r x (j * p .layout .symbols + k)) (placedSymbol p word (j * p .layout .symbols + k)) 0
   unfolding soFar cut
   so-line r x k l =
       let first : ℕ = j * unit (p .layout) + p .layout .markers in
@@ -253,7 +253,7 @@ module _ (p : Plan) (word : ℕ → List ℕ) (j : ℕ) where
 
   -- each of them: before the line's places, among them, or behind them
   by-line : (r x s v : ℕ) → (s < j * unit (p .layout) + p .layout .markers → symbolAt p word s ≡ v)
-      → ((k : ℕ) → k < p .layout .symbols → s ≡ j * unit (p .layout) + p .layout .markers + k → pick (sooner (stride (p .layout .rows)) r x (j * p .layout .symbols + k)) (placed p word (j * p .layout .symbols + k)) 0 ≡ v)
+      → ((k : ℕ) → k < p .layout .symbols → s ≡ j * unit (p .layout) + p .layout .markers + k → pick (sooner (stride (p .layout .rows)) r x (j * p .layout .symbols + k)) (placedSymbol p word (j * p .layout .symbols + k)) 0 ≡ v)
       → (j * unit (p .layout) + p .layout .markers + p .layout .symbols ≤ s → 0 ≡ v) → soFar p word j r x s ≡ v
   by-line r x s v hf hr hp =
       let first : ℕ = j * unit (p .layout) + p .layout .markers in
@@ -270,7 +270,7 @@ module _ (p : Plan) (word : ℕ → List ℕ) (j : ℕ) where
       (lt-or-le s first)
 
   same-line : (r x u v s : ℕ) → ((y : ℕ) → j * p .layout .symbols ≤ y → y < j * p .layout .symbols + p .layout .symbols → s ≡ j * unit (p .layout) + p .layout .markers + (y - j * p .layout .symbols)
-      → pick (sooner (stride (p .layout .rows)) r x y) (placed p word y) 0 ≡ pick (sooner (stride (p .layout .rows)) u v y) (placed p word y) 0) → soFar p word j r x s ≡ soFar p word j u v s
+      → pick (sooner (stride (p .layout .rows)) r x y) (placedSymbol p word y) 0 ≡ pick (sooner (stride (p .layout .rows)) u v y) (placedSymbol p word y) 0) → soFar p word j r x s ≡ soFar p word j u v s
   same-line r x u v s h =
       by-line r x s (soFar p word j u v s)
       (λ l. sym (so-front u v s l))
@@ -291,7 +291,7 @@ module _ (p : Plan) (word : ℕ → List ℕ) (j : ℕ) where
       (λ (h : y % n ≡ 0). let z : 0 ≤ y = omega arith in sooner-same n 0 0 y h ∙ le-ltb y 0 z)
       (λ (h : y % n ≡ 0 → ⊥). let z : 0 ≤ y % n = omega arith in sooner-other n 0 0 y h ∙ le-ltb (y % n) 0 z)
       (eq-or-ne (y % n) 0) in
-      ap (λ (t : Bool). pick t (placed p word y) 0) none ∙ sym (cut-past first (symbolAt p word) s le))
+      ap (λ (t : Bool). pick t (placedSymbol p word y) 0) none ∙ sym (cut-past first (symbolAt p word) s le))
       (λ l. let le : first ≤ s = omega arith in sym (cut-past first (symbolAt p word) s le)))
 
   pub line-ended : 1 ≤ p .layout .rows → (s : ℕ) → soFar p word j (stride (p .layout .rows)) 0 s ≡ front p word ((j + 1) * unit (p .layout)) s
@@ -304,11 +304,11 @@ module _ (p : Plan) (word : ℕ → List ℕ) (j : ℕ) where
       let m : s < end = omega arith in
       let low : y % n < n = mod-lt y (stride-least (p .layout .rows) least) in
       let all : sooner n n 0 y ≡ true = sooner-other n n 0 y (λ z. omega arith) ∙ lt-ltb (y % n) n low in
-      ap (λ (t : Bool). pick t (placed p word y) 0) all ∙ sym (cut-in end (symbolAt p word) s m ∙ ap (symbolAt p word) e ∙ place-in-line k l))
+      ap (λ (t : Bool). pick t (placedSymbol p word y) 0) all ∙ sym (cut-in end (symbolAt p word) s m ∙ ap (symbolAt p word) e ∙ place-in-line k l))
       (λ l. let m : end ≤ s = omega arith in sym (cut-past end (symbolAt p word) s m))
 
   -- residues that have no symbol in the line
-  residues-none : (a c s : ℕ) → a ≤ c → ((y : ℕ) → j * p .layout .symbols ≤ y → y < j * p .layout .symbols + p .layout .symbols → a ≤ y % stride (p .layout .rows) → y % stride (p .layout .rows) < c → placed p word y ≡ 0)
+  residues-none : (a c s : ℕ) → a ≤ c → ((y : ℕ) → j * p .layout .symbols ≤ y → y < j * p .layout .symbols + p .layout .symbols → a ≤ y % stride (p .layout .rows) → y % stride (p .layout .rows) < c → placedSymbol p word y ≡ 0)
       → soFar p word j a 0 s ≡ soFar p word j c 0 s
   residues-none a c s order h =
       same-line a 0 c 0 s (λ y from to e.
@@ -354,16 +354,16 @@ module _ (p : Plan) (word : ℕ → List ℕ) (j : ℕ) where
         same-line r 0 r x s (λ y a b q. ⊎-elim
         (λ (h : y % n ≡ r).
         let z : 0 ≤ y = omega arith in
-        ap (λ (t : Bool). pick t (placed p word y) 0) (sooner-same n r 0 y h ∙ le-ltb y 0 z)
+        ap (λ (t : Bool). pick t (placedSymbol p word y) 0) (sooner-same n r 0 y h ∙ le-ltb y 0 z)
         ∙ ⊎-elim
         (λ (l : y < x).
         let from : first ≤ y =
         ⊎-elim (λ (c : y < first). let f : y + n ≤ first = same-apart n y first (h ∙ sym res) c in absurd (omega arith)) (λ (c : first ≤ y). c) (lt-or-le y first) in
-        let none : placed p word y ≡ 0 = placed-early p fine word r y h (not-yet p fine word r y h small (omega arith)) in
+        let none : placedSymbol p word y ≡ 0 = placed-early p fine word r y h (not-yet p fine word r y h small (omega arith)) in
         sym (rw (sooner-same n r x y h, lt-ltb y x l) none))
         (λ (l : x ≤ y). sym (rw (sooner-same n r x y h, le-ltb y x l) refl))
         (lt-or-le y x))
-        (λ (h : y % n ≡ r → ⊥). ap (λ (t : Bool). pick t (placed p word y) 0) (sooner-other n r 0 y h ∙ sym (sooner-other n r x y h)))
+        (λ (h : y % n ≡ r → ⊥). ap (λ (t : Bool). pick t (placedSymbol p word y) 0) (sooner-other n r 0 y h ∙ sym (sooner-other n r x y h)))
         (eq-or-ne (y % n) r))
 
     -- behind its last place that is hit
@@ -380,7 +380,7 @@ module _ (p : Plan) (word : ℕ → List ℕ) (j : ℕ) where
         (λ (l : y < x). rw (sooner-same n r x y h, lt-ltb y x l, after) refl)
         (λ (l : x ≤ y). rw (sooner-same n r x y h, le-ltb y x l, after) (sym (placed-late p fine word r y h (omega arith))))
         (lt-or-le y x))
-        (λ (h : y % n ≡ r → ⊥). ap (λ (t : Bool). pick t (placed p word y) 0) (sooner-other n r x y h ∙ ⊎-elim
+        (λ (h : y % n ≡ r → ⊥). ap (λ (t : Bool). pick t (placedSymbol p word y) 0) (sooner-other n r x y h ∙ ⊎-elim
         (λ (g : y % n ≡ r + 1). let z : 0 ≤ y = omega arith in let f : r ≤ y % n = omega arith in le-ltb (y % n) r f ∙ sym (sooner-same n (r + 1) 0 y g ∙ le-ltb y 0 z))
         (λ (g : y % n ≡ r + 1 → ⊥). ⊎-elim
         (λ (l : y % n < r). let m : y % n < r + 1 = omega arith in lt-ltb (y % n) r l ∙ sym (sooner-other n (r + 1) 0 y g ∙ lt-ltb (y % n) (r + 1) m))
@@ -391,7 +391,7 @@ module _ (p : Plan) (word : ℕ → List ℕ) (j : ℕ) where
 
     -- one place more: the pulse of its symbol is moved
     pub residue-more : (x at q end : ℕ) (slots after : List ℕ) → x % stride (p .layout .rows) ≡ r → j * p .layout .symbols ≤ x → x < j * p .layout .symbols + p .layout .symbols
-        → at ≡ j * p .layout .markers + p .layout .markers + x → q ≡ placed p word x → Holds p (soFar p word j r x) end slots
+        → at ≡ j * p .layout .markers + p .layout .markers + x → q ≡ placedSymbol p word x → Holds p (soFar p word j r x) end slots
         → Moved p at q slots after → Holds p (soFar p word j r (x + stride (p .layout .rows))) end after
     residue-more x at q end slots after res a b place same h m =
         let n : ℕ = stride (p .layout .rows) in
@@ -409,5 +409,5 @@ module _ (p : Plan) (word : ℕ → List ℕ) (j : ℕ) where
         (so-line r (x + n) k l ∙ rw (here, sooner-same n r (x + n) x res, lt-ltb x (x + n) lt) (sym same))
         (λ u ne. same-line r x r (x + n) u (λ y c d z.
         let other : y ≡ x → ⊥ = λ w. ne (omega arith) in
-        ap (λ (t : Bool). pick t (placed p word y) 0) (sooner-on n r x y res other)))
+        ap (λ (t : Bool). pick t (placedSymbol p word y) 0) (sooner-on n r x y res other)))
         h

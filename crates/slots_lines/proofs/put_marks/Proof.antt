@@ -7,7 +7,7 @@ use lib.ListN.{length, getD}
 use borrow.Author.Needs.{needs}
 use Rattle.channel.proofs.Laws.Markers.{line-mark}
 use Rattle.channel.specs.Channel.{unit}
-use Rattle.slots.specs.Writing.{placed}
+use Rattle.slots.specs.Writing.{placedSymbol}
 use Rattle.slots_moves.specs.Inner.{Holds, front}
 use Rattle.slots_moves.proofs.Laws.Moves.{copied, of}
 use Rattle.slots_lines.proofs.Laws.Lines.{sizes, holds-is, holds-next}
@@ -80,7 +80,7 @@ loop-again c =
       o .kept .1 .1 .1 .1 .0 ∙ l .inv .1,
       λ word end h. holds-is p word (at + 1) (s .args .line * unit (p .layout) + (l .k + 1)) end (o .last .1 .1 .1 .1 .0) (omega arith)
           (holds-next p word at end (getD (p .marks) (l .k) 0) (l .slots) (o .last .1 .1 .1 .1 .0)
-          (sym (line-mark (p .layout) (p .marks) (placed p word) (s .args .line) (l .k) (omega arith))) (l .inv .2 word end h) moved),
+          (sym (line-mark (p .layout) (p .marks) (placedSymbol p word) (s .args .line) (l .k) (omega arith))) (l .inv .2 word end h) moved),
     )
 
 same-length : tie.Need-same-length Inv-loop μ-loop

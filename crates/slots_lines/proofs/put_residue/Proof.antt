@@ -13,7 +13,7 @@ use Rattle.channel.specs.Inner.{delay}
 use Rattle.channel.proofs.Laws.Symbols.{data-inside}
 use Rattle.channel.specs.Channel.{total}
 use Rattle.slots.proofs.Laws.Slots.{placed-below}
-use Rattle.slots.specs.Writing.{dataAt}
+use Rattle.slots.specs.Writing.{dataSymbol}
 use Rattle.slots_moves.specs.Inner.{Holds}
 use Rattle.slots_lines.specs.Inner.{stride, soFar}
 use Rattle.slots_moves.proofs.Laws.Moves.{copied, of, holds-same}
@@ -191,7 +191,7 @@ move-symbol-requires c κs =
     let f = s .pre .0 .given .fine in
     let w : ℕ → List ℕ = piece wordBytes (s .args .words .now) in
     let less : l .s - (k + d) ≡ x - d = omega (arith, z) in
-    let q : c .before .data-at .result < p .group = rw (c .before .data-at .ensures (p .layout) (f .symbols-are) ∙ ap (dataAt p w) less ∙ sym (placed-at p f w (s .args .r) x (l .inv .0) (omega (arith, z)) (omega (arith, z)))) (let b = placed-below p f w x in omega (arith, z)) in
+    let q : c .before .data-at .result < p .group = rw (c .before .data-at .ensures (p .layout) (f .symbols-are) ∙ ap (dataSymbol p w) less ∙ sym (placed-at p f w (s .args .r) x (l .inv .0) (omega (arith, z)) (omega (arith, z)))) (let b = placed-below p f w x in omega (arith, z)) in
     copied p f (l .s) (c .before .data-at .result) (l .slots) (l .inv .3 ∙ s .pre .0 .room) (omega (arith, z)) q
 
 add-s-2 : tie.Need-add-s-2 Inv-loop μ-loop
@@ -241,7 +241,7 @@ loop-again c =
     let w : ℕ → List ℕ = piece wordBytes (s .args .words .now) in
     let o = c .before .before .move-symbol in
     let less : l .s - (k + d) ≡ x - d = omega (arith, z) in
-    let q : c .before .before .before .before .data-at .result ≡ _ = c .before .before .before .before .data-at .ensures (p .layout) (f .symbols-are) ∙ ap (dataAt p w) less ∙ sym (placed-at p f w (s .args .r) x (l .inv .0) (omega (arith, z)) (omega (arith, z))) in
+    let q : c .before .before .before .before .data-at .result ≡ _ = c .before .before .before .before .data-at .ensures (p .layout) (f .symbols-are) ∙ ap (dataSymbol p w) less ∙ sym (placed-at p f w (s .args .r) x (l .inv .0) (omega (arith, z)) (omega (arith, z))) in
     let low : c .before .before .before .before .data-at .result < p .group = rw q (let b = placed-below p f w x in omega (arith, z)) in
     let moved = o .ensures p (of p f (l .s) (c .before .before .before .before .data-at .result) (omega (arith, z)) low) in
     let on : x + stride (p .layout .rows) ≡ l .s + c .before .before .before .before .before .before .before .before .before .stride-of .result - k = omega (arith, z) in (

@@ -16,8 +16,8 @@ use Rattle.bits.specs.Basics.{pick, bool}
 use Rattle.bits.proofs.Laws.Choice.{lt-or-le, eq-or-ne}
 use Rattle.plan.specs.declared.Plan.{Plan}
 use Rattle.plan.specs.Inner.{Fine, slotBytes}
-use Rattle.plan.specs.Plan.{sent}
-use Rattle.channel.specs.Channel.{symbolCount}
+use Rattle.plan.specs.Plan.{sentCount}
+use Rattle.channel.specs.Channel.{layoutSymbols}
 use Rattle.slots.proofs.Laws.Bounds.{bounds}
 use Rattle.slots_moves.specs.Inner.{Copied, Of, Groups, Holds, Moved}
 
@@ -37,8 +37,8 @@ elsewhere : (g s q x : ℕ) → q < g → (x / g ≡ s → ⊥) → bool (eqb x 
 elsewhere g s q x l n = ap bool (ne-eqb x (s * g + q) (λ z. n (ap (λ (y : ℕ). y / g) z ∙ digits-div s l)))
 
 -- the slots of a sent group lie within
-pub inside : (p : Plan) (s q : ℕ) → s < sent p → q < p .group → s * p .group + q < 8 * slotBytes p
-inside p s q l h = let k : s + 1 ≤ sent p = omega arith in omega (arith, mul-le-mul k (le-refl (p .group)))
+pub inside : (p : Plan) (s q : ℕ) → s < sentCount p → q < p .group → s * p .group + q < 8 * slotBytes p
+inside p s q l h = let k : s + 1 ≤ sentCount p = omega arith in omega (arith, mul-le-mul k (le-refl (p .group)))
 
 pub groups-same : (p : Plan) (f g : ℕ → ℕ) (end : ℕ) (slots : List ℕ) → ((s : ℕ) → f s ≡ g s) → Groups p f end slots → Groups p g end slots
 groups-same p f g end slots same h =
@@ -48,7 +48,7 @@ pub holds-same : (p : Plan) (f g : ℕ → ℕ) (end : ℕ) (slots : List ℕ) �
 holds-same p f g end slots same h = groups-same p (λ u. f (u / p .copies)) (λ u. g (u / p .copies)) end slots (λ u. same (u / p .copies)) h
 
 -- two flips of one slot are none, so that q may be 0
-groups-moved : (p : Plan) (f g : ℕ → ℕ) (end s q : ℕ) (slots : List ℕ) → s < sent p → q < p .group → f s ≡ 0 → g s ≡ q → ((u : ℕ) → (u ≡ s → ⊥) → f u ≡ g u)
+groups-moved : (p : Plan) (f g : ℕ → ℕ) (end s q : ℕ) (slots : List ℕ) → s < sentCount p → q < p .group → f s ≡ 0 → g s ≡ q → ((u : ℕ) → (u ≡ s → ⊥) → f u ≡ g u)
     → Groups p f end slots → (after : List ℕ) → after ≡ flipBit (flipBit slots (s * p .group)) (s * p .group + q) → Bytes after → Groups p g end after
 groups-moved p f g end s q slots l small zero there else h after e bytes =
     let G : ℕ = p .group in
@@ -82,8 +82,8 @@ halfway p f g n u = pick (ltb u n) (g (u / p .copies)) (f (u / p .copies))
 
 module _ (p : Plan) (pos : 1 ≤ p .copies) (s : ℕ) where
   -- copy c of it
-  pub copy-in : (c : ℕ) → s < symbolCount (p .layout) → c < p .copies → s * p .copies + c < sent p
-  copy-in c l h = let k : s + 1 ≤ symbolCount (p .layout) = omega arith in omega (arith, mul-le-mul k (le-refl (p .copies)))
+  pub copy-in : (c : ℕ) → s < layoutSymbols (p .layout) → c < p .copies → s * p .copies + c < sentCount p
+  copy-in c l h = let k : s + 1 ≤ layoutSymbols (p .layout) = omega arith in omega (arith, mul-le-mul k (le-refl (p .copies)))
 
   module _ (f g : ℕ → ℕ) (else : (u : ℕ) → (u ≡ s → ⊥) → f u ≡ g u) (end : ℕ) where
     pub copies-begun : (slots : List ℕ) → Holds p f end slots → Groups p (halfway p f g (s * p .copies + 0)) end slots
@@ -96,7 +96,7 @@ module _ (p : Plan) (pos : 1 ≤ p .copies) (s : ℕ) where
         (lt-or-le u (s * p .copies + 0)))
         h
 
-    pub copies-more : (c q : ℕ) (slots after : List ℕ) → s < symbolCount (p .layout) → c < p .copies → q < p .group → f s ≡ 0 → g s ≡ q
+    pub copies-more : (c q : ℕ) (slots after : List ℕ) → s < layoutSymbols (p .layout) → c < p .copies → q < p .group → f s ≡ 0 → g s ≡ q
         → Groups p (halfway p f g (s * p .copies + c)) end slots
         → after ≡ flipBit (flipBit slots ((s * p .copies + c) * p .group)) ((s * p .copies + c) * p .group + q) → Bytes after
         → Groups p (halfway p f g (s * p .copies + (c + 1))) end after
@@ -127,16 +127,16 @@ module _ (p : Plan) (pos : 1 ≤ p .copies) (s : ℕ) where
         h
 
 -- what moving them asks for
-pub copied : (p : Plan) → Fine p → (s q : ℕ) (slots : List ℕ) → length slots ≡ slotBytes p → s < symbolCount (p .layout) → q < p .group → Copied (p .copies) (p .group) s q slots
+pub copied : (p : Plan) → Fine p → (s q : ℕ) (slots : List ℕ) → length slots ≡ slotBytes p → s < layoutSymbols (p .layout) → q < p .group → Copied (p .copies) (p .group) s q slots
 copied p fine s q slots long l small =
-    let next : s + 1 ≤ symbolCount (p .layout) = omega arith in
-    let all : (s + 1) * p .copies ≤ sent p = mul-le-mul next (le-refl (p .copies)) in
-    let last : s * p .copies + p .copies ≤ sent p = omega arith in
-    let inside : (s * p .copies + p .copies) * p .group ≤ sent p * p .group = mul-le-mul last (le-refl (p .group)) in
+    let next : s + 1 ≤ layoutSymbols (p .layout) = omega arith in
+    let all : (s + 1) * p .copies ≤ sentCount p = mul-le-mul next (le-refl (p .copies)) in
+    let last : s * p .copies + p .copies ≤ sentCount p = omega arith in
+    let inside : (s * p .copies + p .copies) * p .group ≤ sentCount p * p .group = mul-le-mul last (le-refl (p .group)) in
     let k = bounds p fine .slots-bound in
     record { small = small; inside = omega arith; bound = omega arith }
 
-pub of : (p : Plan) → Fine p → (s q : ℕ) → s < symbolCount (p .layout) → q < p .group → Of p (p .copies) (p .group) s q
+pub of : (p : Plan) → Fine p → (s q : ℕ) → s < layoutSymbols (p .layout) → q < p .group → Of p (p .copies) (p .group) s q
 of p fine s q l small = record { copies-are = refl; copies-least = fine .copies-least; group-is = refl; among = l; small = small }
 
 -- the only copy

@@ -22,7 +22,7 @@ use Rattle.channel.proofs.Laws.Return as returns
 use Rattle.channel.proofs.Laws.Symbols.{data-inside}
 use Rattle.plan.specs.declared.Plan.{Plan}
 use Rattle.plan.specs.Inner.{Fine}
-use Rattle.channel.specs.Channel.{total, unit, symbolCount, place, hitBy, symbolOf}
+use Rattle.channel.specs.Channel.{total, unit, layoutSymbols, place, hitBy, symbolOf}
 use Rattle.slots.proofs.Laws.Bounds.{bounds}
 use Rattle.slots.specs.Reading.{pooledIn, dataIn, wordOut}
 use Rattle.slots_places.specs.Inner.{Cleared, takenBit, Took}
@@ -32,7 +32,7 @@ module _ (p : Plan) (fine : Fine p) (b : List ℕ) where
   abbrev stands : ℕ → ℕ
   stands t = symbolOf (p .layout) (place (p .layout) t)
 
-  stands-lt : (t : ℕ) → t < total (p .layout) → stands t < symbolCount (p .layout)
+  stands-lt : (t : ℕ) → t < total (p .layout) → stands t < layoutSymbols (p .layout)
   stands-lt = returns.stands-lt (p .layout) (fine .rows-least) (bounds p fine .symbols-least) (fine .lines-are)
 
   stands-one : (t u : ℕ) → stands t ≡ stands u → t ≡ u
@@ -156,7 +156,7 @@ module _ (p : Plan) (fine : Fine p) (b : List ℕ) where
                 (eq-or-ne (y / p .bits) t);
           }
 
-    piece-bytes : Bytes words → (j : ℕ) → j < p .layout .words → Took p b (symbolCount (p .layout)) words → Bytes (piece wordBytes words j)
+    piece-bytes : Bytes words → (j : ℕ) → j < p .layout .words → Took p b (layoutSymbols (p .layout)) words → Bytes (piece wordBytes words j)
     piece-bytes bytes j h k i =
         let room = k .room in
         ⊎-elim
@@ -168,8 +168,8 @@ module _ (p : Plan) (fine : Fine p) (b : List ℕ) where
         (lt-or-le i wordBytes)
 
     -- all symbols: the words
-    pub took-words : Bytes words → Took p b (symbolCount (p .layout)) words → (j : ℕ) → j < p .layout .words → piece wordBytes words j ≡ wordOut p b j
-    unfolding wordOut channel.wordOf channel.wordBit takenBit
+    pub took-words : Bytes words → Took p b (layoutSymbols (p .layout)) words → (j : ℕ) → j < p .layout .words → piece wordBytes words j ≡ wordOut p b j
+    unfolding wordOut channel.wordFrom channel.wordBit takenBit
     took-words bytes k j h =
         let room = k .room in
         let some : 0 < p .bits = let a = fine .bits-least in omega arith in
@@ -185,4 +185,4 @@ module _ (p : Plan) (fine : Fine p) (b : List ℕ) where
         let o : y % m ≡ i % m = ap (λ (v : ℕ). v % m) e ∙ digits-mod (j * p .layout .symbols + i / m) r in
         piece-bit wordBytes words j i l
         ∙ k .right y in-all
-        ∙ rw (lt-ltb (stands (y / m)) (symbolCount (p .layout)) (stands-lt (y / m) (of-bit y in-all))) (ap₂ (λ (u v : ℕ). dataIn p b u / 2 ^ (m - 1 - v) % 2) q o))
+        ∙ rw (lt-ltb (stands (y / m)) (layoutSymbols (p .layout)) (stands-lt (y / m) (of-bit y in-all))) (ap₂ (λ (u v : ℕ). dataIn p b u / 2 ^ (m - 1 - v) % 2) q o))

@@ -1,7 +1,7 @@
 -- A wrong place that is known stays the first; otherwise these symbols tell.
 use mathlib.Core.Path.{_≡_}
 use native.Mathlib.Omega.{arith}
-use Rattle.channel.specs.Channel.{symbolCount}
+use Rattle.channel.specs.Channel.{layoutSymbols}
 use Rattle.slots.proofs.Laws.Bounds.{bounds}
 use Rattle.slots_places.proofs.Laws.Passing.{known-stay, known-wrong, known-right}
 use borrow.Author.Needs.{needs}
@@ -26,7 +26,7 @@ take-requires c κs =
     let s = c .before .before .before .before .before .before in
     let h = s .pre in
     let m = h .2 .most in
-    let none : s .args .rest ≡ symbolCount (s .args .p .layout) = let l = (c .before) .if1 .left in omega arith in
+    let none : s .args .rest ≡ layoutSymbols (s .args .p .layout) = let l = (c .before) .if1 .left in omega arith in
     (h .0, h .1, h .2 .took none)
 
 same-length : tie.Need-same-length
@@ -39,7 +39,7 @@ returns-2 c =
     let h = s .pre in
     let m = h .2 .most in
     let o = (c .before .before .before) .take in
-    let none : a .rest ≡ symbolCount (a .p .layout) = let l = (c .before .before .before .before .before) .if1 .left in omega arith in
+    let none : a .rest ≡ layoutSymbols (a .p .layout) = let l = (c .before .before .before .before .before) .if1 .left in omega arith in
     known-wrong (a .p) (h .0 .slots .fine) (a .b .now) (a .from) (a .to) (a .rest) (a .words .now) (h .2) (h .0 .order) (h .0 .most) none (o .result) (o .ensures .0) _ (c .if2 .taken)
 
 same-length-2 : tie.Need-same-length-2
@@ -52,7 +52,7 @@ returns-3 c =
     let h = s .pre in
     let m = h .2 .most in
     let o = (c .before .before .before) .take in
-    let none : a .rest ≡ symbolCount (a .p .layout) = let l = (c .before .before .before .before .before) .if1 .left in omega arith in
+    let none : a .rest ≡ layoutSymbols (a .p .layout) = let l = (c .before .before .before .before .before) .if1 .left in omega arith in
     known-right (a .p) (h .0 .slots .fine) (a .b .now) (a .from) (a .to) (a .rest) (a .words .now) (h .2) (h .0 .order) (h .0 .most) none (o .result) (o .ensures .0) _ (c .if2 .left) (o .ensures .1 (c .if2 .left))
 
 pub rest-after-spec : {M : Type 1} → statement M

@@ -10,7 +10,7 @@ use Rattle.bits.specs.Basics.{upTo}
 use Rattle.bits.proofs.Laws.First.{found, part-fails, part-passes}
 use Rattle.bits.proofs.Laws.Window.{lesser-min}
 use Rattle.channel.proofs.Laws.Markers.{line-in}
-use Rattle.channel.specs.Channel.{unit, symbolCount, restZero}
+use Rattle.channel.specs.Channel.{unit, layoutSymbols, restZero}
 use Rattle.slots.proofs.Laws.Bounds.{Bounds, bounds}
 use Rattle.slots.specs.Reading.{pooledIn}
 use borrow.Author.Needs.{needs}
@@ -20,7 +20,7 @@ use Rattle.slots_places.proofs.take.Tie as tie
 -- the line of the first symbol
 known : (s : tie.Start) → Bounds (s .args .p) × (s .args .from / unit (s .args .p .layout) < s .args .p .layout .lines)
     × (s .args .from / unit (s .args .p .layout) * unit (s .args .p .layout) ≤ s .args .from) × (s .args .from < s .args .from / unit (s .args .p .layout) * unit (s .args .p .layout) + unit (s .args .p .layout))
-    × (s .args .from / unit (s .args .p .layout) * unit (s .args .p .layout) + unit (s .args .p .layout) ≤ symbolCount (s .args .p .layout))
+    × (s .args .from / unit (s .args .p .layout) * unit (s .args .p .layout) + unit (s .args .p .layout) ≤ layoutSymbols (s .args .p .layout))
 known s =
     let p = s .args .p in
     let from = s .args .from in

@@ -11,7 +11,7 @@ use Rattle.bits.proofs.Laws.Choice.{bool-no, bool-yes, eq-or-ne}
 use Rattle.bits.proofs.Laws.First.{found-at, found-none}
 use Rattle.channel.proofs.Laws.Markers.{line-in, rest-else}
 use Rattle.channel.proofs.Laws.Places.{remainder-on}
-use Rattle.channel.specs.Channel.{unit, symbolCount, restZero}
+use Rattle.channel.specs.Channel.{unit, layoutSymbols, restZero}
 use Rattle.slots.proofs.Laws.Bounds.{bounds, Bounds}
 use Rattle.slots.specs.Reading.{pooledIn}
 use Rattle.slots_places.specs.Inner.{Took}
@@ -28,7 +28,7 @@ abbrev μ-loop : tie.MeasureT-loop
 μ-loop p b line from to words₀ symbols rows first s₀ c₀ words s c = to - s
 
 -- the sizes that the needs rest on
-known : (s : tie.Start Inv-loop μ-loop) → Bounds (s .args .p) × (s .args .line * unit (s .args .p .layout) + unit (s .args .p .layout) ≤ symbolCount (s .args .p .layout)) × (s .args .line * s .args .p .layout .symbols + s .args .p .layout .symbols ≤ s .args .p .layout .lines * s .args .p .layout .symbols)
+known : (s : tie.Start Inv-loop μ-loop) → Bounds (s .args .p) × (s .args .line * unit (s .args .p .layout) + unit (s .args .p .layout) ≤ layoutSymbols (s .args .p .layout)) × (s .args .line * s .args .p .layout .symbols + s .args .p .layout .symbols ≤ s .args .p .layout .lines * s .args .p .layout .symbols)
 known s =
     let p = s .args .p in
     (bounds p (s .pre .0 .slots .fine), line-in (unit (p .layout)) (p .layout .lines) (s .args .line) (s .pre .1), line-in (p .layout .symbols) (p .layout .lines) (s .args .line) (s .pre .1))

@@ -9,13 +9,13 @@ use Rattle.slots.specs.Reading.{pooledIn}
 use Rattle.slots_symbols.specs.Inner.{Decided}
 use Rattle.channel.proofs.Laws.Places.{own-numbers}
 use Rattle.channel.proofs.Laws.Markers.{line-in, rest-hit, rest-unhit}
-use Rattle.channel.specs.Channel.{total, unit, symbolCount, hitBy}
+use Rattle.channel.specs.Channel.{total, unit, layoutSymbols, hitBy}
 use Rattle.slots_places.proofs.Laws.Taken.{puts, took-hit, took-unhit}
 use Rattle.slots_places.proofs.take_place.Statement.{statement}
 use Rattle.slots_places.proofs.take_place.Tie as tie
 
 -- the sizes that the needs rest on
-known : (s : tie.Start) → (s .args .line * unit (s .args .p .layout) + unit (s .args .p .layout) ≤ symbolCount (s .args .p .layout)) × Bounds (s .args .p)
+known : (s : tie.Start) → (s .args .line * unit (s .args .p .layout) + unit (s .args .p .layout) ≤ layoutSymbols (s .args .p .layout)) × Bounds (s .args .p)
 known s = (line-in (unit (s .args .p .layout)) (s .args .p .layout .lines) (s .args .line) (s .pre .1), bounds (s .args .p) (s .pre .0 .fine))
 
 -- its symbol is decided

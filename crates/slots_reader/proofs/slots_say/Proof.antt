@@ -2,12 +2,12 @@
 use mathlib.Core.Path.{_≡_, sym, _∙_}
 use native.Mathlib.Omega.{arith}
 use borrow.Author.Needs.{needs}
-use Rattle.channel.specs.Channel.{symbolCount}
+use Rattle.channel.specs.Channel.{layoutSymbols}
 use Rattle.answers.proofs.Laws.Answer.{no-done}
 use Rattle.pool.proofs.Laws.Pooled.{each-decided}
 use Rattle.slots.proofs.Laws.Bounds.{bounds}
 use Rattle.slots.proofs.Laws.Return.{say-group, clean-good}
-use Rattle.slots.specs.Reading.{firstBadGroup, firstBadMark, firstBadRest}
+use Rattle.slots.specs.Reading.{firstBadSymbol, firstBadMark, firstBadRest}
 use Rattle.slots_places.proofs.Laws.Passing.{known-end}
 use Rattle.slots_reader.proofs.Said.{say-spare, spare-empty, say-mark, say-rest}
 use Rattle.slots_places.proofs.Laws.Taken.{took-start, took-words}
@@ -57,7 +57,7 @@ first-bad-mark-requires : tie.Need-first-bad-mark-requires
 first-bad-mark-requires c κs =
     let a = (c .before .before .before .before .before .before .before .before .before .before .before .before .before) .args in
     let h = (c .before .before .before .before .before .before .before .before .before .before .before .before .before) .pre .0 in
-    record { fine = h .fine; long = h .long; passed = each-decided (a .b .now) (a .p .copies) (a .p .group) (a .p .order) (symbolCount (a .p .layout)) (sym ((c .before .before .before) .find .ensures .0) ∙ c .if2 .left) }
+    record { fine = h .fine; long = h .long; passed = each-decided (a .b .now) (a .p .copies) (a .p .group) (a .p .order) (layoutSymbols (a .p .layout)) (sym ((c .before .before .before) .find .ensures .0) ∙ c .if2 .left) }
 
 same-length-2 : tie.Need-same-length-2
 same-length-2 c = search needs
@@ -67,7 +67,7 @@ returns-3 c =
     let a = (c .before .before .before .before .before .before .before .before .before .before .before .before .before .before .before) .args in
     let o = (c .before .before .before .before .before .before .before .before) .first-one in
     let spare = spare-empty (a .p) (a .b .now) (o .result) (o .ensures) ((c .before .before .before .before .before .before .before) .if1 .left) in
-    let groups : firstBadGroup (a .p) (a .b .now) ≡ symbolCount (a .p .layout) = sym ((c .before .before .before .before .before) .find .ensures .0) ∙ (c .before .before) .if2 .left in
+    let groups : firstBadSymbol (a .p) (a .b .now) ≡ layoutSymbols (a .p .layout) = sym ((c .before .before .before .before .before) .find .ensures .0) ∙ (c .before .before) .if2 .left in
     (say-mark (a .p) (a .b .now) spare groups _ ((c .before) .first-bad-mark .ensures) (c .if3 .taken), λ q. absurd (no-done q))
 
 same-length-3 : tie.Need-same-length-3
@@ -80,8 +80,8 @@ returns-4 c =
     let o = (c .before .before .before .before .before .before .before .before .before) .first-one in
     let f = (c .before .before .before .before .before .before) .find in
     let spare = spare-empty (a .p) (a .b .now) (o .result) (o .ensures) ((c .before .before .before .before .before .before .before .before) .if1 .left) in
-    let groups : firstBadGroup (a .p) (a .b .now) ≡ symbolCount (a .p .layout) = sym (f .ensures .0) ∙ (c .before .before .before) .if2 .left in
-    let marks : firstBadMark (a .p) (a .b .now) ≡ symbolCount (a .p .layout) = sym ((c .before .before) .first-bad-mark .ensures) ∙ (c .before) .if3 .left in
+    let groups : firstBadSymbol (a .p) (a .b .now) ≡ layoutSymbols (a .p .layout) = sym (f .ensures .0) ∙ (c .before .before .before) .if2 .left in
+    let marks : firstBadMark (a .p) (a .b .now) ≡ layoutSymbols (a .p .layout) = sym ((c .before .before) .first-bad-mark .ensures) ∙ (c .before) .if3 .left in
     (say-rest (a .p) (a .b .now) spare groups marks _ (known-end (a .p) fine (a .b .now) _ _ (f .ensures .1 ((c .before .before .before) .if2 .left))) (c .if4 .taken), λ q. absurd (no-done q))
 
 same-length-4 : tie.Need-same-length-4
@@ -95,9 +95,9 @@ returns-5 c =
     let f = (c .before .before .before .before .before .before) .find in
     let known = f .ensures .1 ((c .before .before .before) .if2 .left) in
     let spare = spare-empty (a .p) (a .b .now) (o .result) (o .ensures) ((c .before .before .before .before .before .before .before .before) .if1 .left) in
-    let groups : firstBadGroup (a .p) (a .b .now) ≡ symbolCount (a .p .layout) = sym (f .ensures .0) ∙ (c .before .before .before) .if2 .left in
-    let marks : firstBadMark (a .p) (a .b .now) ≡ symbolCount (a .p .layout) = sym ((c .before .before) .first-bad-mark .ensures) ∙ (c .before) .if3 .left in
-    let rest : firstBadRest (a .p) (a .b .now) ≡ symbolCount (a .p .layout) = sym (known-end (a .p) fine (a .b .now) _ _ known) ∙ c .if4 .left in
+    let groups : firstBadSymbol (a .p) (a .b .now) ≡ layoutSymbols (a .p .layout) = sym (f .ensures .0) ∙ (c .before .before .before) .if2 .left in
+    let marks : firstBadMark (a .p) (a .b .now) ≡ layoutSymbols (a .p .layout) = sym ((c .before .before) .first-bad-mark .ensures) ∙ (c .before) .if3 .left in
+    let rest : firstBadRest (a .p) (a .b .now) ≡ layoutSymbols (a .p .layout) = sym (known-end (a .p) fine (a .b .now) _ _ known) ∙ c .if4 .left in
     (sym (clean-good (a .p) (a .b .now) record { spare = spare; groups = groups; marks = marks; rest = rest }), λ q. took-words (a .p) fine (a .b .now) (f .last .1 .1 .0) (λ k. omega (arith, (c .before .before .before .before) .slice-known2 .given k)) (known .took (c .if4 .left)))
 
 pub slots-say-spec : {M : Type 1} → statement M

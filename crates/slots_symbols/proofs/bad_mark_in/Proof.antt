@@ -10,7 +10,7 @@ use Rattle.bits.proofs.Laws.Choice.{bool-no, bool-yes}
 use Rattle.slots.proofs.Laws.Bounds.{bounds, Bounds}
 use Rattle.slots.specs.Reading.{pooledIn}
 use Rattle.channel.proofs.Laws.Markers.{line-in}
-use Rattle.channel.specs.Channel.{unit, symbolCount, markRight}
+use Rattle.channel.specs.Channel.{unit, layoutSymbols, markRight}
 use Rattle.slots_symbols.proofs.bad_mark_in.Statement.{statement}
 use Rattle.slots_symbols.proofs.bad_mark_in.Tie as tie
 
@@ -21,7 +21,7 @@ abbrev μ-loop : tie.MeasureT-loop
 μ-loop p b line first markers w₀ w = markers - w
 
 -- the sizes that the needs rest on
-known : (s : tie.Start Inv-loop μ-loop) → Bounds (s .args .p) × (s .args .line * unit (s .args .p .layout) + unit (s .args .p .layout) ≤ symbolCount (s .args .p .layout))
+known : (s : tie.Start Inv-loop μ-loop) → Bounds (s .args .p) × (s .args .line * unit (s .args .p .layout) + unit (s .args .p .layout) ≤ layoutSymbols (s .args .p .layout))
 known s = (bounds (s .args .p) (s .pre .0 .fine), line-in (unit (s .args .p .layout)) (s .args .p .layout .lines) (s .args .line) (s .pre .1))
 
 add-first : tie.Need-add-first Inv-loop μ-loop

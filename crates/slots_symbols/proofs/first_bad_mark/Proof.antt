@@ -8,7 +8,7 @@ use Rattle.slots.proofs.Laws.Bounds.{Bounds, bounds}
 use Rattle.slots.specs.Reading.{pooledIn, firstBadMark}
 use Rattle.bits.proofs.Laws.First.{Sought, sought-start, sought-fails, sought-more, sought-end}
 use Rattle.channel.proofs.Laws.Markers.{line-in, mark-else}
-use Rattle.channel.specs.Channel.{unit, symbolCount, markRight}
+use Rattle.channel.specs.Channel.{unit, layoutSymbols, markRight}
 use Rattle.slots_symbols.proofs.first_bad_mark.Statement.{statement}
 use Rattle.slots_symbols.proofs.first_bad_mark.Tie as tie
 
@@ -19,7 +19,7 @@ abbrev μ-loop : tie.MeasureT-loop
 μ-loop p b unit markers lines line₀ line = lines - line
 
 -- the sizes that the needs rest on
-known : (s : tie.Start Inv-loop μ-loop) (line : ℕ) → line < s .args .p .layout .lines → Bounds (s .args .p) × (line * unit (s .args .p .layout) + unit (s .args .p .layout) ≤ symbolCount (s .args .p .layout))
+known : (s : tie.Start Inv-loop μ-loop) (line : ℕ) → line < s .args .p .layout .lines → Bounds (s .args .p) × (line * unit (s .args .p .layout) + unit (s .args .p .layout) ≤ layoutSymbols (s .args .p .layout))
 known s line l = (bounds (s .args .p) (s .pre .fine), line-in (unit (s .args .p .layout)) (s .args .p .layout .lines) line l)
 
 add-unit : tie.Need-add-unit Inv-loop μ-loop

@@ -5,7 +5,7 @@ use native.Mathlib.Omega.{arith}
 use lib.Dec.{eqb}
 use borrow.Author.Needs.{needs}
 use Rattle.bits.specs.Basics.{bool}
-use Rattle.channel.specs.Channel.{symbolCount}
+use Rattle.channel.specs.Channel.{layoutSymbols}
 use Rattle.pulses.proofs.Laws.Groups.{group-got}
 use Rattle.pulses.specs.Inner.{Held}
 use Rattle.pulses.proofs.Laws.Needs.{held}
@@ -18,7 +18,7 @@ use Rattle.slots_symbols.proofs.is_symbol.Tie as tie
 known : (s : tie.Start) → s .args .p .copies ≡ 1 → Held (s .args .p .order) (s .args .p .group) (s .args .b .now) (s .args .s)
 known s one =
     let a = s .args in
-    let next : a .s + 1 ≤ symbolCount (a .p .layout) = let l = s .pre .0 .among in omega arith in
+    let next : a .s + 1 ≤ layoutSymbols (a .p .layout) = let l = s .pre .0 .among in omega arith in
     held (a .p .order) (a .p .group) (a .s + 1) (a .b .now) (groups-in (a .p) (a .b .now) (s .pre .0 .slots) one (a .s + 1) next) (a .s) (omega arith)
 
 mul-bit-at : tie.Need-mul-bit-at
@@ -44,7 +44,7 @@ returns c =
 pooled-requires : tie.Need-pooled-requires
 pooled-requires c κs =
     let s = c .before .before .before in
-    let next : s .args .s + 1 ≤ symbolCount (s .args .p .layout) = let l = s .pre .0 .among in omega arith in
+    let next : s .args .s + 1 ≤ layoutSymbols (s .args .p .layout) = let l = s .pre .0 .among in omega arith in
     sent-in (s .args .p) (s .args .b .now) (s .pre .0 .slots) (s .args .s + 1) next
 
 same-requires : tie.Need-same-requires

@@ -8,12 +8,12 @@ use Rattle.bits.specs.Basics.{bool}
 use Rattle.slots.proofs.Laws.Bounds.{Bounds, bounds}
 use Rattle.slots.specs.Reading.{pooledIn}
 use Rattle.channel.proofs.Laws.Markers.{line-in, mark-here}
-use Rattle.channel.specs.Channel.{unit, symbolCount}
+use Rattle.channel.specs.Channel.{unit, layoutSymbols}
 use Rattle.slots_symbols.proofs.mark_right.Statement.{statement}
 use Rattle.slots_symbols.proofs.mark_right.Tie as tie
 
 -- the sizes that the needs rest on
-known : (s : tie.Start) → Bounds (s .args .t1) × (s .args .line * unit (s .args .t1 .layout) + unit (s .args .t1 .layout) ≤ symbolCount (s .args .t1 .layout)) × (getD (s .args .t1 .marks) (s .args .w) 0 < s .args .t1 .order)
+known : (s : tie.Start) → Bounds (s .args .t1) × (s .args .line * unit (s .args .t1 .layout) + unit (s .args .t1 .layout) ≤ layoutSymbols (s .args .t1 .layout)) × (getD (s .args .t1 .marks) (s .args .w) 0 < s .args .t1 .order)
 known s =
     let a = s .args in
     let h = s .pre in
@@ -39,7 +39,7 @@ is-symbol-requires c κs =
     let s = c .before .before in
     let h = s .pre .0 in
     let r = known s in
-    let l : s .args .line * unit (s .args .t1 .layout) + s .args .w < symbolCount (s .args .t1 .layout) = omega arith in
+    let l : s .args .line * unit (s .args .t1 .layout) + s .args .w < layoutSymbols (s .args .t1 .layout) = omega arith in
     (record { slots = record { fine = h .fine; long = h .long }; among = l; small = h .passed _ l }, omega arith)
 
 returns : tie.Need-returns

@@ -3,7 +3,7 @@ use mathlib.Core.Path.{sym, _∙_}
 use Prim.Native.Nat.{_+_, _≤_}
 use native.Mathlib.Omega.{arith}
 use borrow.Author.Needs.{needs}
-use Rattle.channel.specs.Channel.{symbolCount}
+use Rattle.channel.specs.Channel.{layoutSymbols}
 use Rattle.slots_symbols.proofs.Once.{sent-in, groups-in, once}
 use Rattle.slots_symbols.proofs.symbol.Statement.{statement}
 use Rattle.slots_symbols.proofs.symbol.Tie as tie
@@ -14,7 +14,7 @@ seen-requires c κs =
     let a = s .args in
     let h = s .pre .slots in
     let one = c .if1 .taken in
-    let next : a .s + 1 ≤ symbolCount (a .p .layout) = let l = s .pre .among in omega arith in
+    let next : a .s + 1 ≤ layoutSymbols (a .p .layout) = let l = s .pre .among in omega arith in
     (groups-in (a .p) (a .b .now) h one (a .s + 1) next, rw (sym (once (a .p) (a .b .now) h one (a .s))) (s .pre .small))
 
 returns : tie.Need-returns
@@ -25,7 +25,7 @@ returns c =
 pooled-requires : tie.Need-pooled-requires
 pooled-requires c κs =
     let s = c .before .before .before in
-    let next : s .args .s + 1 ≤ symbolCount (s .args .p .layout) = let l = s .pre .among in omega arith in
+    let next : s .args .s + 1 ≤ layoutSymbols (s .args .p .layout) = let l = s .pre .among in omega arith in
     sent-in (s .args .p) (s .args .b .now) (s .pre .slots) (s .args .s + 1) next
 
 returns-2 : tie.Need-returns-2

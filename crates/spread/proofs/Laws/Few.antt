@@ -14,7 +14,7 @@ use Rattle.bits.specs.Count.{weight}
 use Rattle.bits.proofs.Laws.Weight.{weight-past}
 use Rattle.sizes.specs.Sizes.{infoBits, inputsPer, codedPer, wordBits}
 use Rattle.sizes.proofs.Laws.Rate.{by-rate}
-use Rattle.convolution.specs.Code.{delay, first, second, stepOf, encode}
+use Rattle.convolution.specs.Code.{delay, first, second, inputPlace, encode}
 use Rattle.convolution.proofs.Laws.Code.{encode-bits, third-first, half-first}
 
 -- the most coded bits that change with one block bit
@@ -40,13 +40,13 @@ outputs-quiet x (suc (suc i)) h =
     let g : x i ≡ 0 = h i (omega arith) (omega arith) in
     (ap₂ bitXor e g, ap₂ bitXor (ap₂ bitXor e f) g)
 
-encode-quiet : (rate : ℕ) (x : ℕ → ℕ) (j : ℕ) → ((t : ℕ) → t ≤ stepOf rate j → stepOf rate j ≤ t + 2 → x t ≡ 0) → encode rate x j ≡ 0
+encode-quiet : (rate : ℕ) (x : ℕ → ℕ) (j : ℕ) → ((t : ℕ) → t ≤ inputPlace rate j → inputPlace rate j ≤ t + 2 → x t ≡ 0) → encode rate x j ≡ 0
 unfolding encode
 encode-quiet rate x j h = cases (eqb (j % codedPer rate) 0)
   where
-    cases : (t : Bool) → pick t (first x (stepOf rate j)) (second x (stepOf rate j)) ≡ 0
-    cases true = outputs-quiet x (stepOf rate j) h .0
-    cases false = outputs-quiet x (stepOf rate j) h .1
+    cases : (t : Bool) → pick t (first x (inputPlace rate j)) (second x (inputPlace rate j)) ≡ 0
+    cases true = outputs-quiet x (inputPlace rate j) h .0
+    cases false = outputs-quiet x (inputPlace rate j) h .1
 
 -- ---- input bits of which, among the first k, only bit b is not zero
 
@@ -66,7 +66,7 @@ module _ (δ : ℕ → ℕ) (bits : Bits δ) (b : ℕ) where
 
   -- three, and of the three behind them two, and three; then those from step k on. Or those from step k - 2 on alone
   few-third : b < 5006 → ((i : ℕ) → i < 5006 → (i ≡ b → ⊥) → δ i ≡ 0) → weight (encode 0 δ) wordBits ≤ 110
-  unfolding stepOf inputsPer codedPer
+  unfolding inputPlace inputsPer codedPer
   few-third l alone =
       let c : ℕ → ℕ = encode 0 δ in
       let bc : Bits c = encode-bits 0 δ bits in
@@ -88,7 +88,7 @@ module _ (δ : ℕ → ℕ) (bits : Bits δ) (b : ℕ) where
 
   -- two, and of the two behind them one, and two
   few-half : b < 7526 → ((i : ℕ) → i < 7526 → (i ≡ b → ⊥) → δ i ≡ 0) → weight (encode 1 δ) wordBits ≤ 73
-  unfolding stepOf inputsPer codedPer
+  unfolding inputPlace inputsPer codedPer
   few-half l alone =
       let c : ℕ → ℕ = encode 1 δ in
       let bc : Bits c = encode-bits 1 δ bits in
@@ -110,7 +110,7 @@ module _ (δ : ℕ → ℕ) (bits : Bits δ) (b : ℕ) where
 
   -- four or five
   few-two-thirds : b < 10046 → ((i : ℕ) → i < 10046 → (i ≡ b → ⊥) → δ i ≡ 0) → weight (encode 2 δ) wordBits ≤ 56
-  unfolding stepOf inputsPer codedPer
+  unfolding inputPlace inputsPer codedPer
   few-two-thirds l alone =
       let c : ℕ → ℕ = encode 2 δ in
       let bc : Bits c = encode-bits 2 δ bits in

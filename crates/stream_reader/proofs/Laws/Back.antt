@@ -22,7 +22,7 @@ use Rattle.bits.proofs.Laws.Pack.{val-same, bit-val, bit-bytes, bytes-are, byte
 use Rattle.sizes.specs.Sizes.{frameMarker, markerBits, span}
 use Rattle.stream_writer.specs.Stream.{markerBit, streamBit}
 use Rattle.stream_writer.proofs.Laws.Stream.{marker-val, stream-mark, stream-frame, stream-fill}
-use Rattle.stream_reader.specs.Frames.{marked, firstUnmarked, zeroAt, fillZero, framesSay, framePlace, framesIn}
+use Rattle.stream_reader.specs.Frames.{frameMarked, firstUnmarked, zeroAt, fillZero, framesSay, framePlace, framesIn}
 
 -- questions 16 and 18 are both answered yes
 both : (size count end : ℕ) (st : ℕ → ℕ) → framesSay size count end st ≡ Done → (firstUnmarked size count st ≡ count) × (fillZero size count end st ≡ true)
@@ -57,8 +57,8 @@ module _ (size count end : ℕ) (size1 : 1 ≤ size) (fit : count * span size �
 
   module _ (frames : List ℕ) (st : ℕ → ℕ) (agree : (x : ℕ) → x < end → st x ≡ streamBit size count frames x) where
     passes-16 : firstUnmarked size count st ≡ count
-    unfolding firstUnmarked marked
-    passes-16 = all-pass (marked size st) count (λ j h.
+    unfolding firstUnmarked frameMarked
+    passes-16 = all-pass (frameMarked size st) count (λ j h.
         eq-eqb (val (λ r. st (j * span size + r)) markerBits) frameMarker
         (val-same (λ r. st (j * span size + r)) markerBit markerBits (λ r l.
         agree (j * span size + r) (inside j r h (omega arith)) ∙ stream-mark size count frames j r h l)
@@ -95,8 +95,8 @@ module _ (size count end : ℕ) (size1 : 1 ≤ size) (fit : count * span size �
         ∙ ap₂ (λ (a b : ℕ). st (a * span size + (markerBits + b))) (digits-div j l) (digits-mod j l)
 
     -- bit r of a marker that stands
-    mark-bit : (j r : ℕ) → marked size st j ≡ true → r < markerBits → st (j * span size + r) ≡ markerBit r
-    unfolding marked markerBit
+    mark-bit : (j r : ℕ) → frameMarked size st j ≡ true → r < markerBits → st (j * span size + r) ≡ markerBit r
+    unfolding frameMarked markerBit
     mark-bit j r h l =
         let f : ℕ → ℕ = λ r. st (j * span size + r) in
         sym (bit-val f (λ r. bits (j * span size + r)) (markerBits - 1 - r) r markerBits (omega arith))
@@ -122,7 +122,7 @@ module _ (size count end : ℕ) (size1 : 1 ≤ size) (fit : count * span size �
         let q : j < count = div-lt-iff-lt-mul (omega arith) .1 s in
         ap (streamBit size count fs) (sym e)
         ∙ ⊎-elim
-        (λ (m : r < markerBits). stream-mark size count fs j r q m ∙ sym (mark-bit j r (none-fails (marked size st) count (parts .0) j q) m))
+        (λ (m : r < markerBits). stream-mark size count fs j r q m ∙ sym (mark-bit j r (none-fails (frameMarked size st) count (parts .0) j q) m))
         (λ (m : markerBits ≤ r).
         let z : j * span size + (markerBits + (r - markerBits)) ≡ j * span size + r = omega arith in
         ap (streamBit size count fs) (sym z)

@@ -10,13 +10,13 @@ use Rattle.answers.specs.Answer.{ask, then}
 use Rattle.bits.proofs.Laws.First.{same-from, first-same}
 use Rattle.bits.proofs.Laws.Pack.{val-same, bytes-same}
 use Rattle.sizes.specs.Sizes.{frameMarker, markerBits, span}
-use Rattle.stream_reader.specs.Frames.{marked, firstUnmarked, zeroAt, fillZero, framesSay, framePlace, framesIn}
+use Rattle.stream_reader.specs.Frames.{frameMarked, firstUnmarked, zeroAt, fillZero, framesSay, framePlace, framesIn}
 
 module _ (size count end : ℕ) (size1 : 1 ≤ size) (fit : count * span size ≤ end) (s t : ℕ → ℕ) (agree : (x : ℕ) → x < end → s x ≡ t x) where
   unmarked-same : firstUnmarked size count s ≡ firstUnmarked size count t
-  unfolding firstUnmarked marked
+  unfolding firstUnmarked frameMarked
   unmarked-same =
-      first-same (marked size s) (marked size t) count (λ j l.
+      first-same (frameMarked size s) (frameMarked size t) count (λ j l.
       ap (λ (v : ℕ). eqb v frameMarker) (val-same (λ r. s (j * span size + r)) (λ r. t (j * span size + r)) markerBits (λ r m.
       agree (j * span size + r) (let d : j * span size + r < count * span size = digits-lt l (let k : r < span size = omega arith in k) in omega arith))))
 

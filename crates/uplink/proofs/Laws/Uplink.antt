@@ -18,7 +18,7 @@ use Rattle.randomizer.specs.Randomizer.{randomize, next, window, sequence}
 use Rattle.randomizer.proofs.Laws.Randomizer.{randomize-bits, randomize-same, randomize-twice}
 use Rattle.ldpc.specs.Code.{codeword}
 use Rattle.ldpc.proofs.Laws.Code.{codeword-bits}
-use Rattle.uplink.specs.Uplink.{frameBit, codeblock, sent, slotOf, frameCount, blockCount, slotsOf, group, isBit, received, framesOf, uplinkLengthsRight}
+use Rattle.uplink.specs.Uplink.{frameBit, codeblock, sentBit, slotOf, frameCount, codeblockCount, uplinkSlotsOf, group, isBit, received, uplinkFramesOf, uplinkLengthsRight}
 
 -- ---- lengths
 
@@ -56,12 +56,12 @@ pub codeblock-bits : (frames : List ℕ) (i : ℕ) → Bits (codeblock frames i)
 unfolding codeblock
 codeblock-bits frames i = randomize-bits (codeword (frameBit frames i)) (codeword-bits (frameBit frames i) (frame-bits frames i))
 
-pub sent-bits : (frames : List ℕ) → Bits (sent frames)
-unfolding sent
+pub sent-bits : (frames : List ℕ) → Bits (sentBit frames)
+unfolding sentBit
 sent-bits frames g = codeblock-bits frames (g / 128) _
 
-pub sent-at : (frames : List ℕ) (i j : ℕ) → j < 128 → sent frames (128 * i + j) ≡ codeblock frames i j
-unfolding sent
+pub sent-at : (frames : List ℕ) (i j : ℕ) → j < 128 → sentBit frames (128 * i + j) ≡ codeblock frames i j
+unfolding sentBit
 sent-at frames i j l =
     let d : (128 * i + j) / 128 ≡ i = omega arith in
     let m : (128 * i + j) % 128 ≡ j = omega arith in
@@ -83,13 +83,13 @@ pub slot-same : (f h : ℕ → ℕ) (x : ℕ) → f (x / 4) ≡ h (x / 4) → sl
 unfolding slotOf
 slot-same f h x e = ap (λ (b : ℕ). bool (eqb (x % 4) b)) e
 
-pub slots-long : (frames : List ℕ) → length (slotsOf frames) ≡ 64 * frameCount frames
-unfolding slotsOf
-slots-long frames = length-bytes (64 * frameCount frames) (slotOf (sent frames))
+pub slots-long : (frames : List ℕ) → length (uplinkSlotsOf frames) ≡ 64 * frameCount frames
+unfolding uplinkSlotsOf
+slots-long frames = length-bytes (64 * frameCount frames) (slotOf (sentBit frames))
 
-pub slots-bit : (frames : List ℕ) (x : ℕ) → x < 8 * (64 * frameCount frames) → bitAt (slotsOf frames) x ≡ slotOf (sent frames) x
-unfolding slotsOf
-slots-bit frames x l = bit-bytes (64 * frameCount frames) (slotOf (sent frames)) (slot-bits (sent frames)) x l
+pub slots-bit : (frames : List ℕ) (x : ℕ) → x < 8 * (64 * frameCount frames) → bitAt (uplinkSlotsOf frames) x ≡ slotOf (sentBit frames) x
+unfolding uplinkSlotsOf
+slots-bit frames x l = bit-bytes (64 * frameCount frames) (slotOf (sentBit frames)) (slot-bits (sentBit frames)) x l
 
 -- ---- slots to frames
 
@@ -137,16 +137,16 @@ pub sent-received : (slots : List ℕ) (i j : ℕ) → randomize (received slots
 unfolding received
 sent-received slots i j = randomize-twice (λ j. bitAt slots (4 * (128 * i + j) + 1)) j
 
-pub frames-long : (slots : List ℕ) → length (framesOf slots) ≡ 8 * blockCount slots
-unfolding framesOf
-frames-long slots = length-bytes (8 * blockCount slots) (λ y. received slots (y / 64) (y % 64))
+pub frames-long : (slots : List ℕ) → length (uplinkFramesOf slots) ≡ 8 * codeblockCount slots
+unfolding uplinkFramesOf
+frames-long slots = length-bytes (8 * codeblockCount slots) (λ y. received slots (y / 64) (y % 64))
 
-pub frames-bit : (slots : List ℕ) (i j : ℕ) → i < blockCount slots → j < 64 → frameBit (framesOf slots) i j ≡ received slots i j
-unfolding framesOf
+pub frames-bit : (slots : List ℕ) (i j : ℕ) → i < codeblockCount slots → j < 64 → frameBit (uplinkFramesOf slots) i j ≡ received slots i j
+unfolding uplinkFramesOf
 frames-bit slots i j li lj =
     let d : (64 * i + j) / 64 ≡ i = omega arith in
     let m : (64 * i + j) % 64 ≡ j = omega arith in
-    bit-bytes (8 * blockCount slots) (λ y. received slots (y / 64) (y % 64)) (λ y. received-bits slots (y / 64) (y % 64)) (64 * i + j) (omega arith)
+    bit-bytes (8 * codeblockCount slots) (λ y. received slots (y / 64) (y % 64)) (λ y. received-bits slots (y / 64) (y % 64)) (64 * i + j) (omega arith)
     ∙ ap₂ (received slots) d m
 
 -- The bits of step 7's sequence that a codeblock gets, 64 for its frame and 64 for its parity bits, as two numbers, which antt computes.

@@ -7,7 +7,7 @@ use borrow.Author.Tests.{not-true, not-false}
 use Rattle.bits.specs.Basics.{upTo}
 use Rattle.bits.proofs.Laws.First.{first-on, first-here, first-end}
 use Rattle.ldpc.specs.Code.{isCodeword}
-use Rattle.uplink.specs.Uplink.{received, blockCount, firstBadBlock}
+use Rattle.uplink.specs.Uplink.{received, codeblockCount, firstBadBlock}
 use borrow.Author.Needs.{needs}
 use Rattle.uplink_reader.proofs.first_bad_block.Statement.{statement}
 use Rattle.uplink_reader.proofs.first_bad_block.Tie as tie
@@ -35,7 +35,7 @@ returns c =
     let s = c .before .before .before .before .before in
     let a = s .args in
     let good : ℕ → Bool = λ i. isCodeword (received (a .slots .now) i) in
-    let end : blockCount (a .slots .now) ≡ a .count = let p = s .pre .long in omega arith in
+    let end : codeblockCount (a .slots .now) ≡ a .count = let p = s .pre .long in omega arith in
     sym (ap (upTo good 0) end ∙ sym (l .inv .1)
     ∙ first-here good (a .count) (l .i) (omega arith) (sym (c .before .passes .ensures) ∙ not-true (c .before .passes .result) (c .if1 .taken)))
 
@@ -62,7 +62,7 @@ returns-2 c =
     let s = c .before .before .before in
     let a = s .args in
     let good : ℕ → Bool = λ i. isCodeword (received (a .slots .now) i) in
-    let end : blockCount (a .slots .now) ≡ a .count = let p = s .pre .long in omega arith in
+    let end : codeblockCount (a .slots .now) ≡ a .count = let p = s .pre .long in omega arith in
     sym (ap (upTo good 0) end ∙ sym (l .inv .1) ∙ first-end good (a .count) (l .i) (omega arith) (omega arith) ∙ omega arith)
 
 pub first-bad-block-spec : {M : Type 1} → statement M

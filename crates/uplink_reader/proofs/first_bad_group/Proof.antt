@@ -5,7 +5,7 @@ use native.Mathlib.Omega.{arith}
 use borrow.Author.Tests.{not-true, not-false}
 use Rattle.bits.specs.Basics.{upTo}
 use Rattle.bits.proofs.Laws.First.{first-on, first-here, first-end}
-use Rattle.uplink.specs.Uplink.{isBit, blockCount, firstBadGroup}
+use Rattle.uplink.specs.Uplink.{isBit, codeblockCount, firstNoBit}
 use borrow.Author.Needs.{needs}
 use Rattle.uplink_reader.proofs.first_bad_group.Statement.{statement}
 use Rattle.uplink_reader.proofs.first_bad_group.Tie as tie
@@ -28,12 +28,12 @@ is-bit-requires c κs =
     omega arith
 
 returns : tie.Need-returns Inv-loop μ-loop
-unfolding firstBadGroup
+unfolding firstNoBit
 returns c =
     let l = c .before .before .before .loop in
     let s = c .before .before .before .before .before in
     let a = s .args in
-    let end : 128 * blockCount (a .slots .now) ≡ 128 * a .count = let p = s .pre .long in omega arith in
+    let end : 128 * codeblockCount (a .slots .now) ≡ 128 * a .count = let p = s .pre .long in omega arith in
     sym (ap (upTo (isBit (a .slots .now)) 0) end ∙ sym (l .inv .1)
     ∙ first-here (isBit (a .slots .now)) (128 * a .count) (l .g) (omega arith) (sym (c .before .is-bit .ensures)
     ∙ not-true (c .before .is-bit .result) (c .if1 .taken)))
@@ -54,12 +54,12 @@ loop-again c =
     )
 
 returns-2 : tie.Need-returns-2 Inv-loop μ-loop
-unfolding firstBadGroup
+unfolding firstNoBit
 returns-2 c =
     let l = c .before .loop in
     let s = c .before .before .before in
     let a = s .args in
-    let end : 128 * blockCount (a .slots .now) ≡ 128 * a .count = let p = s .pre .long in omega arith in
+    let end : 128 * codeblockCount (a .slots .now) ≡ 128 * a .count = let p = s .pre .long in omega arith in
     sym (ap (upTo (isBit (a .slots .now)) 0) end ∙ sym (l .inv .1)
     ∙ first-end (isBit (a .slots .now)) (128 * a .count) (l .g) (omega arith) (omega arith) ∙ omega arith)
 

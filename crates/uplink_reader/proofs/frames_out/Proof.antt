@@ -5,7 +5,7 @@ use native.Mathlib.Omega.{arith}
 use Rattle.bits.specs.Pack.{bytesOf}
 use Rattle.bits.specs.Inner.{Laid}
 use Rattle.bits.proofs.Laws.Stretch.{laid-none, laid-all}
-use Rattle.uplink.specs.Uplink.{received, blockCount, framesOf}
+use Rattle.uplink.specs.Uplink.{received, codeblockCount, uplinkFramesOf}
 use Rattle.uplink_reader.proofs.Reading.{frames-more}
 use borrow.Author.Needs.{needs}
 use Rattle.uplink_reader.proofs.frames_out.Statement.{statement}
@@ -56,13 +56,13 @@ same-length : tie.Need-same-length Inv-loop μ-loop
 same-length c = c .before .loop .inv .1 .long
 
 returns : tie.Need-returns Inv-loop μ-loop
-unfolding framesOf
+unfolding uplinkFramesOf
 returns c =
     let l = c .before .loop in
     let s = c .before .before .before .before in
     let a = s .args in
     let done : l .j ≡ a .count = omega arith in
-    let count : a .count ≡ blockCount (a .slots .now) = let long = s .pre .0 .long in omega arith in
+    let count : a .count ≡ codeblockCount (a .slots .now) = let long = s .pre .0 .long in omega arith in
     let f : ℕ → ℕ = λ y. received (a .slots .now) (y / 64) (y % 64) in
     laid-all (a .frames .now) (l .frames) (8 * a .count) f (s .pre .1 .long) (rw done at (l .inv .1)) ∙ ap (λ (n : ℕ). bytesOf (8 * n) f) count
 

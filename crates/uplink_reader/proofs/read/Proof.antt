@@ -5,7 +5,7 @@ use borrow.Author.Tests.{not-true, not-false}
 use Rattle.answers.specs.declared.Answer.{Answer}
 use Rattle.answers.specs.Answer.{after}
 use Rattle.answers.proofs.Refused.{kept}
-use Rattle.uplink.specs.Uplink.{framesOf}
+use Rattle.uplink.specs.Uplink.{uplinkFramesOf}
 use Rattle.uplink_reader.proofs.Answers.{read-no, read-on, slotted, frames-slotted}
 use borrow.Author.Needs.{needs}
 use Rattle.uplink_reader.proofs.read.Statement.{statement}
@@ -39,7 +39,7 @@ returns-2 c =
     let t = c .before .before .before .before .uplink-lengths-right in (
       j .ensures ∙ read-on (a .slots .now) (length (a .frames .now)) (t .result) (t .ensures)
           (not-false (t .result) (c .before .before .before .if1 .left)),
-      kept (j .result) (framesOf (a .slots .now)) (a .frames .now) (c .before .match .keys2),
+      kept (j .result) (uplinkFramesOf (a .slots .now)) (a .frames .now) (c .before .match .keys2),
     )
 
 frames-out-requires : tie.Need-frames-out-requires
@@ -61,7 +61,7 @@ returns-3 c =
       j .ensures ∙ read-on (a .slots .now) (length (a .frames .now)) (t .result) (t .ensures)
           (not-false (t .result) (c .before .before .before .before .before .before .before .if1 .left)),
       c .before .before .frames-out .ensures
-          ∙ ap (λ (x : Answer). after x (framesOf (a .slots .now)) (a .frames .now)) (sym (c .before .before .before .before .enum-told .given .1)),
+          ∙ ap (λ (x : Answer). after x (uplinkFramesOf (a .slots .now)) (a .frames .now)) (sym (c .before .before .before .before .enum-told .given .1)),
     )
 
 pub read-spec : {M : Type 1} → statement M

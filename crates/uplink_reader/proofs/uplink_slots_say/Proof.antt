@@ -1,7 +1,7 @@
 -- Each answer is `slotsSay`'s, by the first that fails 28 and the first that fails 29.
 use mathlib.Core.Path.{_≡_}
 use native.Mathlib.Omega.{arith}
-use Rattle.uplink.specs.Uplink.{blockCount}
+use Rattle.uplink.specs.Uplink.{codeblockCount}
 use Rattle.uplink_reader.proofs.Answers.{say-group, say-block, say-done}
 use borrow.Author.Needs.{needs}
 use Rattle.uplink_reader.proofs.uplink_slots_say.Statement.{statement}
@@ -18,7 +18,7 @@ returns c =
     let s = c .before .before .before in
     let a = s .args in
     let g = c .before .first-bad-group in
-    let count : a .count ≡ blockCount (a .slots .now) = let long = s .pre .long in omega arith in
+    let count : a .count ≡ codeblockCount (a .slots .now) = let long = s .pre .long in omega arith in
     say-group (a .slots .now) (a .count) (g .result) count (g .ensures) (c .if1 .taken)
 
 first-bad-block-requires : tie.Need-first-bad-block-requires
@@ -30,7 +30,7 @@ returns-2 c =
     let a = s .args in
     let g = c .before .before .before .first-bad-group in
     let i = c .before .first-bad-block in
-    let count : a .count ≡ blockCount (a .slots .now) = let long = s .pre .long in omega arith in
+    let count : a .count ≡ codeblockCount (a .slots .now) = let long = s .pre .long in omega arith in
     say-block (a .slots .now) (a .count) (g .result) count (g .ensures) (c .before .before .if1 .left) (i .result) (i .ensures) (c .if2 .taken)
 
 returns-3 : tie.Need-returns-3
@@ -39,7 +39,7 @@ returns-3 c =
     let a = s .args in
     let g = c .before .before .before .first-bad-group in
     let i = c .before .first-bad-block in
-    let count : a .count ≡ blockCount (a .slots .now) = let long = s .pre .long in omega arith in
+    let count : a .count ≡ codeblockCount (a .slots .now) = let long = s .pre .long in omega arith in
     say-done (a .slots .now) (a .count) (g .result) count (g .ensures) (c .before .before .if1 .left) (i .result) (i .ensures) (c .if2 .left)
 
 pub uplink-slots-say-spec : {M : Type 1} → statement M

@@ -5,14 +5,14 @@ use native.Mathlib.Omega.{arith}
 use Rattle.bits.specs.Pack.{bytesOf}
 use Rattle.bits.specs.Inner.{Laid}
 use Rattle.bits.proofs.Laws.Stretch.{laid-none, laid-all}
-use Rattle.uplink.specs.Uplink.{sent, slotOf, frameCount, slotsOf}
+use Rattle.uplink.specs.Uplink.{sentBit, slotOf, frameCount, uplinkSlotsOf}
 use Rattle.uplink_writer.proofs.Writing.{blocks-more}
 use borrow.Author.Needs.{needs}
 use Rattle.uplink_writer.proofs.codeblocks.Statement.{statement}
 use Rattle.uplink_writer.proofs.codeblocks.Tie as tie
 
 abbrev Inv-loop : tie.InvT-loop
-Inv-loop frames count slots₀ i₀ slots i = (i ≤ count) × Laid slots₀ 0 (64 * i) (slotOf (sent frames)) slots
+Inv-loop frames count slots₀ i₀ slots i = (i ≤ count) × Laid slots₀ 0 (64 * i) (slotOf (sentBit frames)) slots
 
 abbrev μ-loop : tie.MeasureT-loop
 μ-loop frames count slots₀ i₀ slots i = count - i
@@ -45,15 +45,15 @@ same-length : tie.Need-same-length Inv-loop μ-loop
 same-length c = c .before .loop .inv .1 .long
 
 returns : tie.Need-returns Inv-loop μ-loop
-unfolding slotsOf
+unfolding uplinkSlotsOf
 returns c =
     let l = c .before .loop in
     let s = c .before .before .before .before in
     let a = s .args in
     let done : l .i ≡ a .count = omega arith in
     let count : a .count ≡ frameCount (a .frames .now) = let long = s .pre .0 .long in omega arith in
-    laid-all (a .slots .now) (l .slots) (64 * a .count) (slotOf (sent (a .frames .now))) (s .pre .1 .long) (rw done at (l .inv .1))
-    ∙ ap (λ (n : ℕ). bytesOf (64 * n) (slotOf (sent (a .frames .now)))) count
+    laid-all (a .slots .now) (l .slots) (64 * a .count) (slotOf (sentBit (a .frames .now))) (s .pre .1 .long) (rw done at (l .inv .1))
+    ∙ ap (λ (n : ℕ). bytesOf (64 * n) (slotOf (sentBit (a .frames .now)))) count
 
 pub codeblocks-spec : {M : Type 1} → statement M
 codeblocks-spec =

@@ -18,33 +18,33 @@ use Rattle.answers.specs.Answer.{numberOf, ask, then, among}
 use Rattle.answers.proofs.Laws.Answer.{then-done, ask-done, fits-ask, fits-then, among-ask, among-then}
 use Rattle.answers.specs.Inner.{Fits}
 use Rattle.answers.specs.declared.Answer.the-variants.{Done, No}
-use Rattle.word.specs.Word.{codedIn, inputIn, agrees, firstWrong, endsInZeros, checkRight, writeSays, judged, readSays}
+use Rattle.word.specs.Word.{codedIn, inputIn, agrees, firstWrong, endsInZeros, checkRight, wordWriteSays, judged, wordReadSays}
 use Rattle.word.proofs.Laws.Word.{Sound, sound}
 use Rattle.word.specs.Inner.{WriteAccepted}
 
 -- ---- the writer
 
 module _ (rate : ℕ) (block : List ℕ) (n : ℕ) where
-  pub write-rate : 3 ≤ rate → writeSays rate block n ≡ No 2 0
-  unfolding writeSays
+  pub write-rate : 3 ≤ rate → wordWriteSays rate block n ≡ No 2 0
+  unfolding wordWriteSays
   write-rate h = rw (le-ltb rate 3 h) refl
 
   module _ (h : rate < 3) where
-    pub write-block-length : (length block ≡ blockBytes rate → ⊥) → writeSays rate block n ≡ No 8 0
-    unfolding writeSays
+    pub write-block-length : (length block ≡ blockBytes rate → ⊥) → wordWriteSays rate block n ≡ No 8 0
+    unfolding wordWriteSays
     write-block-length ne = rw (lt-ltb rate 3 h, ne-eqb (length block) (blockBytes rate) ne) refl
 
     module _ (e : length block ≡ blockBytes rate) where
-      pub write-word-length : (n ≡ wordBytes → ⊥) → writeSays rate block n ≡ No 8 0
-      unfolding writeSays
+      pub write-word-length : (n ≡ wordBytes → ⊥) → wordWriteSays rate block n ≡ No 8 0
+      unfolding wordWriteSays
       write-word-length ne = rw (lt-ltb rate 3 h, eq-eqb (length block) (blockBytes rate) e, ne-eqb n wordBytes ne) refl
 
-      pub write-done : n ≡ wordBytes → writeSays rate block n ≡ Done
-      unfolding writeSays
+      pub write-done : n ≡ wordBytes → wordWriteSays rate block n ≡ Done
+      unfolding wordWriteSays
       write-done w = rw (lt-ltb rate 3 h, eq-eqb (length block) (blockBytes rate) e, eq-eqb n wordBytes w) refl
 
-pub write-accepted : (rate : ℕ) (block : List ℕ) (n : ℕ) → writeSays rate block n ≡ Done → WriteAccepted rate block n
-unfolding writeSays
+pub write-accepted : (rate : ℕ) (block : List ℕ) (n : ℕ) → wordWriteSays rate block n ≡ Done → WriteAccepted rate block n
+unfolding wordWriteSays
 write-accepted rate block n e =
     let q2 = then-done (ask (ltb rate 3) 2 0) (ask (both (eqb (length block) (blockBytes rate)) (eqb n wordBytes)) 8 0) e in
     let l = both-true (eqb (length block) (blockBytes rate)) (eqb n wordBytes) (ask-done (both (eqb (length block) (blockBytes rate)) (eqb n wordBytes)) 8 0 (q2 .1)) in
@@ -55,7 +55,7 @@ write-accepted rate block n e =
     }
 
 -- a block of the right length is accepted, whatever its spare bits
-pub always-written : (rate : ℕ) (block : List ℕ) → rate < 3 → length block ≡ blockBytes rate → writeSays rate block wordBytes ≡ Done
+pub always-written : (rate : ℕ) (block : List ℕ) → rate < 3 → length block ≡ blockBytes rate → wordWriteSays rate block wordBytes ≡ Done
 always-written rate block h e = write-done rate block wordBytes h e refl
 
 -- ---- the reader
@@ -80,22 +80,22 @@ module _ (rate : ℕ) (c x : ℕ → ℕ) where
       judged-done r = rw (eq-eqb (firstWrong rate c x) wordBits e, z, r) refl
 
 module _ (rate : ℕ) (word : List ℕ) (n : ℕ) where
-  pub read-rate : 3 ≤ rate → readSays rate word n ≡ No 2 0
-  unfolding readSays
+  pub read-rate : 3 ≤ rate → wordReadSays rate word n ≡ No 2 0
+  unfolding wordReadSays
   read-rate h = rw (le-ltb rate 3 h) refl
 
   module _ (h : rate < 3) where
-    pub read-word-length : (length word ≡ wordBytes → ⊥) → readSays rate word n ≡ No 8 0
-    unfolding readSays
+    pub read-word-length : (length word ≡ wordBytes → ⊥) → wordReadSays rate word n ≡ No 8 0
+    unfolding wordReadSays
     read-word-length ne = rw (lt-ltb rate 3 h, ne-eqb (length word) wordBytes ne) refl
 
     module _ (e : length word ≡ wordBytes) where
-      pub read-block-length : (n ≡ blockBytes rate → ⊥) → readSays rate word n ≡ No 8 0
-      unfolding readSays
+      pub read-block-length : (n ≡ blockBytes rate → ⊥) → wordReadSays rate word n ≡ No 8 0
+      unfolding wordReadSays
       read-block-length ne = rw (lt-ltb rate 3 h, eq-eqb (length word) wordBytes e, ne-eqb n (blockBytes rate) ne) refl
 
-      pub read-judged : n ≡ blockBytes rate → readSays rate word n ≡ judged rate (codedIn word) (inputIn rate word)
-      unfolding readSays
+      pub read-judged : n ≡ blockBytes rate → wordReadSays rate word n ≡ judged rate (codedIn word) (inputIn rate word)
+      unfolding wordReadSays
       read-judged b = rw (lt-ltb rate 3 h, eq-eqb (length word) wordBytes e, eq-eqb n (blockBytes rate) b) refl
 
 pub record ReadAccepted (rate : ℕ) (word : List ℕ) (n : ℕ) : Type 0 where
@@ -104,8 +104,8 @@ pub record ReadAccepted (rate : ℕ) (word : List ℕ) (n : ℕ) : Type 0 where
   pub block-is : n ≡ blockBytes rate
   pub sound-is : Sound rate word
 
-pub read-accepted : (rate : ℕ) (word : List ℕ) (n : ℕ) → readSays rate word n ≡ Done → ReadAccepted rate word n
-unfolding readSays judged
+pub read-accepted : (rate : ℕ) (word : List ℕ) (n : ℕ) → wordReadSays rate word n ≡ Done → ReadAccepted rate word n
+unfolding wordReadSays judged
 read-accepted rate word n e =
     let x : ℕ → ℕ = inputIn rate word in
     let at : ℕ = firstWrong rate (codedIn word) x in
@@ -123,14 +123,14 @@ read-accepted rate word n e =
 
 -- ---- the answers fit the number that C gets
 
-pub write-fits : (rate : ℕ) (block : List ℕ) (n : ℕ) → Fits (writeSays rate block n)
-unfolding writeSays
+pub write-fits : (rate : ℕ) (block : List ℕ) (n : ℕ) → Fits (wordWriteSays rate block n)
+unfolding wordWriteSays
 write-fits rate block n =
     fits-then (ask (ltb rate 3) 2 0) _ (fits-ask (ltb rate 3) 2 0 (omega arith) (omega arith) (λ z. omega arith))
     (λ e. fits-ask (both (eqb (length block) (blockBytes rate)) (eqb n wordBytes)) 8 0 (omega arith) (omega arith) (λ z. omega arith))
 
-pub read-fits : (rate : ℕ) (word : List ℕ) (n : ℕ) → Fits (readSays rate word n)
-unfolding readSays judged firstWrong
+pub read-fits : (rate : ℕ) (word : List ℕ) (n : ℕ) → Fits (wordReadSays rate word n)
+unfolding wordReadSays judged firstWrong
 read-fits rate word n =
     let x : ℕ → ℕ = inputIn rate word in
     let at : ℕ = firstWrong rate (codedIn word) x in
@@ -144,15 +144,15 @@ read-fits rate word n =
 
 -- ---- the numbers that the two calls can answer
 
-pub write-numbers : (rate : ℕ) (block : List ℕ) (n : ℕ) → among (0 ∷ 2 ∷ 8 ∷ []) (numberOf (writeSays rate block n)) ≡ true
-unfolding writeSays
+pub write-numbers : (rate : ℕ) (block : List ℕ) (n : ℕ) → among (0 ∷ 2 ∷ 8 ∷ []) (numberOf (wordWriteSays rate block n)) ≡ true
+unfolding wordWriteSays
 write-numbers rate block n =
     let ns : List ℕ = 0 ∷ 2 ∷ 8 ∷ [] in
     let right : Bool = both (eqb (length block) (blockBytes rate)) (eqb n wordBytes) in
     among-then ns (ask (ltb rate 3) 2 0) (ask right 8 0) (among-ask ns (ltb rate 3) 2 0 refl refl) (among-ask ns right 8 0 refl refl)
 
-pub read-numbers : (rate : ℕ) (word : List ℕ) (n : ℕ) → among (0 ∷ 2 ∷ 8 ∷ 13 ∷ 14 ∷ 15 ∷ []) (numberOf (readSays rate word n)) ≡ true
-unfolding readSays judged
+pub read-numbers : (rate : ℕ) (word : List ℕ) (n : ℕ) → among (0 ∷ 2 ∷ 8 ∷ 13 ∷ 14 ∷ 15 ∷ []) (numberOf (wordReadSays rate word n)) ≡ true
+unfolding wordReadSays judged
 read-numbers rate word n =
     let ns : List ℕ = 0 ∷ 2 ∷ 8 ∷ 13 ∷ 14 ∷ 15 ∷ [] in
     let x : ℕ → ℕ = inputIn rate word in
@@ -167,20 +167,20 @@ read-numbers rate word n =
 -- ---- the questions of each call, in their order, with their numbers
 
 pub write-asks : (rate : ℕ) (block : List ℕ) (n : ℕ)
-    → writeSays rate block n
+    → wordWriteSays rate block n
     ≡ then (ask (ltb rate 3) 2 0)
     (ask (both (eqb (length block) (blockBytes rate)) (eqb n wordBytes)) 8 0)
-unfolding writeSays
+unfolding wordWriteSays
 write-asks rate block n = refl
 
 pub read-asks : (rate : ℕ) (word : List ℕ) (n : ℕ)
-    → readSays rate word n
+    → wordReadSays rate word n
     ≡ then (ask (ltb rate 3) 2 0)
     (then (ask (both (eqb (length word) wordBytes) (eqb n (blockBytes rate))) 8 0)
     (then (ask (eqb (firstWrong rate (codedIn word) (inputIn rate word)) wordBits) 13 (firstWrong rate (codedIn word) (inputIn rate word)))
     (then (ask (endsInZeros rate (inputIn rate word)) 14 0)
     (ask (checkRight rate (inputIn rate word)) 15 0))))
-unfolding readSays judged
+unfolding wordReadSays judged
 read-asks rate word n = refl
 
 -- and what 13, 14 and 15 ask of the coded bits and of the input bits that are read from them

@@ -17,7 +17,7 @@ use Rattle.crc.specs.Check.{register, checkBit}
 use Rattle.crc.proofs.Laws.Check.{register-lt, register-same, checked-block, checked-check}
 use Rattle.crc.proofs.Laws.Found.{DifferWithin, registers-differ, field-zero}
 use Rattle.answers.specs.declared.Answer.the-variants.{No}
-use Rattle.word.specs.Word.{takenIn, checkedBlock, checkField, carriedOn, codedIn, inputIn, checkRight, readSays}
+use Rattle.word.specs.Word.{takenIn, checkedBlock, checkField, carriedOn, codedIn, inputIn, checkRight, wordReadSays}
 use Rattle.word.proofs.Laws.Word as Laws
 use Rattle.word.proofs.Laws.Answers as Answers
 
@@ -57,7 +57,7 @@ pub check-finds : (rate : ℕ) (block : List ℕ) → rate < 3 → (flips : ℕ 
     → ((j : ℕ) → j < infoBits rate + 32 → flips j ≡ true → (start ≤ j) × (j < start + 32))
     → (i : ℕ) → i < infoBits rate + 32 → flips i ≡ true
     → (n : ℕ) → n ≡ blockBytes rate
-    → readSays rate (carriedOn rate (λ j. bitXor (checkedBlock rate block j) (bool (flips j)))) n ≡ No 15 0
+    → wordReadSays rate (carriedOn rate (λ j. bitXor (checkedBlock rate block j) (bool (flips j)))) n ≡ No 15 0
 unfolding checkRight inputBits
 check-finds rate block h flips start within i l f n size =
     Answers.read-judged rate word n h (Laws.carried-length rate y) size

@@ -23,7 +23,7 @@ use Rattle.convolution.specs.Code.{encode}
 use Rattle.convolution.proofs.Laws.Code.{encode-bits, encode-plus}
 use Rattle.convolution.proofs.Laws.Distance.{distance, weight-twice}
 use Rattle.answers.specs.declared.Answer.the-variants.{Done}
-use Rattle.word.specs.Word.{checkedBlock, inputOf, wordOf, codedIn, writeSays}
+use Rattle.word.specs.Word.{checkedBlock, inputOf, wordOf, codedIn, wordWriteSays}
 use Rattle.word.proofs.Laws.Word as Laws
 use Rattle.word.proofs.Laws.Checks.{zero-behind}
 use Rattle.word.proofs.Laws.Answers as Answers
@@ -35,7 +35,7 @@ input-zero rate block =
     let n : ℕ = infoBits rate + 32 in
     register-same (inputOf rate block) (checkedBlock rate block) n (cut-in n (checkedBlock rate block)) ∙ zero-behind rate block
 
-pub distances : (rate : ℕ) (a b : List ℕ) → writeSays rate a wordBytes ≡ Done → writeSays rate b wordBytes ≡ Done
+pub distances : (rate : ℕ) (a b : List ℕ) → wordWriteSays rate a wordBytes ≡ Done → wordWriteSays rate b wordBytes ≡ Done
     → (i : ℕ) → i < infoBits rate → (bitAt a i ≡ bitAt b i → ⊥)
     → 2 * distance rate ≤ differences (codedIn (wordOf rate a)) (codedIn (wordOf rate b)) wordBits
 distances rate a b ea eb i l ne =

@@ -12,7 +12,7 @@ use Rattle.answers.specs.declared.Answer.the-variants.{Done}
 use Rattle.sizes.specs.Sizes.{infoBits, blockBytes, wordBits, wordBytes}
 use Rattle.crc.specs.Inner.{checkedChange}
 use Rattle.convolution.specs.Code.{terminated, encode}
-use Rattle.word.specs.Word.{SameBits, checkedBlock, codedOf, wordOf, carriedOn, codedIn, blockIn, writeSays, readSays}
+use Rattle.word.specs.Word.{SameBits, checkedBlock, codedOf, wordOf, carriedOn, codedIn, blockIn, wordWriteSays, wordReadSays}
 use Rattle.word.proofs.Laws.Word.{Packed}
 use Rattle.word.proofs.Laws.Word as Laws
 use Rattle.word.proofs.Laws.Answers as Answers
@@ -46,21 +46,21 @@ pub word-same : (rate : ℕ) (a b : List ℕ) → rate < 3 → SameBits rate a b
 word-same = Laws.word-same
 
 -- a block of the right length is written, whatever its spare bits
-pub always-written : (rate : ℕ) (block : List ℕ) → rate < 3 → length block ≡ blockBytes rate → writeSays rate block wordBytes ≡ Done
+pub always-written : (rate : ℕ) (block : List ℕ) → rate < 3 → length block ≡ blockBytes rate → wordWriteSays rate block wordBytes ≡ Done
 always-written = Answers.always-written
 
 -- a packed block is written; its word is accepted, and gives the block back
-pub packed-written : (rate : ℕ) (block : List ℕ) → rate < 3 → Packed rate block → writeSays rate block wordBytes ≡ Done
+pub packed-written : (rate : ℕ) (block : List ℕ) → rate < 3 → Packed rate block → wordWriteSays rate block wordBytes ≡ Done
 packed-written rate block h p = always-written rate block h (p .size)
 
 pub packed-read : (rate : ℕ) (block : List ℕ) → rate < 3 → Packed rate block
-    → (readSays rate (wordOf rate block) (blockBytes rate) ≡ Done) × (blockIn rate (wordOf rate block) ≡ block)
+    → (wordReadSays rate (wordOf rate block) (blockBytes rate) ≡ Done) × (blockIn rate (wordOf rate block) ≡ block)
 packed-read rate block h p =
     let w = packed-written rate block h p in
-    (ap (readSays rate (wordOf rate block)) (sym (p .size)) ∙ written-read rate block w .0, whole-back rate block (p .bytes) w (p .spare))
+    (ap (wordReadSays rate (wordOf rate block)) (sym (p .size)) ∙ written-read rate block w .0, whole-back rate block (p .bytes) w (p .spare))
 
 -- an accepted word gives a packed block, and is the word of that block
-pub read-packed : (rate : ℕ) (word : List ℕ) (n : ℕ) → Bytes word → readSays rate word n ≡ Done
+pub read-packed : (rate : ℕ) (word : List ℕ) (n : ℕ) → Bytes word → wordReadSays rate word n ≡ Done
     → Packed rate (blockIn rate word) × (wordOf rate (blockIn rate word) ≡ word)
 read-packed rate word n b e = (Laws.block-packed rate word, read-written rate word n b e .1)
 
@@ -69,15 +69,15 @@ pub block-packed : (rate : ℕ) (word : List ℕ) → Packed rate (blockIn rate 
 block-packed = Laws.block-packed
 
 -- the numbers that the two calls can answer
-pub write-numbers : (rate : ℕ) (block : List ℕ) (n : ℕ) → among (0 ∷ 2 ∷ 8 ∷ []) (numberOf (writeSays rate block n)) ≡ true
+pub write-numbers : (rate : ℕ) (block : List ℕ) (n : ℕ) → among (0 ∷ 2 ∷ 8 ∷ []) (numberOf (wordWriteSays rate block n)) ≡ true
 write-numbers = Answers.write-numbers
 
-pub read-numbers : (rate : ℕ) (word : List ℕ) (n : ℕ) → among (0 ∷ 2 ∷ 8 ∷ 13 ∷ 14 ∷ 15 ∷ []) (numberOf (readSays rate word n)) ≡ true
+pub read-numbers : (rate : ℕ) (word : List ℕ) (n : ℕ) → among (0 ∷ 2 ∷ 8 ∷ 13 ∷ 14 ∷ 15 ∷ []) (numberOf (wordReadSays rate word n)) ≡ true
 read-numbers = Answers.read-numbers
 
 -- the answers of the two calls fit the number that C gets
-pub write-fits : (rate : ℕ) (block : List ℕ) (n : ℕ) → Fits (writeSays rate block n)
+pub write-fits : (rate : ℕ) (block : List ℕ) (n : ℕ) → Fits (wordWriteSays rate block n)
 write-fits = Answers.write-fits
 
-pub read-fits : (rate : ℕ) (word : List ℕ) (n : ℕ) → Fits (readSays rate word n)
+pub read-fits : (rate : ℕ) (word : List ℕ) (n : ℕ) → Fits (wordReadSays rate word n)
 read-fits = Answers.read-fits

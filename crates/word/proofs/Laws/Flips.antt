@@ -18,7 +18,7 @@ use Rattle.accumulator.specs.Accumulator.{differentiate}
 use Rattle.answers.specs.Answer.{numberOf}
 use Rattle.answers.specs.declared.Answer.the-variants.{Done}
 use Rattle.word.proofs.Laws.Bursts.{burst, no-code}
-use Rattle.word.specs.Word.{inputOf, wordOf, codedIn, inputIn, writeSays, readSays, firstWrong, endsInZeros}
+use Rattle.word.specs.Word.{inputOf, wordOf, codedIn, inputIn, wordWriteSays, wordReadSays, firstWrong, endsInZeros}
 use Rattle.word.proofs.Laws.Word as Laws
 use Rattle.word.proofs.Laws.Answers as Answers
 
@@ -27,12 +27,12 @@ abbrev pub WithinBurst : (ℕ → Bool) → ℕ → Type 0
 WithinBurst flips start = (j : ℕ) → j < wordBits → flips j ≡ true → (start ≤ j) × (j < start + burst)
 
 -- One or more flipped bits within a burst: the reader says 13 or 14, or 8 where the slice for the block has another length.
-pub flips-found : (rate : ℕ) (block : List ℕ) → writeSays rate block wordBytes ≡ Done
+pub flips-found : (rate : ℕ) (block : List ℕ) → wordWriteSays rate block wordBytes ≡ Done
     → (flips : ℕ → Bool) (start : ℕ) → WithinBurst flips start → (i : ℕ) → i < wordBits → flips i ≡ true
     → (other : List ℕ) → length other ≡ wordBytes → ((j : ℕ) → j < wordBits → bitAt other j ≡ bitXor (bitAt (wordOf rate block) j) (bool (flips j)))
     → (n : ℕ)
-    → (n ≡ blockBytes rate → (numberOf (readSays rate other n) ≡ 13) ⊎ (numberOf (readSays rate other n) ≡ 14))
-    × ((n ≡ blockBytes rate → ⊥) → numberOf (readSays rate other n) ≡ 8)
+    → (n ≡ blockBytes rate → (numberOf (wordReadSays rate other n) ≡ 13) ⊎ (numberOf (wordReadSays rate other n) ≡ 14))
+    × ((n ≡ blockBytes rate → ⊥) → numberOf (wordReadSays rate other n) ≡ 8)
 flips-found rate block e flips start within i l f other size differ n = (
   λ q. cases (eq-or-ne (firstWrong rate (codedIn other) (inputIn rate other)) wordBits) q,
   λ q. ap numberOf (Answers.read-block-length rate other n h size q),
@@ -58,12 +58,12 @@ flips-found rate block e flips start within i l f other size differ n = (
         ∙ xor-cancel (codedIn w p) (deinterleave (differentiate flip) p))
 
     terminated : (t : Bool) → endsInZeros rate (inputIn rate other) ≡ t → firstWrong rate (codedIn other) (inputIn rate other) ≡ wordBits → n ≡ blockBytes rate
-        → (numberOf (readSays rate other n) ≡ 13) ⊎ (numberOf (readSays rate other n) ≡ 14)
+        → (numberOf (wordReadSays rate other n) ≡ 13) ⊎ (numberOf (wordReadSays rate other n) ≡ 14)
     terminated true z c q = absurd (passed c z)
     terminated false z c q = inr (ap numberOf (Answers.read-judged rate other n h size q ∙ Answers.judged-unterminated rate (codedIn other) (inputIn rate other) c z))
 
     cases : (firstWrong rate (codedIn other) (inputIn rate other) ≡ wordBits) ⊎ (firstWrong rate (codedIn other) (inputIn rate other) ≡ wordBits → ⊥) → n ≡ blockBytes rate
-        → (numberOf (readSays rate other n) ≡ 13) ⊎ (numberOf (readSays rate other n) ≡ 14)
+        → (numberOf (wordReadSays rate other n) ≡ 13) ⊎ (numberOf (wordReadSays rate other n) ≡ 14)
     cases c q =
         ⊎-elim (λ (y : firstWrong rate (codedIn other) (inputIn rate other) ≡ wordBits). terminated (endsInZeros rate (inputIn rate other)) refl y q)
         (λ (no : firstWrong rate (codedIn other) (inputIn rate other) ≡ wordBits → ⊥). inl (ap numberOf (Answers.read-judged rate other n h size q ∙ Answers.judged-miscoded rate (codedIn other) (inputIn rate other) no))) c

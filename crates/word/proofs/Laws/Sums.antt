@@ -9,7 +9,7 @@ use Rattle.bits.specs.Pack.{bitAt, plus}
 use Rattle.bits.proofs.Laws.Pack.{length-plus, bit-plus, bytes-plus}
 use Rattle.sizes.specs.Sizes.{infoBits, wordBytes}
 use Rattle.answers.specs.declared.Answer.the-variants.{Done}
-use Rattle.word.specs.Word.{codedOf, wordOf, writeSays}
+use Rattle.word.specs.Word.{codedOf, wordOf, wordWriteSays}
 use Rattle.word.proofs.Laws.Word as Laws
 use Rattle.word.proofs.Laws.Answers as Answers
 
@@ -37,8 +37,8 @@ sums rate a b c d h bits =
     ∙ sym (Laws.shuffled-same (codedOf rate d) (λ x. sum3 (codedOf rate a x) (codedOf rate b x) (codedOf rate c x)) (Laws.coded-sum3 rate a b c d h bits) j)))
 
 -- the sum of three blocks byte by byte is such a fourth
-pub sum-block : (rate : ℕ) (a b c : List ℕ) → writeSays rate a wordBytes ≡ Done → writeSays rate b wordBytes ≡ Done → writeSays rate c wordBytes ≡ Done
-    → (writeSays rate (plus (plus a b) c) wordBytes ≡ Done)
+pub sum-block : (rate : ℕ) (a b c : List ℕ) → wordWriteSays rate a wordBytes ≡ Done → wordWriteSays rate b wordBytes ≡ Done → wordWriteSays rate c wordBytes ≡ Done
+    → (wordWriteSays rate (plus (plus a b) c) wordBytes ≡ Done)
     × ((i : ℕ) → bitAt (plus (plus a b) c) i ≡ sum3 (bitAt a i) (bitAt b i) (bitAt c i))
 sum-block rate a b c ea eb ec =
     let pa = Answers.write-accepted rate a wordBytes ea in

@@ -24,7 +24,7 @@ use Rattle.crc.specs.Check.{advance, register, checkBit, checked}
 use Rattle.crc.proofs.Laws.Check.{register-same, register-lt, checked-block, checked-check, checked-bits, checked-same, checked-sum3}
 use Rattle.crc.specs.Inner.{checkedChange}
 use Rattle.crc.proofs.Laws.Difference.{checked-plus, change-same}
-use Rattle.convolution.specs.Code.{terminated, stepOf, first, second, delay, encode, decode}
+use Rattle.convolution.specs.Code.{terminated, inputPlace, first, second, delay, encode, decode}
 use Rattle.convolution.proofs.Laws.Code.{encode-bits, encode-same, encode-plus, decode-bits, decode-same, decode-encode}
 use Rattle.interleaver.specs.Interleaver.{sourceBit, interleave, deinterleave}
 use Rattle.interleaver.proofs.Laws.Interleaver.{interleave-bits, deinterleave-bits, interleave-same, deinterleave-same, deinterleave-interleave, interleave-deinterleave, interleave-plus, deinterleave-plus}

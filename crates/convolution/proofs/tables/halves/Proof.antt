@@ -2,7 +2,7 @@
 use mathlib.Core.Path.{refl}
 use borrow.Author.Needs.{needs}
 use Rattle.sizes.specs.Sizes.{inputsPer, codedPer}
-use Rattle.convolution.specs.Code.{stepOf}
+use Rattle.convolution.specs.Code.{inputPlace}
 use Rattle.convolution.specs.Inner.{turnBit}
 use Rattle.convolution.proofs.Turning.{entries-right}
 use Rattle.convolution.proofs.tables.halves.Statement.{statement}
@@ -12,7 +12,7 @@ slice-aggregate-halves : tie.Need-slice-aggregate-halves
 slice-aggregate-halves c = search needs
 
 halves-requires : tie.Need-halves-requires
-unfolding turnBit stepOf inputsPer codedPer
+unfolding turnBit inputPlace inputsPer codedPer
 halves-requires c κs = (
   record { long = refl; first = entries-right 1 0 0 6 0 _ tt; last = entries-right 1 8 4 6 0 _ tt },
   c .before .before .before .before .pre,

@@ -2,7 +2,7 @@
 use mathlib.Core.Path.{refl}
 use borrow.Author.Needs.{needs}
 use Rattle.sizes.specs.Sizes.{inputsPer, codedPer}
-use Rattle.convolution.specs.Code.{stepOf}
+use Rattle.convolution.specs.Code.{inputPlace}
 use Rattle.convolution.specs.Inner.{turnBit}
 use Rattle.convolution.proofs.Turning.{entries-right}
 use Rattle.convolution.proofs.tables.thirds.Statement.{statement}
@@ -12,7 +12,7 @@ slice-aggregate-thirds : tie.Need-slice-aggregate-thirds
 slice-aggregate-thirds c = search needs
 
 thirds-requires : tie.Need-thirds-requires
-unfolding turnBit stepOf inputsPer codedPer
+unfolding turnBit inputPlace inputsPer codedPer
 thirds-requires c κs = (
   record { long = refl; first = entries-right 0 0 0 5 0 _ tt; next = entries-right 0 8 2 6 32 _ tt; last = entries-right 0 16 5 5 96 _ tt },
   c .before .before .before .before .pre,

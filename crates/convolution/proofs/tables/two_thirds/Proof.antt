@@ -2,7 +2,7 @@
 use mathlib.Core.Path.{refl}
 use borrow.Author.Needs.{needs}
 use Rattle.sizes.specs.Sizes.{inputsPer, codedPer}
-use Rattle.convolution.specs.Code.{stepOf}
+use Rattle.convolution.specs.Code.{inputPlace}
 use Rattle.convolution.specs.Inner.{turnBit}
 use Rattle.convolution.proofs.Turning.{entries-right}
 use Rattle.convolution.proofs.tables.two_thirds.Statement.{statement}
@@ -12,7 +12,7 @@ slice-aggregate-two-thirds : tie.Need-slice-aggregate-two-thirds
 slice-aggregate-two-thirds c = search needs
 
 two-thirds-requires : tie.Need-two-thirds-requires
-unfolding turnBit stepOf inputsPer codedPer
+unfolding turnBit inputPlace inputsPer codedPer
 two-thirds-requires c κs = (
   record { long = refl; first = entries-right 2 0 0 7 0 _ tt; next = entries-right 2 8 5 8 128 _ tt; last = entries-right 2 16 10 8 384 _ tt },
   c .before .before .before .before .pre,

@@ -7,7 +7,7 @@ use lib.Bits.{bitAnd, and-mask, mask-lt}
 use lib.ListN.{getD}
 use borrow.Author.Needs.{needs}
 use Rattle.sizes.specs.Sizes.{inputsPer, codedPer}
-use Rattle.convolution.specs.Code.{stepOf}
+use Rattle.convolution.specs.Code.{inputPlace}
 use Rattle.convolution.specs.Inner.{bitIn, byteOf, turnBit, Halves}
 use Rattle.convolution.proofs.Filling.{put-on, put-same}
 use Rattle.convolution.proofs.Turning.{group}
@@ -15,12 +15,12 @@ use Rattle.convolution.proofs.turns.half_turn.Statement.{statement}
 use Rattle.convolution.proofs.turns.half_turn.Tie as tie
 
 first : (w : ℕ) (table : List ℕ) → Halves table → (t : ℕ) → t < 8 → byteOf (getD table (bitAnd (w / 2 ^ 4) 63) 0) t ≡ turnBit 1 (bitIn 10 w) t
-unfolding stepOf inputsPer codedPer
+unfolding inputPlace inputsPer codedPer
 first w table h t l =
     group 1 0 0 6 0 4 10 w _ table (h .first) (omega (arith, and-mask (w / 2 ^ 4) 6)) refl (λ t l. omega arith) t t l (omega arith)
 
 last : (w : ℕ) (table : List ℕ) → Halves table → (t : ℕ) → t < 8 → byteOf (getD table (bitAnd w 63) 0) t ≡ turnBit 1 (bitIn 10 w) (8 + t)
-unfolding stepOf inputsPer codedPer
+unfolding inputPlace inputsPer codedPer
 last w table h t l =
     group 1 8 4 6 0 0 10 w _ table (h .last) (omega (arith, and-mask w 6)) refl (λ t l. omega arith) t (8 + t) l refl
 

@@ -7,7 +7,7 @@ use lib.Bits.{bitAnd, and-mask, mask-lt}
 use lib.ListN.{getD}
 use borrow.Author.Needs.{needs}
 use Rattle.sizes.specs.Sizes.{inputsPer, codedPer}
-use Rattle.convolution.specs.Code.{stepOf}
+use Rattle.convolution.specs.Code.{inputPlace}
 use Rattle.convolution.specs.Inner.{bitIn, byteOf, turnBit, Thirds}
 use Rattle.convolution.proofs.Filling.{put-on, put-same}
 use Rattle.convolution.proofs.Turning.{group}
@@ -15,17 +15,17 @@ use Rattle.convolution.proofs.turns.third_turn.Statement.{statement}
 use Rattle.convolution.proofs.turns.third_turn.Tie as tie
 
 first : (w : ℕ) (table : List ℕ) → Thirds table → (t : ℕ) → t < 8 → byteOf (getD table (bitAnd (w / 2 ^ 5) 31) 0) t ≡ turnBit 0 (bitIn 10 w) t
-unfolding stepOf inputsPer codedPer
+unfolding inputPlace inputsPer codedPer
 first w table h t l =
     group 0 0 0 5 0 5 10 w _ table (h .first) (omega (arith, and-mask (w / 2 ^ 5) 5)) refl (λ t l. omega arith) t t l (omega arith)
 
 next : (w : ℕ) (table : List ℕ) → Thirds table → (t : ℕ) → t < 8 → byteOf (getD table (32 + bitAnd (w / 2 ^ 2) 63) 0) t ≡ turnBit 0 (bitIn 10 w) (8 + t)
-unfolding stepOf inputsPer codedPer
+unfolding inputPlace inputsPer codedPer
 next w table h t l =
     group 0 8 2 6 32 2 10 w _ table (h .next) (omega (arith, and-mask (w / 2 ^ 2) 6)) refl (λ t l. omega arith) t (8 + t) l refl
 
 last : (w : ℕ) (table : List ℕ) → Thirds table → (t : ℕ) → t < 8 → byteOf (getD table (96 + bitAnd w 31) 0) t ≡ turnBit 0 (bitIn 10 w) (16 + t)
-unfolding stepOf inputsPer codedPer
+unfolding inputPlace inputsPer codedPer
 last w table h t l =
     group 0 16 5 5 96 0 10 w _ table (h .last) (omega (arith, and-mask w 5)) refl (λ t l. omega arith) t (16 + t) l refl
 

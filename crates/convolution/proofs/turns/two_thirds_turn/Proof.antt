@@ -7,7 +7,7 @@ use lib.Bits.{bitAnd, and-mask, mask-lt}
 use lib.ListN.{getD}
 use borrow.Author.Needs.{needs}
 use Rattle.sizes.specs.Sizes.{inputsPer, codedPer}
-use Rattle.convolution.specs.Code.{stepOf}
+use Rattle.convolution.specs.Code.{inputPlace}
 use Rattle.convolution.specs.Inner.{bitIn, byteOf, turnBit, TwoThirds}
 use Rattle.convolution.proofs.Filling.{put-on, put-same}
 use Rattle.convolution.proofs.Turning.{group}
@@ -15,17 +15,17 @@ use Rattle.convolution.proofs.turns.two_thirds_turn.Statement.{statemen
 use Rattle.convolution.proofs.turns.two_thirds_turn.Tie as tie
 
 first : (w : ℕ) (table : List ℕ) → TwoThirds table → (t : ℕ) → t < 8 → byteOf (getD table (bitAnd (w / 2 ^ 11) 127) 0) t ≡ turnBit 2 (bitIn 18 w) t
-unfolding stepOf inputsPer codedPer
+unfolding inputPlace inputsPer codedPer
 first w table h t l =
     group 2 0 0 7 0 11 18 w _ table (h .first) (omega (arith, and-mask (w / 2 ^ 11) 7)) refl (λ t l. omega arith) t t l (omega arith)
 
 next : (w : ℕ) (table : List ℕ) → TwoThirds table → (t : ℕ) → t < 8 → byteOf (getD table (128 + bitAnd (w / 2 ^ 5) 255) 0) t ≡ turnBit 2 (bitIn 18 w) (8 + t)
-unfolding stepOf inputsPer codedPer
+unfolding inputPlace inputsPer codedPer
 next w table h t l =
     group 2 8 5 8 128 5 18 w _ table (h .next) (omega (arith, and-mask (w / 2 ^ 5) 8)) refl (λ t l. omega arith) t (8 + t) l refl
 
 last : (w : ℕ) (table : List ℕ) → TwoThirds table → (t : ℕ) → t < 8 → byteOf (getD table (384 + bitAnd w 255) 0) t ≡ turnBit 2 (bitIn 18 w) (16 + t)
-unfolding stepOf inputsPer codedPer
+unfolding inputPlace inputsPer codedPer
 last w table h t l =
     group 2 16 10 8 384 0 18 w _ table (h .last) (omega (arith, and-mask w 8)) refl (λ t l. omega arith) t (16 + t) l refl
 

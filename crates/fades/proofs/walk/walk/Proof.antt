@@ -11,7 +11,7 @@ use Rattle.fades.proofs.walk.walk.Statement.{statement}
 use Rattle.fades.proofs.walk.walk.Tie as tie
 
 abbrev Inv-loop : tie.InvT-loop
-Inv-loop g fades counts₀ n a₀ i₀ counts a i = (n ≡ channel.symbolCount g) × (a .symbol ≤ n) × Stands g a × Left fades i (a .symbol) × Counted g fades (a .symbol) counts
+Inv-loop g fades counts₀ n a₀ i₀ counts a i = (n ≡ channel.layoutSymbols g) × (a .symbol ≤ n) × Stands g a × Left fades i (a .symbol) × Counted g fades (a .symbol) counts
 
 abbrev μ-loop : tie.MeasureT-loop
 μ-loop g fades counts₀ n a₀ i₀ counts a i = n - a .symbol
@@ -28,7 +28,7 @@ loop-holds c =
     let g = s .args .g in
     let fades = s .args .fades .now in
     let w = s .pre in
-    (refl, search needs, stands-first g, left-all (channel.symbolCount g) fades (w .list), counted-none g fades (s .args .counts .now) (w .long) (w .zeros))
+    (refl, search needs, stands-first g, left-all (channel.layoutSymbols g) fades (w .list), counted-none g fades (s .args .counts .now) (w .long) (w .zeros))
 
 count-one-requires : tie.Need-count-one-requires Inv-loop μ-loop
 count-one-requires c κs =

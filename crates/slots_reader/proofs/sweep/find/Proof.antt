@@ -5,7 +5,7 @@ use native.Mathlib.Omega.{arith}
 use native.Mathlib.Nat.{le-refl, mul-le-mul, mod-lt, div-add-mod'}
 use lib.ListN.{length}
 use Rattle.bits.specs.Basics.{upTo}
-use Rattle.channel.specs.Channel.{unit, symbolCount}
+use Rattle.channel.specs.Channel.{unit, layoutSymbols}
 use Rattle.pool.specs.Pooled.{firstUndecided}
 use Rattle.pulses.proofs.Laws.Zeros.{some-groups}
 use Rattle.slots.proofs.Laws.Bounds.{Bounds, bounds, shape}
@@ -28,17 +28,17 @@ known s =
     (bounds p f, some-groups (p .order) (p .group) (shape p f), few-groups p f)
 
 -- the groups of so many forties are among all
-inside : (s : tie.Start Inv-loop μ-loop) (e : ℕ) → e ≤ symbolCount (s .args .p .layout) / (320 / s .args .p .group) → e * (320 / s .args .p .group) ≤ symbolCount (s .args .p .layout)
+inside : (s : tie.Start Inv-loop μ-loop) (e : ℕ) → e ≤ layoutSymbols (s .args .p .layout) / (320 / s .args .p .group) → e * (320 / s .args .p .group) ≤ layoutSymbols (s .args .p .layout)
 inside s e l =
     let count : ℕ = 320 / s .args .p .group in
-    let d = div-add-mod' (symbolCount (s .args .p .layout)) count in
-    let m : e * count ≤ symbolCount (s .args .p .layout) / count * count = mul-le-mul l (le-refl count) in
+    let d = div-add-mod' (layoutSymbols (s .args .p .layout)) count in
+    let m : e * count ≤ layoutSymbols (s .args .p .layout) / count * count = mul-le-mul l (le-refl count) in
     omega arith
 
 apart : (c e count : ℕ) → c ≤ e → c * count ≤ e * count
 apart c e count l = mul-le-mul l (le-refl count)
 
-forties : (s : tie.Start Inv-loop μ-loop) → 40 * (symbolCount (s .args .p .layout) / (320 / s .args .p .group) * s .args .p .copies) ≤ length (s .args .b .now)
+forties : (s : tie.Start Inv-loop μ-loop) → 40 * (layoutSymbols (s .args .p .layout) / (320 / s .args .p .group) * s .args .p .copies) ≤ length (s .args .b .now)
 forties s = parts-in (s .args .p) (s .pre .0 .fine) (s .args .b .now) (s .pre .0 .long)
 
 add-n : tie.Need-add-n Inv-loop μ-loop
@@ -70,10 +70,10 @@ loop-holds c =
     let z = (c .before .before) .zeros in
     let o = c .zeros-end in
     let k : ℕ = o .result in
-    let most : k ≤ symbolCount (p .layout) / (320 / p .group) = o .ensures .1 in (
+    let most : k ≤ layoutSymbols (p .layout) / (320 / p .group) = o .ensures .1 in (
       most,
       refl,
-      upto-zeros p f (s .args .b .now) 0 (k * (320 / p .group)) (symbolCount (p .layout)) (s .args .words .now) (upto-start p f (s .args .b .now) (s .args .words .now) (s .pre .1)) (omega arith) (inside s k most)
+      upto-zeros p f (s .args .b .now) 0 (k * (320 / p .group)) (layoutSymbols (p .layout)) (s .args .words .now) (upto-start p f (s .args .b .now) (s .args .words .now) (s .pre .1)) (omega arith) (inside s k most)
           (λ i a l. parts-zero p f (s .args .b .now) _ (z .ensures) 0 k (o .ensures .2) i (omega arith) l),
     )
 
@@ -175,7 +175,7 @@ mul-from : tie.Need-mul-from Inv-loop μ-loop
 mul-from c =
     let s = c .before .before .before .before .before .before .before .before .before .before in
     let r = known s in
-    let i = inside s (symbolCount (s .args .p .layout) / (320 / s .args .p .group)) (le-refl (symbolCount (s .args .p .layout) / (320 / s .args .p .group))) in
+    let i = inside s (layoutSymbols (s .args .p .layout) / (320 / s .args .p .group)) (le-refl (layoutSymbols (s .args .p .layout) / (320 / s .args .p .group))) in
     omega arith
 
 look-requires-2 : tie.Need-look-requires-2 Inv-loop μ-loop
@@ -185,11 +185,11 @@ look-requires-2 c κs =
     let r = known s in
     let l = (c .before .before .before) .loop in
     let count : ℕ = 320 / p .group in
-    let e : l .c ≡ symbolCount (p .layout) / count = let t = l .inv .0 in let u = (c .before .before) .loop-test .left in omega arith in
-    let d = div-add-mod' (symbolCount (p .layout)) count in
-    let m : symbolCount (p .layout) % count < count = mod-lt (symbolCount (p .layout)) (r .1) in
+    let e : l .c ≡ layoutSymbols (p .layout) / count = let t = l .inv .0 in let u = (c .before .before) .loop-test .left in omega arith in
+    let d = div-add-mod' (layoutSymbols (p .layout)) count in
+    let m : layoutSymbols (p .layout) % count < count = mod-lt (layoutSymbols (p .layout)) (r .1) in
     let some = (c .before) .if2 .taken in
-    record { slots = s .pre .0; some = some; most = le-refl (symbolCount (p .layout)); near = omega arith; known = rw e at (l .inv .2 .known) }
+    record { slots = s .pre .0; some = some; most = le-refl (layoutSymbols (p .layout)); near = omega arith; known = rw e at (l .inv .2 .known) }
 
 same-length-2 : tie.Need-same-length-2 Inv-loop μ-loop
 same-length-2 c = (c .before .before) .look2 .kept .1 .1 .1 .1 .1 .0 ∙ (c .before .before .before .before .before .before) .loop .inv .1
@@ -202,8 +202,8 @@ returns-2 c =
     let l = (c .before .before .before .before .before .before) .loop in
     let count : ℕ = 320 / p .group in
     let f = (c .before .before) .look2 in
-    let e : symbolCount (p .layout) / count ≡ l .c = let t = l .inv .0 in let u = (c .before .before .before .before .before) .loop-test .left in omega arith in (
-      f .ensures .0 ∙ ap (λ (k : ℕ). upTo (decidedIn p (s .args .b .now)) (k * count) (symbolCount (p .layout))) e ∙ l .inv .2 .groups,
+    let e : layoutSymbols (p .layout) / count ≡ l .c = let t = l .inv .0 in let u = (c .before .before .before .before .before) .loop-test .left in omega arith in (
+      f .ensures .0 ∙ ap (λ (k : ℕ). upTo (decidedIn p (s .args .b .now)) (k * count) (layoutSymbols (p .layout))) e ∙ l .inv .2 .groups,
       λ q. f .ensures .1 (omega arith),
     )
 
@@ -216,10 +216,10 @@ returns-3 c =
     let p = s .args .p in
     let l = (c .before .before) .loop in
     let count : ℕ = 320 / p .group in
-    let d = div-add-mod' (symbolCount (p .layout)) count in
-    let e : l .c ≡ symbolCount (p .layout) / count = let t = l .inv .0 in let u = (c .before) .loop-test .left in omega arith in
+    let d = div-add-mod' (layoutSymbols (p .layout)) count in
+    let e : l .c ≡ layoutSymbols (p .layout) / count = let t = l .inv .0 in let u = (c .before) .loop-test .left in omega arith in
     let none = c .if2 .left in
-    let all : l .c * count ≡ symbolCount (p .layout) = rw e (omega arith) in
+    let all : l .c * count ≡ layoutSymbols (p .layout) = rw e (omega arith) in
     let end = upto-end p (s .pre .0 .fine) (s .args .b .now) (l .c * count) _ _ all (l .inv .2) in
     (end .0, λ q. end .1)
 

@@ -7,7 +7,7 @@ use Rattle.bits.specs.Basics.{upTo}
 use Rattle.bits.proofs.Laws.First.{first-on, first-here, first-end}
 use Rattle.bits.specs.Pack.{val, piece}
 use Rattle.sizes.specs.Sizes.{frameMarker, markerBits, span as Sizes·span, infoBits, blockBytes}
-use Rattle.stream_reader.specs.Frames.{joined, marked, firstUnmarked}
+use Rattle.stream_reader.specs.Frames.{joined, frameMarked, firstUnmarked}
 use Rattle.stream_reader.proofs.Rooms.{pieces-room, span-fits, marker-held}
 use borrow.Author.Needs.{needs}
 use Rattle.stream_reader.proofs.questions.first_unmarked.Statement.{statement}
@@ -15,7 +15,7 @@ use Rattle.stream_reader.proofs.questions.first_unmarked.Tie as tie
 
 abbrev Inv-loop : tie.InvT-loop
 Inv-loop rate blocks pieces size count span j₀ j =
-    (j ≤ count) × (upTo (marked size (joined rate (piece (blockBytes rate) blocks))) j count ≡ upTo (marked size (joined rate (piece (blockBytes rate) blocks))) 0 count)
+    (j ≤ count) × (upTo (frameMarked size (joined rate (piece (blockBytes rate) blocks))) j count ≡ upTo (frameMarked size (joined rate (piece (blockBytes rate) blocks))) 0 count)
 
 abbrev μ-loop : tie.MeasureT-loop
 μ-loop rate blocks pieces size count span j₀ j = count - j
@@ -49,7 +49,7 @@ marker-at-requires c κs =
     rw e held
 
 returns : tie.Need-returns Inv-loop μ-loop
-unfolding firstUnmarked marked
+unfolding firstUnmarked frameMarked
 returns c =
     let s = c .before .before .before .before .before .before in
     let a = s .args in
@@ -59,7 +59,7 @@ returns c =
     let v : ℕ = val (λ r. st (l .j * Sizes·span (a .size) + r)) markerBits in
     let seen : c .before .marker-at .result ≡ v = c .before .marker-at .ensures ∙ ap (λ (y : ℕ). val (λ r. st (y + r)) markerBits) e in
     let no : v ≡ frameMarker → ⊥ = λ q. c .if1 .taken (seen ∙ q) in
-    sym (sym (l .inv .1) ∙ first-here (marked (a .size) st) (a .count) (l .j) (omega arith) (ne-eqb v frameMarker no))
+    sym (sym (l .inv .1) ∙ first-here (frameMarked (a .size) st) (a .count) (l .j) (omega arith) (ne-eqb v frameMarker no))
 
 add-j : tie.Need-add-j Inv-loop μ-loop
 add-j c =
@@ -70,7 +70,7 @@ loop-less c =
     search needs
 
 loop-again : tie.Need-loop-again Inv-loop μ-loop
-unfolding marked
+unfolding frameMarked
 loop-again c =
     let s = c .before .before .before .before .before .before in
     let a = s .args in
@@ -80,7 +80,7 @@ loop-again c =
     let v : ℕ = val (λ r. st (l .j * Sizes·span (a .size) + r)) markerBits in
     let seen : c .before .marker-at .result ≡ v = c .before .marker-at .ensures ∙ ap (λ (y : ℕ). val (λ r. st (y + r)) markerBits) e in
     let yes : v ≡ frameMarker = sym seen ∙ c .if1 .left in
-    (search needs, first-on (marked (a .size) st) (a .count) (l .j) (omega arith) (eq-eqb v frameMarker yes) ∙ l .inv .1)
+    (search needs, first-on (frameMarked (a .size) st) (a .count) (l .j) (omega arith) (eq-eqb v frameMarker yes) ∙ l .inv .1)
 
 returns-2 : tie.Need-returns-2 Inv-loop μ-loop
 unfolding firstUnmarked
@@ -88,7 +88,7 @@ returns-2 c =
     let a = c .before .before .before .before .args in
     let l = c .before .loop in
     let st : ℕ → ℕ = joined (a .rate) (piece (blockBytes (a .rate)) (a .blocks .now)) in
-    sym (sym (l .inv .1) ∙ first-end (marked (a .size) st) (a .count) (l .j) (omega arith) (omega arith) ∙ omega arith)
+    sym (sym (l .inv .1) ∙ first-end (frameMarked (a .size) st) (a .count) (l .j) (omega arith) (omega arith) ∙ omega arith)
 
 pub first-unmarked-spec : {M : Type 1} → statement M
 first-unmarked-spec =
