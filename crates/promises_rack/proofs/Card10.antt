@@ -19,7 +19,7 @@ use Rattle.rack.proofs.Laws.Places as place-laws
 use Rattle.rack.proofs.Laws.Held as trace-laws
 use Rattle.rack.proofs.Laws.Unseen as unseen-laws
 use Rattle.rack.proofs.Laws.Answers as answer-laws
-use Rattle.promises_rack.specs.Card10.{LoadedIs, HeaderIs, LentIs, CallIs, ToldIs, AfterAllIs, HeardIs, EverLentIs, KeptIs, ToldByThese, ToldSame, EmptyAsUnlent, EmptyAtStart, MayChange, MayRead, LoadedIsRead, LoadKeepsLoans, DropEmpties, LentToOne, OwnerLends, OthersStay, ReadChangesNothing, StrangerChangesNothing, RefusedChangesNothing, StatusMost, HeadersGood, ReadGood, LoadAsks, ReadAsks, DropAsks, LendAsks, LoadNumbers, ReadNumbers, DropNumbers, LendNumbers, RackNot17, Place0}
+use Rattle.promises_rack.specs.Card10.{Card10, LoadedIs, HeaderIs, LentIs, CallIs, ToldIs, AfterAllIs, HeardIs, EverLentIs, KeptIs, ToldByThese, ToldSame, EmptyAsUnlent, EmptyAtStart, MayChange, MayRead, LoadedIsRead, LoadKeepsLoans, DropEmpties, LentToOne, OwnerLends, OthersStay, ReadChangesNothing, StrangerChangesNothing, RefusedChangesNothing, StatusMost, HeadersGood, ReadGood, LoadAsks, ReadAsks, DropAsks, LendAsks, LoadNumbers, ReadNumbers, DropNumbers, LendNumbers, RackNot17, Place0}
 
 -- byte k of an entry
 entry-byte : (area : List ℕ) (o p k : ℕ) → k < 11 → getD (entryAt area o p) k 0 ≡ getD area (11 * (4 * o + p) + k) 0
@@ -197,3 +197,45 @@ rack-not-17 area call = answer-laws.says-fits area call .listed
 
 pub place-0 : Place0
 place-0 = answer-laws.says-place
+
+-- all of it
+pub card-10 : Card10
+card-10 = record {
+  loaded-is = loaded-is;
+  header-is = header-is;
+  lent-is = lent-is;
+  call-is = call-is;
+  told-is = told-is;
+  after-all-is = after-all-is;
+  heard-is = heard-is;
+  ever-lent-is = ever-lent-is;
+  kept-is = kept-is;
+  told-by-these = told-by-these;
+  told-same = told-same;
+  empty-as-unlent = empty-as-unlent;
+  empty-at-start = empty-at-start;
+  may-change = may-change;
+  may-read = may-read;
+  loaded-is-read = loaded-is-read;
+  load-keeps-loans = load-keeps-loans;
+  drop-empties = drop-empties;
+  lent-to-one = lent-to-one;
+  owner-lends = owner-lends;
+  others-stay = others-stay;
+  read-changes-nothing = read-changes-nothing;
+  stranger-changes-nothing = stranger-changes-nothing;
+  refused-changes-nothing = refused-changes-nothing;
+  status-most = status-most;
+  headers-good = headers-good;
+  read-good = read-good;
+  load-asks = load-asks;
+  read-asks = read-asks;
+  drop-asks = drop-asks;
+  lend-asks = lend-asks;
+  load-numbers = load-numbers;
+  read-numbers = read-numbers;
+  drop-numbers = drop-numbers;
+  lend-numbers = lend-numbers;
+  rack-not-17 = rack-not-17;
+  place-0 = place-0;
+}

@@ -1,7 +1,2 @@
-// What the customer is promised of the rack: the contract is what is promised, and the function does nothing.
-ghost use Rattle.promises_rack.specs.Card10.{Card10};
-
-// Whose run it is: the rack of headers, and what a mission is told.
-pub fn card_10()
-    ensures { λ _. ⌜ Card10 ⌝ }
-{}
+// What the customer is promised of the rack: card 10; statements and theorems alone.
+// The crate `promises` has a function for each demand and card.

@@ -23,7 +23,7 @@ use Rattle.capture_cut.specs.Cut as cuts
 use Rattle.capture_cut.proofs.Laws.Cut as cut-laws
 use Rattle.capture_cut.proofs.Laws.Theorems as cut-theorems
 use Rattle.capture_cut.specs.Cut.{cutAfter}
-use Rattle.promises_runs.specs.Card1.{FindAsks, FoundCode, RefusedFind, MarkerMeans, RunMeans, Earliest, SymbolsStand, NoneFits, NoneIs19, CutAsks, CutSlots, RefusedCut, RunFound, RunReads, CutBytes}
+use Rattle.promises_runs.specs.Card1.{Card1, FindAsks, FoundCode, RefusedFind, MarkerMeans, RunMeans, Earliest, SymbolsStand, NoneFits, NoneIs19, CutAsks, CutSlots, RefusedCut, RunFound, RunReads, CutBytes}
 
 pub find-asks : FindAsks
 unfolding findFromSays findLengthsRight slotSays
@@ -93,3 +93,23 @@ run-reads header marker frames n written capture s short begins bytes old el =
     let run : cutAfter header capture s old ≡ runs.runOf header marker frames =
     ap (λ (a : Answer). after a (cuts.cutOf (fieldsOf header) capture s) old) done ∙ c .1 in
     (done, run, rw run (r .0), rw run (r .1))
+
+-- all of it
+pub card-1 : Card1
+card-1 = record {
+  find-asks = find-asks;
+  found-code = found-code;
+  refused-find = refused-find;
+  marker-means = marker-means;
+  earliest = earliest;
+  symbols-stand = symbols-stand;
+  none-fits = none-fits;
+  none-is-19 = none-is-19;
+  cut-asks = cut-asks;
+  cut-slots = cut-slots;
+  cut-bytes = cut-bytes;
+  refused-cut = refused-cut;
+  run-means = run-means;
+  run-found = run-found;
+  run-reads = run-reads;
+}

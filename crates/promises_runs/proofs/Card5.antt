@@ -41,7 +41,7 @@ use Rattle.run.proofs.Laws.Return as run-laws
 use Rattle.run.proofs.Laws.Steps as steps-laws
 use Rattle.promises_runs.proofs.Accepted.{group-is, count-is}
 use Rattle.promises_runs.proofs.Demand2.{run-written-read, run-there-and-back}
-use Rattle.promises_runs.specs.Card5.{Factors, OtherFactors, RunFactorRefused, CopiesSent, NoneBehind, SentLengths, LargestSent, Counts, PooledIs, PooledOnly, PooledMost, OneCopy, OneCopyAsked, OnePulseExactly, PoolsToIs, RepeatedAccepted, RepeatedOnly, PooledPlace, RepeatedWrittenRead, RepeatedThereAndBack}
+use Rattle.promises_runs.specs.Card5.{Card5, Factors, OtherFactors, RunFactorRefused, CopiesSent, NoneBehind, SentLengths, LargestSent, Counts, PooledIs, PooledOnly, PooledMost, OneCopy, OneCopyAsked, OnePulseExactly, PoolsToIs, RepeatedAccepted, RepeatedOnly, PooledPlace, RepeatedWrittenRead, RepeatedThereAndBack}
 
 pub factors : Factors
 unfolding copiesGood
@@ -268,3 +268,28 @@ repeated-written-read = run-written-read
 
 pub repeated-there-and-back : RepeatedThereAndBack
 repeated-there-and-back = run-there-and-back
+
+-- all of it
+pub card-5 : Card5
+card-5 = record {
+  factors = factors;
+  other-factors = other-factors;
+  factor-refused = factor-refused;
+  copies-sent = copies-sent;
+  none-behind = none-behind;
+  sent-lengths = sent-lengths;
+  largest-sent = largest-sent;
+  counts = counts;
+  pooled-is = pooled-is;
+  pooled-only = pooled-only;
+  pooled-most = pooled-most;
+  one-copy = one-copy;
+  one-copy-asked = one-copy-asked;
+  one-pulse = one-pulse;
+  pools-to-is = pools-to-is;
+  repeated-accepted = repeated-accepted;
+  repeated-only = repeated-only;
+  pooled-place = pooled-place;
+  repeated-written-read = repeated-written-read;
+  repeated-there-and-back = repeated-there-and-back;
+}

@@ -49,7 +49,7 @@ use Rattle.run.proofs.Laws.Steps as step-laws
 use Rattle.word.specs.After.{wordAfter, blockAfter}
 use Rattle.run.specs.Run.{slotsAfter, framesAfter, runReadSays}
 use Rattle.promises_runs.proofs.Accepted.{asked, marks-are, group-is, count-is}
-use Rattle.promises_runs.specs.Demand2.{BitIs, NumberIs, BytesAre, StreamIs, BlockIs, WordIs, SymbolIs, PlaceIs, LineIs, SlotIs, RunBytes, RunWrittenRead, RunReadWritten, RunOne, RunThereAndBack, WordBytes, SameBitsIs, SpareZeroIs, WordWrittenRead, WordWhole, WordReadWritten, WordOne, WordThereAndBack}
+use Rattle.promises_runs.specs.Demand2.{Demand2, BitIs, NumberIs, BytesAre, StreamIs, BlockIs, WordIs, SymbolIs, PlaceIs, LineIs, SlotIs, RunBytes, RunWrittenRead, RunReadWritten, RunOne, RunThereAndBack, WordBytes, SameBitsIs, SpareZeroIs, WordWrittenRead, WordWhole, WordReadWritten, WordOne, WordThereAndBack}
 
 pub bit-is : BitIs
 unfolding bitAt
@@ -201,3 +201,31 @@ word-there-and-back rate block word back w e =
     ap (λ (x : List ℕ). blockAfter rate x back) written
     ∙ ap (λ (a : Answer). after a (words.blockIn rate (words.wordOf rate block)) back) said in
     (λ i l. ap (λ (x : List ℕ). bitAt x i) holds ∙ r .1 i l, λ i l u. ap (λ (x : List ℕ). bitAt x i) holds ∙ r .2 i l u)
+
+-- all of it
+pub demand-2 : Demand2
+demand-2 = record {
+  bit-is = bit-is;
+  number-is = number-is;
+  bytes-are = bytes-are;
+  stream-is = stream-is;
+  block-is = block-is;
+  word-is = word-is;
+  symbol-is = symbol-is;
+  place-is = place-is;
+  line-is = line-is;
+  slot-is = slot-is;
+  run-bytes = run-bytes;
+  run-written-read = run-written-read;
+  run-read-written = run-read-written;
+  run-one = run-one;
+  run-there-and-back = run-there-and-back;
+  word-bytes = word-bytes;
+  same-bits-is = same-bits-is;
+  spare-zero-is = spare-zero-is;
+  word-written-read = word-written-read;
+  word-whole = word-whole;
+  word-read-written = word-read-written;
+  word-one = word-one;
+  word-there-and-back = word-there-and-back;
+}

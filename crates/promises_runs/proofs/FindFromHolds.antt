@@ -9,7 +9,7 @@ use Rattle.plan.specs.Plan.{planIn}
 use Rattle.capture_search.specs.Search.{firstFitFrom, findLengthsRight, slotSays, findFromSays, findFromCode}
 use Rattle.capture_search.proofs.Laws.Theorems as search-theorems
 use Rattle.capture_cut.proofs.Laws.Theorems as cut-theorems
-use Rattle.promises_runs.specs.FindFrom.{FindFromAsks, FindFromCodes, FromSlot0, EarliestFrom, FoundFrom, FoundBetween, RunFoundFrom, NoneFitsFrom, NoneFromIs19, BeyondIs19}
+use Rattle.promises_runs.specs.FindFrom.{FindFrom, FindFromAsks, FindFromCodes, FromSlot0, EarliestFrom, FoundFrom, FoundBetween, RunFoundFrom, NoneFitsFrom, NoneFromIs19, BeyondIs19}
 
 -- C gets the slot of an acceptance as the place
 coded : (header marker capture : List ℕ) (from s : ℕ) → (findFromSays header marker capture from ≡ Done) × (firstFitFrom (planIn header marker) capture from ≡ s)
@@ -53,3 +53,18 @@ none-from-is-19 = search-theorems.none-from-19
 
 pub beyond-is-19 : BeyondIs19
 beyond-is-19 = search-theorems.beyond-19
+
+-- all of it
+pub find-from : FindFrom
+find-from = record {
+  find-from-asks = find-from-asks;
+  find-from-codes = find-from-codes;
+  from-slot-0 = from-slot-0;
+  earliest-from = earliest-from;
+  found-from = found-from;
+  found-between = found-between;
+  run-found-from = run-found-from;
+  none-fits-from = none-fits-from;
+  none-from-is-19 = none-from-is-19;
+  beyond-is-19 = beyond-is-19;
+}

@@ -46,7 +46,8 @@ use Rattle.uplink.specs.Uplink.{uplinkReadSays}
 use Rattle.uplink.proofs.Laws.Uplink as uplink-laws
 use Rattle.promises_runs.proofs.Accepted.{marks-are}
 use Rattle.promises_uplink.proofs.Card14.{reader-asks, bit-is, codewords-exactly}
-use Rattle.promises_runs.specs.Places.{Decided, OnePulse, WordAsked, CodedRight, Terminated, CheckRight, UplinkAsked, GroupRight, ParityRight, PlaceOf10, PlaceOf10Once, PlaceOf11, PlaceOf12, PlaceOf13To15, PlaceOf16, SpareIs9, FillIs18, WordPlaceOf13, WordIs14, WordIs15, PassPlace, PlaceOf28, PlaceOf29}
+use Rattle.promises_runs.specs.Places.{Places, Decided, OnePulse, WordAsked, CodedRight, Terminated, CheckRight, UplinkAsked, GroupRight, ParityRight, PlaceOf10, PlaceOf10Once, PlaceOf11, PlaceOf12, PlaceOf13To15, PlaceOf16, SpareIs9, FillIs18, WordPlaceOf13, WordIs14, WordIs15, PassPlace, PlaceOf28, PlaceOf29}
+use Rattle.promises_runs.proofs.WordValues.{read-bit-two, read-zeros}
 
 -- the marker symbols are those that were lent
 lent : (header marker slots : List ℕ) (n : ℕ) → callSays header marker n (length slots) ≡ Done
@@ -358,3 +359,24 @@ place-of-28 slots m n p en = refused-28 slots m n en p
 
 pub place-of-29 : PlaceOf29
 place-of-29 slots m n p en = refused-29 slots m n en p
+
+-- all of it
+pub places : Places
+places = record {
+  place-of-10 = place-of-10;
+  place-of-10-once = place-of-10-once;
+  place-of-11 = place-of-11;
+  place-of-12 = place-of-12;
+  place-of-13-to-15 = place-of-13-to-15;
+  place-of-16 = place-of-16;
+  spare-is-9 = spare-is-9;
+  fill-is-18 = fill-is-18;
+  word-place-of-13 = word-place-of-13;
+  word-is-14 = word-is-14;
+  word-is-15 = word-is-15;
+  read-bit-two = read-bit-two;
+  read-zeros = read-zeros;
+  pass-place = pass-place;
+  place-of-28 = place-of-28;
+  place-of-29 = place-of-29;
+}

@@ -16,7 +16,7 @@ use Rattle.uplink.specs.Uplink.{sentBit, slotOf, frameCount, codeblockCount, up
 use Rattle.uplink.proofs.Laws.Uplink as slot-laws
 use Rattle.uplink.proofs.Laws.Return as uplink-laws
 use Rattle.uplink.proofs.Laws.Exports as answer-laws
-use Rattle.promises_uplink.specs.Card14.{FrameFirst, ParityBehind, ParityIs, CodewordsExactly, UplinkSlotIs, GuardsEmpty, SlotsLong, CodeblockAlone, WriterAsks, ReaderAsks, AlwaysWritten, ReceivedIs, GroupIsBit, BadGroup, BadCodeblock, AcceptedExactly, UplinkWriterNumbers, UplinkReaderNumbers, UplinkWriteNot17, UplinkReadNot17, WrittenRead, ReadWritten, UplinkBytes, UplinkOne, ThereAndBack, BackAndThere, RefusedWrite, RefusedRead}
+use Rattle.promises_uplink.specs.Card14.{Card14, FrameFirst, ParityBehind, ParityIs, CodewordsExactly, UplinkSlotIs, GuardsEmpty, SlotsLong, CodeblockAlone, WriterAsks, ReaderAsks, AlwaysWritten, ReceivedIs, GroupIsBit, BadGroup, BadCodeblock, AcceptedExactly, UplinkWriterNumbers, UplinkReaderNumbers, UplinkWriteNot17, UplinkReadNot17, WrittenRead, ReadWritten, UplinkBytes, UplinkOne, ThereAndBack, BackAndThere, RefusedWrite, RefusedRead}
 
 pub frame-first : FrameFirst
 frame-first = codeword-first
@@ -119,3 +119,36 @@ refused-write frames old number place e = ap (λ (a : Answer). after a (uplinkSl
 
 pub refused-read : RefusedRead
 refused-read slots old number place e = ap (λ (a : Answer). after a (uplinkFramesOf slots) old) e
+
+-- all of it
+pub card-14 : Card14
+card-14 = record {
+  frame-first = frame-first;
+  parity-behind = parity-behind;
+  parity-is = parity-is;
+  codewords-exactly = codewords-exactly;
+  slot-is = slot-is;
+  guards-empty = guards-empty;
+  slots-long = slots-long;
+  codeblock-alone = codeblock-alone;
+  writer-asks = writer-asks;
+  reader-asks = reader-asks;
+  always-written = always-written;
+  received-is = received-is;
+  bit-is = bit-is;
+  bad-group = bad-group;
+  bad-codeblock = bad-codeblock;
+  accepted-exactly = accepted-exactly;
+  writer-numbers = writer-numbers;
+  reader-numbers = reader-numbers;
+  uplink-write-not-17 = uplink-write-not-17;
+  uplink-read-not-17 = uplink-read-not-17;
+  written-read = written-read;
+  read-written = read-written;
+  uplink-bytes = uplink-bytes;
+  uplink-one = uplink-one;
+  there-and-back = there-and-back;
+  back-and-there = back-and-there;
+  refused-write = refused-write;
+  refused-read = refused-read;
+}

@@ -5,7 +5,7 @@ use Rattle.randomizer.specs.Randomizer.{randomize}
 use Rattle.word.proofs.Laws.Checks as law-of-checks
 use Rattle.word.proofs.Laws.Exports as word-laws
 use Rattle.word.proofs.Laws.Word as step-laws
-use Rattle.promises_words.specs.Card12.{ChecksDiffer, CheckFinds, WordCarriedOn, TakenInIs, CarriedOnIs, BlockFirst, FieldBehind}
+use Rattle.promises_words.specs.Card12.{Card12, ChecksDiffer, CheckFinds, WordCarriedOn, TakenInIs, CarriedOnIs, BlockFirst, FieldBehind}
 
 pub checks-differ : ChecksDiffer
 checks-differ = law-of-checks.checks-differ
@@ -28,3 +28,15 @@ block-first = law-of-checks.taken-first
 
 pub field-behind : FieldBehind
 field-behind = law-of-checks.field-behind
+
+-- all of it
+pub card-12 : Card12
+card-12 = record {
+  checks-differ = checks-differ;
+  check-finds = check-finds;
+  word-is = word-is;
+  taken-in-is = taken-in-is;
+  carried-on-is = carried-on-is;
+  block-first = block-first;
+  field-behind = field-behind;
+}

@@ -16,7 +16,7 @@ use Rattle.word.specs.Word.{codedOf, wordOf, codedIn}
 use Rattle.spread.specs.Spread.{changes, zeroBlock, spreadOf, spreadSays}
 use Rattle.spread.proofs.Laws.Few.{limit}
 use Rattle.spread.proofs.Laws.Spread as law-of-spread
-use Rattle.promises_words.specs.Card13.{apartCoded, apartOut, BitChanged, Few, FewTakenOut, PlacesMarked, MarkedTakenOut, SpreadAsks, SpreadGiven, RefusedSpread}
+use Rattle.promises_words.specs.Card13.{Card13, apartCoded, apartOut, BitChanged, Few, FewTakenOut, PlacesMarked, MarkedTakenOut, SpreadAsks, SpreadGiven, RefusedSpread}
 
 -- a bit that is the sum of two is 1 exactly where they are not the same
 one-where-apart : (m x y : ℕ) → m < 2 → m ≡ bitXor x y → (m ≡ 1 → x ≡ y → ⊥) × ((x ≡ y → ⊥) → m ≡ 1)
@@ -58,3 +58,16 @@ spread-given rate bit old e = (ap (λ (a : Answer). after a (spreadOf rate bit) 
 
 pub refused-spread : RefusedSpread
 refused-spread rate bit old number place e = ap (λ (a : Answer). after a (spreadOf rate bit) old) e
+
+-- all of it
+pub card-13 : Card13
+card-13 = record {
+  bit-changed = bit-changed;
+  few = few;
+  few-taken-out = few-taken-out;
+  marked = marked;
+  marked-taken-out = marked-taken-out;
+  spread-asks = spread-asks;
+  spread-given = spread-given;
+  refused-spread = refused-spread;
+}

@@ -22,7 +22,7 @@ use Rattle.randomizer.proofs.Laws.Randomizer.{sequence-start, sequence-later}
 use Rattle.word.proofs.Laws.Word as word-laws
 use Rattle.stream_writer.proofs.Laws.Stream as streams-laws
 use Rattle.stream_reader.specs.Frames.{frameMarked}
-use Rattle.promises_words.specs.Card3.{WordIsMade, RandomizedIs, SequenceIs, RegisterIs, CheckedIs, TerminatedIs, CodeIs, InterleavedIs, AccumulatedIs, CodedTakenOut, BlockTakenOut, CodedBitIs, DecodedIs, MarkedFrame, OneMarkedFrame, Question16, earlier, firstOutput, secondOutput}
+use Rattle.promises_words.specs.Card3.{Card3, WordIsMade, RandomizedIs, SequenceIs, RegisterIs, CheckedIs, TerminatedIs, CodeIs, InterleavedIs, AccumulatedIs, CodedTakenOut, BlockTakenOut, CodedBitIs, DecodedIs, MarkedFrame, OneMarkedFrame, Question16, earlier, firstOutput, secondOutput}
 
 pub word-is-made : WordIsMade
 word-is-made = word-laws.word-steps
@@ -153,3 +153,24 @@ one-marked-frame = streams-laws.one-frame
 pub question-16 : Question16
 unfolding frameMarked
 question-16 size stream j = refl
+
+-- all of it
+pub card-3 : Card3
+card-3 = record {
+  word-is-made = word-is-made;
+  randomized-is = randomized-is;
+  sequence-is = sequence-is;
+  register-is = register-is;
+  checked-is = checked-is;
+  terminated-is = terminated-is;
+  code-is = code-is;
+  interleaved-is = interleaved-is;
+  accumulated-is = accumulated-is;
+  coded-taken-out = coded-taken-out;
+  block-taken-out = block-taken-out;
+  coded-bit-is = coded-bit-is;
+  decoded-is = decoded-is;
+  marked-frame = marked-frame;
+  one-marked-frame = one-marked-frame;
+  question-16 = question-16;
+}

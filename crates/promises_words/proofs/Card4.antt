@@ -11,7 +11,7 @@ use Rattle.pass.specs.Pass as passes
 use Rattle.pass.specs.Pass.{passWordSays, passReadSays, passWriteSays}
 use Rattle.pass.proofs.Laws.Answers as answer-laws
 use Rattle.pass.proofs.Laws.Return as pass-laws
-use Rattle.promises_words.specs.Card4.{PassWriterAsks, PassReaderAsks, PassAccepted, PassLowest, PassWriterNumbers, PassReaderNumbers, PieceIs, PassWrittenSingly, PassReadSingly, RefusedPassWrite, RefusedPassRead, PassWrittenRead, PassWhole, PassBytes, PassReadWritten}
+use Rattle.promises_words.specs.Card4.{Card4, PassWriterAsks, PassReaderAsks, PassAccepted, PassLowest, PassWriterNumbers, PassReaderNumbers, PieceIs, PassWrittenSingly, PassReadSingly, RefusedPassWrite, RefusedPassRead, PassWrittenRead, PassWhole, PassBytes, PassReadWritten}
 
 pub pass-writer-asks : PassWriterAsks
 unfolding passWriteSays passes.passLengthsRight
@@ -68,3 +68,23 @@ pass-bytes rate xs = (pass-laws.words-bytes rate xs, pass-laws.blocks-bytes rate
 
 pub pass-read-written : PassReadWritten
 pass-read-written = pass-laws.read-written
+
+-- all of it
+pub card-4 : Card4
+card-4 = record {
+  pass-writer-asks = pass-writer-asks;
+  pass-reader-asks = pass-reader-asks;
+  pass-accepted = pass-accepted;
+  pass-lowest = pass-lowest;
+  pass-writer-numbers = pass-writer-numbers;
+  pass-reader-numbers = pass-reader-numbers;
+  piece-is = piece-is;
+  pass-written-singly = pass-written-singly;
+  pass-read-singly = pass-read-singly;
+  refused-pass-write = refused-pass-write;
+  refused-pass-read = refused-pass-read;
+  pass-written-read = pass-written-read;
+  pass-whole = pass-whole;
+  pass-bytes = pass-bytes;
+  pass-read-written = pass-read-written;
+}

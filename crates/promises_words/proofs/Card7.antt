@@ -1,6 +1,6 @@
 -- The proofs of card 7.
 use Rattle.word.proofs.Laws.Exports as word-laws
-use Rattle.promises_words.specs.Card7.{Disregarded, OneWord, WordWriterNumbers, WordReaderNumbers, ReaderZeros}
+use Rattle.promises_words.specs.Card7.{Card7, Disregarded, OneWord, WordWriterNumbers, WordReaderNumbers, ReaderZeros}
 
 pub disregarded : Disregarded
 disregarded = word-laws.always-written
@@ -16,3 +16,13 @@ reader-numbers = word-laws.read-numbers
 
 pub reader-zeros : ReaderZeros
 reader-zeros rate word = word-laws.block-packed rate word .spare
+
+-- all of it
+pub card-7 : Card7
+card-7 = record {
+  disregarded = disregarded;
+  one-word = one-word;
+  writer-numbers = writer-numbers;
+  reader-numbers = reader-numbers;
+  reader-zeros = reader-zeros;
+}

@@ -14,7 +14,7 @@ use Rattle.word.specs.Word.{wordOf}
 use Rattle.word.proofs.Laws.Sums as law-of-sums
 use Rattle.word.proofs.Laws.Distances as law-of-distances
 use Rattle.word.proofs.Laws.Flips as law-of-flips
-use Rattle.promises_words.specs.Demand3.{Sums, SumBlock, Distances, DistancesTwice, FlipsFound, apart, flipped}
+use Rattle.promises_words.specs.Demand3.{Demand3, Sums, SumBlock, Distances, DistancesTwice, FlipsFound, apart, flipped}
 
 pub sums : Sums
 sums = law-of-sums.sums
@@ -41,3 +41,13 @@ flips-found rate block w flips start within i l f n =
     law-of-flips.flips-found rate block w flips start (λ j u o. let r = within j u o in (r .0, omega arith)) i l f (flipped flips (wordOf rate block)) (length-bytes wordBytes bit)
     (λ j u. bit-bytes wordBytes bit (λ j. xor-bit (bitAt (wordOf rate block) j) (bool (flips j)) (bit-lt (wordOf rate block) j) (bool-lt (flips j))) j (omega arith))
     n
+
+-- all of it
+pub demand-3 : Demand3
+demand-3 = record {
+  sums = sums;
+  sum-block = sum-block;
+  distances = distances;
+  distances-twice = distances-twice;
+  flips-found = flips-found;
+}

@@ -1,7 +1,8 @@
-mod Demand3
-mod Card2
-mod Card3
-mod Card4
-mod Card7
-mod Card12
-mod Card13
+-- The theorems, a file to a demand or card, and what several of them need.
+pub mod Demand3
+pub mod Card2
+pub mod Card3
+pub mod Card4
+pub mod Card7
+pub mod Card12
+pub mod Card13

@@ -1,3 +1,4 @@
+-- The statements, in the order in which to read them.
 pub mod Demand3
 pub mod Card2
 pub mod Card3

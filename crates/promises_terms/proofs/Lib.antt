@@ -1,0 +1,3 @@
+-- The theorems, a file to a demand or card, and what several of them need.
+pub mod TermsHold
+pub mod AnswersHold
