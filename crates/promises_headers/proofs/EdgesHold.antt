@@ -50,9 +50,9 @@ pub marker-edges : MarkerEdges
 unfolding headerSays formSays fieldsSay question1 question2 question3 question4 question5 question6 question7 copiesGood fieldsOf spareOf field val bitAt symbolsPerWord interleaverDelay
 marker-edges = (refl, refl, refl)
 
-pub first-no : NumbersInOrder
+pub numbers-in-order : NumbersInOrder
 unfolding headerSays formSays fieldsSay question1 question2 question3 question4 question5 question6 question7 copiesGood fieldsOf spareOf field val bitAt symbolsPerWord interleaverDelay
-first-no = (refl, refl, refl, refl, refl, refl, refl, refl, refl)
+numbers-in-order = (refl, refl, refl, refl, refl, refl, refl, refl, refl)
 
 pub factors-all : FactorsAll
 unfolding copiesGood
@@ -85,7 +85,7 @@ edges = record {
   multiple-edges = multiple-edges;
   frame-edges = frame-edges;
   marker-edges = marker-edges;
-  first-no = first-no;
+  numbers-in-order = numbers-in-order;
   factors-all = factors-all;
   example-lengths = example-lengths;
   other-lengths = other-lengths;

@@ -140,7 +140,7 @@ pub record Edges : Type 0 where
   pub multiple-edges : MultipleEdges
   pub frame-edges : FrameEdges
   pub marker-edges : MarkerEdges
-  pub first-no : NumbersInOrder
+  pub numbers-in-order : NumbersInOrder
   pub factors-all : FactorsAll
   pub example-lengths : ExampleLengths
   pub other-lengths : OtherLengths

@@ -51,9 +51,9 @@ pub other-factors : OtherFactors
 unfolding copiesGood
 other-factors = refl
 
-pub factor-refused : RunFactorRefused
+pub run-factor-refused : RunFactorRefused
 unfolding runWriteSays runReadSays callSays runSays
-factor-refused header marker frames slots n e marks bad = (rw (e, marks, bad) refl, rw (e, marks, bad) refl)
+run-factor-refused header marker frames slots n e marks bad = (rw (e, marks, bad) refl, rw (e, marks, bad) refl)
 
 pub copies-sent : CopiesSent
 copies-sent = steps-laws.slot-is
@@ -232,9 +232,9 @@ module _ (header marker slots : List ℕ) (n : ℕ) (one : fieldsOf header .copi
       let said : runReadSays header marker slots n ≡ behind f p slots = asked-10 ∙ rw (eq-eqb (firstBadSymbol p slots) (layouts.layoutSymbols (p .layout)) e) refl in
       true-false (among late 10) (ap (among late) (sym ten ∙ ap numberOf said) ∙ behind-numbers f p slots) refl
 
-pub one-pulse : OnePulseExactly
+pub one-pulse-exactly : OnePulseExactly
 unfolding planOf parametersOf pulseOrder
-one-pulse header marker slots n one passed M G eM eG =
+one-pulse-exactly header marker slots n one passed M G eM eG =
     let p : Plan = planIn header marker in
     let call = called header marker slots n one passed in
     let count : symbolCount (fieldsOf header) ≡ layouts.layoutSymbols (p .layout) = sym (count-is header marker) in
@@ -274,7 +274,7 @@ pub card-5 : Card5
 card-5 = record {
   factors = factors;
   other-factors = other-factors;
-  factor-refused = factor-refused;
+  run-factor-refused = run-factor-refused;
   copies-sent = copies-sent;
   none-behind = none-behind;
   sent-lengths = sent-lengths;
@@ -285,7 +285,7 @@ card-5 = record {
   pooled-most = pooled-most;
   one-copy = one-copy;
   one-copy-asked = one-copy-asked;
-  one-pulse = one-pulse;
+  one-pulse-exactly = one-pulse-exactly;
   pools-to-is = pools-to-is;
   repeated-accepted = repeated-accepted;
   repeated-only = repeated-only;

@@ -5,13 +5,12 @@ use mathlib.Core.Logic.{⊎-elim}
 use Prim.Native.Nat.{ℕ, _+_, _*_, _/_, _≤_, _<_}
 use native.Mathlib.Omega.{arith}
 use native.Mathlib.Nat.{div-lt-iff-lt-mul}
-use native.Mathlib.Numerals.{add-one}
 use lib.Arith.{digits-lt}
 use lib.Dec.{eqb}
 use lib.ListN.{length}
 use Rattle.bits.specs.Basics.{bool}
 use Rattle.bits.proofs.Laws.Choice.{lt-or-le}
-use Rattle.bits.specs.Pack.{Bits, val, bitAt}
+use Rattle.bits.specs.Pack.{Bits, bitAt}
 use Rattle.bits.proofs.Laws.Pack.{length-bytes, bit-bytes, bit-bytes-past, bytes-are as packed-bytes}
 use Rattle.answers.specs.Answer.{after}
 use Rattle.sizes.specs.Sizes.{wordBytes, infoBits}
@@ -49,18 +48,7 @@ use Rattle.run.proofs.Laws.Steps as step-laws
 use Rattle.word.specs.After.{wordAfter, blockAfter}
 use Rattle.run.specs.Run.{slotsAfter, framesAfter, runReadSays}
 use Rattle.promises_runs.proofs.Accepted.{asked, marks-are, group-is, count-is}
-use Rattle.promises_runs.specs.Demand2.{Demand2, BitIs, NumberIs, BytesAre, StreamIs, BlockIs, WordIs, SymbolIs, PlaceIs, LineIs, SlotIs, RunBytes, RunWrittenRead, RunReadWritten, RunOne, RunThereAndBack, WordBytes, SameBitsIs, SpareZeroIs, WordWrittenRead, WordWhole, WordReadWritten, WordOne, WordThereAndBack}
-
-pub bit-is : BitIs
-unfolding bitAt
-bit-is xs j = refl
-
-pub number-is : NumberIs
-unfolding val
-number-is f = (refl, λ n. rw (add-one n) refl)
-
-pub bytes-are : BytesAre
-bytes-are xs = (λ h. h, λ h. h)
+use Rattle.promises_runs.specs.Demand2.{Demand2, StreamIs, BlockIs, WordIs, SymbolIs, PlaceIs, LineIs, SlotIs, RunBytes, RunWrittenRead, RunReadWritten, RunOne, RunThereAndBack, WordBytes, SameBitsIs, SpareZeroIs, WordWrittenRead, WordWhole, WordReadWritten, WordOne, WordThereAndBack}
 
 pub stream-is : StreamIs
 unfolding markerBit
@@ -205,9 +193,6 @@ word-there-and-back rate block word back w e =
 -- all of it
 pub demand-2 : Demand2
 demand-2 = record {
-  bit-is = bit-is;
-  number-is = number-is;
-  bytes-are = bytes-are;
   stream-is = stream-is;
   block-is = block-is;
   word-is = word-is;

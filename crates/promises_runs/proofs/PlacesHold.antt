@@ -2,7 +2,7 @@
 use mathlib.Core.Path.{_≡_, refl, sym, ap, _∙_}
 use mathlib.Core.Bool.{Bool, true}
 use mathlib.Core.List.{List}
-use Prim.Native.Nat.{ℕ, _+_, _*_, _/_, _≤_, _<_}
+use Prim.Native.Nat.{ℕ, _+_, _*_, _/_, _<_}
 use native.Mathlib.Omega.{arith}
 use lib.Dec.{ltb, leb, eqb}
 use lib.ListN.{length, getD}
@@ -47,7 +47,7 @@ use Rattle.uplink.proofs.Laws.Uplink as uplink-laws
 use Rattle.promises_runs.proofs.Accepted.{marks-are}
 use Rattle.promises_uplink.proofs.Card14.{reader-asks, bit-is, codewords-exactly}
 use Rattle.promises_runs.specs.Places.{Places, Decided, OnePulse, WordAsked, CodedRight, Terminated, CheckRight, UplinkAsked, GroupRight, ParityRight, PlaceOf10, PlaceOf10Once, PlaceOf11, PlaceOf12, PlaceOf13To15, PlaceOf16, SpareIs9, FillIs18, WordPlaceOf13, WordIs14, WordIs15, PassPlace, PlaceOf28, PlaceOf29}
-use Rattle.promises_runs.proofs.WordValues.{read-bit-two, read-zeros}
+use Rattle.promises_runs.proofs.WordValues.{read-bit-two, zero-word-refused}
 
 -- the marker symbols are those that were lent
 lent : (header marker slots : List ℕ) (n : ℕ) → callSays header marker n (length slots) ≡ Done
@@ -375,7 +375,7 @@ places = record {
   word-is-14 = word-is-14;
   word-is-15 = word-is-15;
   read-bit-two = read-bit-two;
-  read-zeros = read-zeros;
+  zero-word-refused = zero-word-refused;
   pass-place = pass-place;
   place-of-28 = place-of-28;
   place-of-29 = place-of-29;

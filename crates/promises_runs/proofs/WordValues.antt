@@ -1,7 +1,7 @@
 -- Two words in figures: of the one that has bit 2 alone, and of the one that has no bit, the coded bits and what is read from them.
 use mathlib.Core.Path.{_≡_, refl, sym, ap, ap₂, _∙_}
 use mathlib.Core.Bool.{Bool, true, false}
-use Prim.Native.Nat.{ℕ, zero, suc, _+_, _*_, _/_, _%_, _≤_, _<_}
+use Prim.Native.Nat.{ℕ, zero, suc, _+_, _%_, _≤_, _<_}
 use native.Mathlib.Omega.{arith}
 use lib.Bits.{bitXor, xor-zero-r}
 use lib.Dec.{eqb}
@@ -16,8 +16,8 @@ use Rattle.crc.specs.Inner.{advances}
 use Rattle.crc.proofs.Laws.Bytes.{register-is}
 use Rattle.crc.proofs.Laws.Found.{zeros-before}
 use Rattle.convolution.specs.Code.{delay, first, second, inputPlace, encode, secondPlace, recover, decode}
-use Rattle.convolution.proofs.Laws.Code.{recover-same, third-first, half-first, two-first}
-use Rattle.interleaver.specs.Interleaver.{sourceBit, outputPlace, deinterleave}
+use Rattle.convolution.proofs.Laws.Code.{recover-same, third-first, two-first}
+use Rattle.interleaver.specs.Interleaver.{sourceBit, outputPlace}
 use Rattle.interleaver.proofs.Laws.Interleaver.{output-lt, source-output, taken-from}
 use Rattle.accumulator.specs.Accumulator.{differentiate}
 use Rattle.accumulator.proofs.Laws.Accumulator.{differentiate-same}
@@ -204,5 +204,5 @@ module _ (rate : ℕ) where
         refl,
       )
 
-pub read-zeros : ZeroWordRefused
-read-zeros rate h = none-read rate h
+pub zero-word-refused : ZeroWordRefused
+zero-word-refused rate h = none-read rate h

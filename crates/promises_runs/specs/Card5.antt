@@ -160,7 +160,7 @@ RepeatedThereAndBack =
 pub record Card5 : Type 0 where
   pub factors : Factors
   pub other-factors : OtherFactors
-  pub factor-refused : RunFactorRefused
+  pub run-factor-refused : RunFactorRefused
   pub copies-sent : CopiesSent
   pub none-behind : NoneBehind
   pub sent-lengths : SentLengths
@@ -171,7 +171,7 @@ pub record Card5 : Type 0 where
   pub pooled-most : PooledMost
   pub one-copy : OneCopy
   pub one-copy-asked : OneCopyAsked
-  pub one-pulse : OnePulseExactly
+  pub one-pulse-exactly : OnePulseExactly
   pub pools-to-is : PoolsToIs
   pub repeated-accepted : RepeatedAccepted
   pub repeated-only : RepeatedOnly

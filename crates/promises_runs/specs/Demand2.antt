@@ -25,19 +25,6 @@ use Rattle.run.specs.Steps as steps
 use Rattle.word.specs.After.{wordAfter, blockAfter}
 use Rattle.run.specs.Run.{slotsAfter, framesAfter, runReadSays, runWriteSays}
 
--- ---- packing
-
--- The first bit is the highest: bit j of bytes, and the number that n bits make.
-abbrev pub BitIs : Type 0
-BitIs = (xs : List ℕ) (j : ℕ) → bitAt xs j ≡ getD xs (j / 8) 0 / 2 ^ (7 - j % 8) % 2
-
-abbrev pub NumberIs : Type 0
-NumberIs = (f : ℕ → ℕ) → (val f 0 ≡ 0) × ((n : ℕ) → val f (n + 1) ≡ val f n * 2 + f n)
-
--- Bytes are numbers below 256, and nothing else is asked of them.
-abbrev pub BytesAre : Type 0
-BytesAre = (xs : List ℕ) → (Bytes xs → (i : ℕ) → getD xs i 0 < 256) × (((i : ℕ) → getD xs i 0 < 256) → Bytes xs)
-
 -- ---- "The writer gives the slots that the specification defines": step by step, each of the one before (`steps`), for F, A, m, N, B, W and the factor of
 -- the header. A word is `words.wordOf` of its block, and Card3 has how that is made.
 
@@ -177,9 +164,6 @@ WordThereAndBack =
 
 -- ---- what is promised, all of it: the contract of `demand_2`
 pub record Demand2 : Type 0 where
-  pub bit-is : BitIs
-  pub number-is : NumberIs
-  pub bytes-are : BytesAre
   pub stream-is : StreamIs
   pub block-is : BlockIs
   pub word-is : WordIs

@@ -281,7 +281,7 @@ pub record Places : Type 0 where
   pub word-is-14 : WordIs14
   pub word-is-15 : WordIs15
   pub read-bit-two : ReadBitTwo
-  pub read-zeros : ZeroWordRefused
+  pub zero-word-refused : ZeroWordRefused
   pub pass-place : PassPlace
   pub place-of-28 : PlaceOf28
   pub place-of-29 : PlaceOf29

@@ -33,8 +33,8 @@ parity-is u t = refl
 pub codewords-exactly : CodewordsExactly
 codewords-exactly = code-laws.codewords-exactly
 
-pub slot-is : UplinkSlotIs
-slot-is = uplink-laws.slot-is
+pub uplink-slot-is : UplinkSlotIs
+uplink-slot-is = uplink-laws.slot-is
 
 pub guards-empty : GuardsEmpty
 guards-empty = uplink-laws.guards-empty
@@ -60,8 +60,8 @@ pub received-is : ReceivedIs
 unfolding received randomize
 received-is slots i j = refl
 
-pub bit-is : GroupIsBit
-bit-is = uplink-laws.bit-is
+pub group-is-bit : GroupIsBit
+group-is-bit = uplink-laws.bit-is
 
 pub bad-group : BadGroup
 bad-group slots m p e = let b = answer-laws.bad-group slots m p e in (omega (arith, b .0, b .1), b .2, b .3)
@@ -72,11 +72,11 @@ bad-codeblock slots m p e = let b = answer-laws.bad-block slots m p e in (omega 
 pub accepted-exactly : AcceptedExactly
 accepted-exactly = uplink-laws.accepted-exactly
 
-pub writer-numbers : UplinkWriterNumbers
-writer-numbers = answer-laws.write-numbers
+pub uplink-writer-numbers : UplinkWriterNumbers
+uplink-writer-numbers = answer-laws.write-numbers
 
-pub reader-numbers : UplinkReaderNumbers
-reader-numbers = answer-laws.read-numbers
+pub uplink-reader-numbers : UplinkReaderNumbers
+uplink-reader-numbers = answer-laws.read-numbers
 
 pub uplink-write-not-17 : UplinkWriteNot17
 uplink-write-not-17 frames m = answer-laws.write-fits frames m .listed
@@ -127,7 +127,7 @@ card-14 = record {
   parity-behind = parity-behind;
   parity-is = parity-is;
   codewords-exactly = codewords-exactly;
-  slot-is = slot-is;
+  uplink-slot-is = uplink-slot-is;
   guards-empty = guards-empty;
   slots-long = slots-long;
   codeblock-alone = codeblock-alone;
@@ -135,12 +135,12 @@ card-14 = record {
   reader-asks = reader-asks;
   always-written = always-written;
   received-is = received-is;
-  bit-is = bit-is;
+  group-is-bit = group-is-bit;
   bad-group = bad-group;
   bad-codeblock = bad-codeblock;
   accepted-exactly = accepted-exactly;
-  writer-numbers = writer-numbers;
-  reader-numbers = reader-numbers;
+  uplink-writer-numbers = uplink-writer-numbers;
+  uplink-reader-numbers = uplink-reader-numbers;
   uplink-write-not-17 = uplink-write-not-17;
   uplink-read-not-17 = uplink-read-not-17;
   written-read = written-read;

@@ -186,7 +186,7 @@ pub record Card14 : Type 0 where
   pub parity-behind : ParityBehind
   pub parity-is : ParityIs
   pub codewords-exactly : CodewordsExactly
-  pub slot-is : UplinkSlotIs
+  pub uplink-slot-is : UplinkSlotIs
   pub guards-empty : GuardsEmpty
   pub slots-long : SlotsLong
   pub codeblock-alone : CodeblockAlone
@@ -194,12 +194,12 @@ pub record Card14 : Type 0 where
   pub reader-asks : ReaderAsks
   pub always-written : AlwaysWritten
   pub received-is : ReceivedIs
-  pub bit-is : GroupIsBit
+  pub group-is-bit : GroupIsBit
   pub bad-group : BadGroup
   pub bad-codeblock : BadCodeblock
   pub accepted-exactly : AcceptedExactly
-  pub writer-numbers : UplinkWriterNumbers
-  pub reader-numbers : UplinkReaderNumbers
+  pub uplink-writer-numbers : UplinkWriterNumbers
+  pub uplink-reader-numbers : UplinkReaderNumbers
   pub uplink-write-not-17 : UplinkWriteNot17
   pub uplink-read-not-17 : UplinkReadNot17
   pub written-read : WrittenRead

@@ -13,8 +13,8 @@ checks-differ = law-of-checks.checks-differ
 pub check-finds : CheckFinds
 check-finds = law-of-checks.check-finds
 
-pub word-is : WordCarriedOn
-word-is = word-laws.word-carried
+pub word-carried-on : WordCarriedOn
+word-carried-on = word-laws.word-carried
 
 pub taken-in-is : TakenInIs
 unfolding randomize
@@ -34,7 +34,7 @@ pub card-12 : Card12
 card-12 = record {
   checks-differ = checks-differ;
   check-finds = check-finds;
-  word-is = word-is;
+  word-carried-on = word-carried-on;
   taken-in-is = taken-in-is;
   carried-on-is = carried-on-is;
   block-first = block-first;

@@ -40,9 +40,9 @@ few-taken-out rate block bit h size l =
     let d : apartOut rate block (flipBit block bit) ≤ limit rate = law-of-spread.few-taken-out rate bit h l block size in
     (λ e. omega (arith, d, ap limit e), λ e. omega (arith, d, ap limit e), λ e. omega (arith, d, ap limit e))
 
-pub marked : PlacesMarked
+pub places-marked : PlacesMarked
 unfolding changes
-marked rate block bit h size l j u = one-where-apart (bitAt (spreadOf rate bit) j) (codedOf rate block j) (codedOf rate (flipBit block bit) j) (bit-lt (spreadOf rate bit) j) (law-of-spread.every-block rate bit h l block size j u)
+places-marked rate block bit h size l j u = one-where-apart (bitAt (spreadOf rate bit) j) (codedOf rate block j) (codedOf rate (flipBit block bit) j) (bit-lt (spreadOf rate bit) j) (law-of-spread.every-block rate bit h l block size j u)
 
 pub marked-taken-out : MarkedTakenOut
 marked-taken-out rate block bit h size l j u =
@@ -65,7 +65,7 @@ card-13 = record {
   bit-changed = bit-changed;
   few = few;
   few-taken-out = few-taken-out;
-  marked = marked;
+  places-marked = places-marked;
   marked-taken-out = marked-taken-out;
   spread-asks = spread-asks;
   spread-given = spread-given;

@@ -2,7 +2,6 @@
 use mathlib.Core.Path.{refl, ap, _∙_}
 use lib.ListN.{length}
 use Rattle.bits.specs.Pack.{piece}
-use Rattle.bits.proofs.Laws.Pieces.{piece-at}
 use Rattle.answers.specs.Answer.{numberOf, after, isDone}
 use Rattle.answers.specs.declared.Answer.{Answer}
 use Rattle.answers.specs.declared.Answer.the-variants.{No}
@@ -11,7 +10,7 @@ use Rattle.pass.specs.Pass as passes
 use Rattle.pass.specs.Pass.{passWordSays, passReadSays, passWriteSays}
 use Rattle.pass.proofs.Laws.Answers as answer-laws
 use Rattle.pass.proofs.Laws.Return as pass-laws
-use Rattle.promises_words.specs.Card4.{Card4, PassWriterAsks, PassReaderAsks, PassAccepted, PassLowest, PassWriterNumbers, PassReaderNumbers, PieceIs, PassWrittenSingly, PassReadSingly, RefusedPassWrite, RefusedPassRead, PassWrittenRead, PassWhole, PassBytes, PassReadWritten}
+use Rattle.promises_words.specs.Card4.{Card4, PassWriterAsks, PassReaderAsks, PassAccepted, PassLowest, PassWriterNumbers, PassReaderNumbers, PassWrittenSingly, PassReadSingly, RefusedPassWrite, RefusedPassRead, PassWrittenRead, PassWhole, PassBytes, PassReadWritten}
 
 pub pass-writer-asks : PassWriterAsks
 unfolding passWriteSays passes.passLengthsRight
@@ -35,9 +34,6 @@ pass-writer-numbers = answer-laws.write-numbers
 
 pub pass-reader-numbers : PassReaderNumbers
 pass-reader-numbers = answer-laws.read-numbers
-
-pub piece-is : PieceIs
-piece-is = piece-at
 
 pub pass-written-singly : PassWrittenSingly
 pass-written-singly rate blocks old e j l = (
@@ -78,7 +74,6 @@ card-4 = record {
   pass-lowest = pass-lowest;
   pass-writer-numbers = pass-writer-numbers;
   pass-reader-numbers = pass-reader-numbers;
-  piece-is = piece-is;
   pass-written-singly = pass-written-singly;
   pass-read-singly = pass-read-singly;
   refused-pass-write = refused-pass-write;

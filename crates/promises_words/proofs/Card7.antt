@@ -8,11 +8,11 @@ disregarded = word-laws.always-written
 pub one-word : OneWord
 one-word = word-laws.word-same
 
-pub writer-numbers : WordWriterNumbers
-writer-numbers = word-laws.write-numbers
+pub word-writer-numbers : WordWriterNumbers
+word-writer-numbers = word-laws.write-numbers
 
-pub reader-numbers : WordReaderNumbers
-reader-numbers = word-laws.read-numbers
+pub word-reader-numbers : WordReaderNumbers
+word-reader-numbers = word-laws.read-numbers
 
 pub reader-zeros : ReaderZeros
 reader-zeros rate word = word-laws.block-packed rate word .spare
@@ -22,7 +22,7 @@ pub card-7 : Card7
 card-7 = record {
   disregarded = disregarded;
   one-word = one-word;
-  writer-numbers = writer-numbers;
-  reader-numbers = reader-numbers;
+  word-writer-numbers = word-writer-numbers;
+  word-reader-numbers = word-reader-numbers;
   reader-zeros = reader-zeros;
 }

@@ -63,7 +63,7 @@ FieldBehind = (rate : ℕ) (block : List ℕ) → val (λ t. checkedBlock rate b
 pub record Card12 : Type 0 where
   pub checks-differ : ChecksDiffer
   pub check-finds : CheckFinds
-  pub word-is : WordCarriedOn
+  pub word-carried-on : WordCarriedOn
   pub taken-in-is : TakenInIs
   pub carried-on-is : CarriedOnIs
   pub block-first : BlockFirst

@@ -88,7 +88,7 @@ pub record Card13 : Type 0 where
   pub bit-changed : BitChanged
   pub few : Few
   pub few-taken-out : FewTakenOut
-  pub marked : PlacesMarked
+  pub places-marked : PlacesMarked
   pub marked-taken-out : MarkedTakenOut
   pub spread-asks : SpreadAsks
   pub spread-given : SpreadGiven

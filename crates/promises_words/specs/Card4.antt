@@ -7,9 +7,9 @@
 use mathlib.Core.Path.{_≡_}
 use mathlib.Core.Bool.{true}
 use mathlib.Core.List.{List, [], _∷_}
-use Prim.Native.Nat.{ℕ, _+_, _*_, _/_, _≤_, _<_}
+use Prim.Native.Nat.{ℕ, _*_, _/_, _≤_, _<_}
 use lib.Dec.{ltb, leb, eqb}
-use lib.ListN.{length, getD}
+use lib.ListN.{length}
 use Rattle.bits.specs.Basics.{both}
 use Rattle.bits.specs.Pack.{Bytes, piece}
 use Rattle.answers.specs.Answer.{numberOf, ask, then, inOrder, among}
@@ -63,10 +63,6 @@ abbrev pub PassReaderNumbers : Type 0
 PassReaderNumbers = (rate : ℕ) (slice : List ℕ) (n : ℕ) → among (0 ∷ 2 ∷ 8 ∷ 13 ∷ 14 ∷ 15 ∷ []) (numberOf (passReadSays rate slice n)) ≡ true
 
 -- ---- what the lent slice holds afterwards
-
--- piece j of `size` bytes is those from byte j · size on
-abbrev pub PieceIs : Type 0
-PieceIs = (size : ℕ) (xs : List ℕ) (j i : ℕ) → i < size → getD (piece size xs j) i 0 ≡ getD xs (j * size + i) 0
 
 -- "Their words back to back, equal to coding them singly": word j, in the slice that was lent, is that of block j, which the word writer accepts too.
 abbrev pub PassWrittenSingly : Type 0
@@ -128,7 +124,6 @@ pub record Card4 : Type 0 where
   pub pass-lowest : PassLowest
   pub pass-writer-numbers : PassWriterNumbers
   pub pass-reader-numbers : PassReaderNumbers
-  pub piece-is : PieceIs
   pub pass-written-singly : PassWrittenSingly
   pub pass-read-singly : PassReadSingly
   pub refused-pass-write : RefusedPassWrite

@@ -39,6 +39,6 @@ ReaderZeros = (rate : ℕ) (word : List ℕ) → SpareZero rate (blockIn rate wo
 pub record Card7 : Type 0 where
   pub disregarded : Disregarded
   pub one-word : OneWord
-  pub writer-numbers : WordWriterNumbers
-  pub reader-numbers : WordReaderNumbers
+  pub word-writer-numbers : WordWriterNumbers
+  pub word-reader-numbers : WordReaderNumbers
   pub reader-zeros : ReaderZeros
