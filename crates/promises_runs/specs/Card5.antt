@@ -30,7 +30,7 @@ use Rattle.slots.specs.Reading.{spareSlotsEmpty, pooledIn}
 use Rattle.run.specs.Run as runs
 use Rattle.run.specs.Steps as steps
 use Rattle.run.specs.Run.{slotsAfter, framesAfter, runReadSays, runWriteSays}
-use Rattle.promises_runs.specs.Edges.{smallest, largest}
+use Rattle.promises_headers.specs.Edges.{smallest, largest}
 
 -- ---- "1, 2, 3, 4, 8, 16 or 32 times"
 
