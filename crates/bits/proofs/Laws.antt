@@ -1,19 +1,20 @@
-pub mod Buffers
-pub mod Change
+-- Laws that other crates or several proofs cite, each after those that it rests on.
 pub mod Choice
-pub mod Doubling
+pub mod Buffers
+pub mod Positions
+pub mod Sum
+pub mod Table
+pub mod Pack
+pub mod Change
 pub mod Field
 pub mod First
 pub mod Leading
 pub mod Loops
-pub mod Pack
 pub mod Parts
 pub mod Pieces
-pub mod Positions
 pub mod Put
 pub mod Stretch
-pub mod Sum
-pub mod Table
 pub mod Weight
 pub mod Window
 pub mod XorSum
+pub mod Doubling

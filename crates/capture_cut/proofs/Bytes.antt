@@ -20,7 +20,7 @@ use Rattle.header_sizes.specs.Inner.{Valid}
 use Rattle.header_sizes.proofs.Laws.Shape.{symbols-least, group-least}
 use Rattle.header_sizes.proofs.Laws.Bounds.{lines-least}
 
--- the last byte of a capture, shifted up to slot y: behind it all is zero
+-- the last byte of a capture, shifted up to slot y: after it all is zero
 pub end-byte : (b : List ℕ) (y : ℕ) → getD b (y / 8) 0 < 256 → length b ≤ y / 8 + 1
     → getD b (y / 8) 0 * 2 ^ (y % 8) % 2 ^ 8 ≡ val (λ t. bitAt b (y + t)) 8
 unfolding bitAt

@@ -31,7 +31,7 @@ fn put_marker(p: Plan, slots: &mut [u8])
 }
 
 // The earliest slot of a capture, from `from` to below `end`, at which the n slots of the marker stand, or `end`. There is room for 32 symbols of 320
-// slots, and eight bytes behind them, so that 57 slots at least are seen in one look.
+// slots, and eight bytes after them, so that 57 slots at least are seen in one look.
 pub fn first_fit(p: Plan, b: &[u8], n: usize, from: usize, end: usize) -> usize
     requires { ⌜ Seeks p (now b) n from end ⌝ }
     ensures { λ r. ⌜ r ≡ firstFitFrom p (now (b .entry)) from ⌝ }

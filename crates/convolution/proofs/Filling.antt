@@ -29,7 +29,7 @@ module _ (f : ℕ → ℕ) (n : ℕ) (xs ys : List ℕ) where
       let b : i < length xs = omega (arith, h .size) in
       rw m (record { size = length-set xs i v ∙ h .size; below = fill xs f i v b e (h .below) })
 
-  -- the places that were put behind those that are filled
+  -- the places that were put after those that are filled
   pub fill-put : (i m : ℕ) (g : ℕ → ℕ) → Put xs i m g ys → ((t : ℕ) → t < m → g t ≡ f (i + t)) → Filling f xs n i → Filling f ys n (i + m)
   fill-put i m g p same h =
       record {
@@ -59,7 +59,7 @@ put-more before after at n v f l e p =
           (eq-or-ne t n);
     }
 
--- more behind those
+-- more after those
 pub put-on : (before middle after : List ℕ) (at m n : ℕ) (f g : ℕ → ℕ) → Put before at m f middle → Put middle (at + m) n g after
     → ((u : ℕ) → u < n → g u ≡ f (m + u)) → Put before at (m + n) f after
 put-on before middle after at m n f g p q same =

@@ -1,4 +1,4 @@
--- Why tables of six bits do: what bits make of a register of zeros is the sum of what each six of them and the zeros behind them make of it.
+-- Why tables of six bits do: what bits make of a register of zeros is the sum of what each six of them and the zeros after them make of it.
 use mathlib.Core.Path.{_≡_, refl, sym, ap, _∙_}
 use Prim.Native.Nat.{ℕ, zero, suc, _+_, _-_, _*_, _/_, _%_, _^_, _<_}
 use native.Mathlib.Omega.{arith}

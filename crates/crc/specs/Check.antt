@@ -21,6 +21,6 @@ register x (suc n) = advance (register x n) (x n)
 unfoldable pub checkBit : ℕ → ℕ → ℕ
 checkBit r i = r / 2 ^ (31 - i) % 2
 
--- the k bits of x, and their check field behind them
+-- the k bits of x, and their check field after them
 unfoldable pub checked : ℕ → (ℕ → ℕ) → ℕ → ℕ
 checked k x i = pick (ltb i k) (x i) (checkBit (register x k) (i - k))

@@ -20,11 +20,11 @@ byteBit v t = v / 2 ^ (7 - t) % 2
 unfoldable pub change : ℕ → ℕ
 change v = advances 0 (byteBit v) 8
 
--- what is added to k bits and to the check field behind them, where d is added to the bits
+-- what is added to k bits and to the check field after them, where d is added to the bits
 unfoldable pub checkedChange : ℕ → (ℕ → ℕ) → ℕ → ℕ
 checkedChange k d i = pick (ltb i k) (d i) (checkBit (advances 0 d k) (i - k))
 
--- What six bits, and zeros behind them, make of a register of zeros, which tables say.
+-- What six bits, and zeros after them, make of a register of zeros, which tables say.
 
 -- no ones
 abbrev pub none : ℕ → ℕ
@@ -34,11 +34,11 @@ none i = 0
 abbrev pub sixBits : ℕ → ℕ
 sixBits n = advances 0 (λ t. n / 2 ^ (5 - t) % 2) 6
 
--- and 6 k zero bits behind them
+-- and 6 k zero bits after them
 unfoldable pub changeOf : ℕ → ℕ → ℕ
 changeOf k n = advances (sixBits n) none (6 * k)
 
--- the tables' rule: eleven of 64 entries, one behind the other
+-- the tables' rule: eleven of 64 entries, one after the other
 pub record Tables (table : List ℕ) : Type 0 where
   pub size : length table ≡ 704
   pub entry : (k n : ℕ) → k < 11 → n < 64 → getD table (64 * k + n) 0 ≡ changeOf k n

@@ -19,7 +19,7 @@ fn advance_bit(r: u32, b: u32) -> u32
     (r << 1) ^ (((r >> 31) ^ b) * 0x2004_4009)
 }
 
-// What the 64 bits of v make of a register of zeros: the sum of what each six of them and the zeros behind them make of it.
+// What the 64 bits of v make of a register of zeros: the sum of what each six of them and the zeros after them make of it.
 fn eleven(table: &[u32], v: u64) -> u32
     requires { ⌜ Tables (now table) ⌝ }
     ensures { λ r. ⌜ r ≡ advances 0 (bitOf v) 64 ⌝ }

@@ -1,4 +1,4 @@
-// The changes of the check register by six bits and zeros behind them: entry 64 k + n is what the six bits of n, the highest first, and
+// The changes of the check register by six bits and zeros after them: entry 64 k + n is what the six bits of n, the highest first, and
 // 6 k zeros make of a register of zeros.
 pub const CHANGES: [u32; 704] = [
     0x00000000, // 0 zeros

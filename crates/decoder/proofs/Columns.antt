@@ -38,7 +38,7 @@ column-plus f g hf hg x = sym (val-plus (rowBit f x) (rowBit g x) (λ t. hf (x +
 pub column-on : (f : ℕ → ℕ) (x p : ℕ) → column f (x + p) ≡ column (λ j. f (j + p)) x
 column-on f x p = column-same f (λ j. f (j + p)) (x + p) x (λ k l. let e : x + p + 2160 * k ≡ x + 2160 * k + p = omega arith in ap f e)
 
--- where f is 0 behind the last row, the next row's columns have one bit less
+-- where f is 0 after the last row, the next row's columns have one bit less
 pub column-next : (f : ℕ → ℕ) → Bits f → ((j : ℕ) → wordBits ≤ j → f j ≡ 0) → (x : ℕ) → column f x / 2 ≡ column f (2160 + x)
 unfolding column val
 column-next f b past x =
@@ -51,7 +51,7 @@ column-next f b past x =
     let split : val h 7 ≡ val h 1 * 2 ^ 6 + val (λ t. h (1 + t)) 6 = val-split h 1 6 in
     half ∙ omega arith
 
--- coded bits behind the end
+-- coded bits after the end
 pub coded-past : (coded : List ℕ) → Coded coded → (j : ℕ) → wordBits ≤ j → bitsOf coded j ≡ 0
 coded-past coded h j l = List·getD-eq-default coded 0 (let e = h .size in omega arith)
 

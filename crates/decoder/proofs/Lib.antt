@@ -1,3 +1,4 @@
+-- What the proofs of this crate share.
 pub mod Columns
 pub mod Transposing
 pub mod Joining

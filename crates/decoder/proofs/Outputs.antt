@@ -19,7 +19,7 @@ xor-last a b c e = ap (λ (v : ℕ). bitXor v a) (sym (same-xor (bitXor a b) c e
 xor-right : (a b c : ℕ) → bitXor (bitXor a b) c ≡ bitXor (bitXor a c) b
 xor-right a b c = xor-assoc a b c ∙ ap (bitXor a) (xor-comm b c) ∙ sym (xor-assoc a c b)
 
--- z are the n bits behind Z's first, which is 0
+-- z are the n bits after Z's first, which is 0
 module _ (z Z : ℕ → ℕ) (n : ℕ) (none : Z 0 ≡ 0) (behind : (i : ℕ) → i < n → z i ≡ Z (i + 1)) where
   delayed : (i : ℕ) → i ≤ n → delay z i ≡ Z i
   unfolding delay
@@ -48,7 +48,7 @@ module _ (z Z : ℕ → ℕ) (n : ℕ) (none : Z 0 ≡ 0) (behind : (i : ℕ) �
     pub second-right : (s : ℕ) → Z i ≡ bitXor f s → s ≡ second z i
     second-right s e = sym (second-is i h ∙ ap₂ bitXor (sym right) e ∙ xor-cancel f s)
 
--- the first outputs by what is tested: that of bit 0 alone, and the others with the sums before and behind
+-- the first outputs by what is tested: that of bit 0 alone, and the others with the sums before and after
 tested : (Z F : ℕ → ℕ) (n : ℕ) → F 0 ≡ Z 1 → ((m : ℕ) → m + 1 < n → bitXor (bitXor (Z m) (F (m + 1))) (Z (m + 2)) ≡ 0) → (i : ℕ) → i < n → F i ≡ bitXor (Z (i + 1)) (delay Z i)
 unfolding delay
 tested Z F n e h zero l = e ∙ sym (xor-zero-r (Z 1))
@@ -96,7 +96,7 @@ module _ (c z : ℕ → ℕ) where
     unfolding Z
     step-second i l = second-right z Z n none behind i l (c (step * i)) (right i l) (c (step * i + 1)) refl
 
-  -- at 2/3 those of the even bits, and the second output of an odd bit behind them
+  -- at 2/3 those of the even bits, and the second output of an odd bit after them
   module _ (none : bitXor (c (3 * 0)) (c (3 * 0 + 1)) ≡ 0)
       (odd : (i : ℕ) → i < 5040 → z (2 * i + 1) ≡ bitXor (c (3 * (i + 1))) (c (3 * (i + 1) + 1)))
       (even : (i : ℕ) → i < 5040 → z (2 * i) ≡ bitXor (bitXor (bitXor (bitXor (c (3 * i)) (c (3 * i + 1))) (c (3 * i + 2))) (c (3 * i + 3))) (c (3 * i + 4)))

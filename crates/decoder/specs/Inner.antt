@@ -146,7 +146,7 @@ pub record Joined (a b c : List ℕ) (p q at n : ℕ) (before after : List ℕ) 
 abbrev pub NoSum : List ℕ → List ℕ → List ℕ → ℕ → ℕ → ℕ → ℕ → Type 0
 NoSum a b c p q step n = (u m : ℕ) → u < times → m < n → sumAt a b c p q (atOnce * u + step * m) ≡ 0
 
--- Reading with no carried state. An input bit is the sum of the first and the second output of the bit behind it; where all first outputs are those of
+-- Reading with no carried state. An input bit is the sum of the first and the second output of the bit after it; where all first outputs are those of
 -- these sums, the coded bits are those of the sums.
 
 -- the input bits make all coded bits

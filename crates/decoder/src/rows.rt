@@ -5,7 +5,7 @@
 //     d    v0 + v1   v1 + v2   ..
 //     e    v0 + .. + v4  ..
 //
-// A row's end is no end of the word, so eight columns more stand behind the last; each sum is one of neighbours in the word, for seven
+// A row's end is no end of the word, so eight columns more come after the last; each sum is one of neighbours in the word, for seven
 // places of it at once. 2,160 is a multiple of 2 and of 3, so at each rate all rows begin with the first output of an input bit.
 use word_columns::ROW;
 use word_columns::ROWS;
@@ -16,7 +16,7 @@ ghost use Rattle.convolution.specs.Inner.{Put};
 ghost use Rattle.word_columns.specs.Inner.{rowBits, column, Coded};
 ghost use Rattle.decoder.specs.Inner.{bitsOf, rowPlaces, Row, Held, sumTwo, sumFive};
 
-// The columns behind a row's end, and all of them.
+// The columns after a row's end, and all of them.
 const BEHIND: usize = 8;
 
 pub const PLACES: usize = ROW + BEHIND;
@@ -66,7 +66,7 @@ fn follow(v: &mut [u8])
     }
 }
 
-// All columns, those behind a row's end too.
+// All columns, those after a row's end too.
 pub fn columns(coded: &[u8], v: &mut [u8])
     requires { ⌜ Coded (now coded) ⌝ }
     requires { ⌜ Row (now v) ⌝ }

@@ -27,7 +27,7 @@ pub struct Turns {
 // Eight rows for as many groups as there are at any rate.
 const ROOM: usize = 8 * TWO_THIRDS_BYTES;
 
-// n bytes, `step` places apart from x on, to place `at` and behind it.
+// n bytes, `step` places apart from x on, to place `at` and after it.
 fn deal(from: &[u8], x: usize, step: usize, n: usize, out: &mut [u8], at: usize)
     requires { ⌜ ((g : ℕ) → g < n → x + step * g < length (now from)) × (at + n ≤ length (now out)) ⌝ }
     ensures { λ _. ⌜ Dealt (now (from .entry)) x step n at (now (out .entry)) (now (out .exit)) ⌝ }

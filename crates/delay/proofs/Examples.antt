@@ -58,7 +58,7 @@ pub draft-written : tab 16 sent ≡ 1 ∷ 0 ∷ 0 ∷ 0 ∷ 5 ∷ 2 ∷ 0 ∷ 0 
 unfolding tab areaAt given moved byteOf begin
 draft-written = refl
 
--- behind the reader the same symbols, 12 steps late
+-- after the reader the same symbols, 12 steps late
 pub draft-read : tab 16 (givenAt 4 (lag Reading 4 1) sent) ≡ 0 ∷ 0 ∷ 0 ∷ 0 ∷ 0 ∷ 0 ∷ 0 ∷ 0 ∷ 0 ∷ 0 ∷ 0 ∷ 0 ∷ 1 ∷ 2 ∷ 3 ∷ 4 ∷ []
 unfolding tab areaAt given moved byteOf begin
 draft-read = refl

@@ -41,7 +41,7 @@ pub right-lists : map (listGood 16) ([] ∷ (0 ∷ 16 ∷ []) ∷ (15 ∷ 1 ∷ 
 unfolding fadesGood
 right-lists = refl
 
--- half a pair, behind one and alone, one of no symbol, out of order, overlapping, the same twice, and past the run, also by a sum of 2^32, are not
+-- half a pair, after one and alone, one of no symbol, out of order, overlapping, the same twice, and past the run, also by a sum of 2^32, are not
 pub wrong-lists : map (listGood 16) ((3 ∷ []) ∷ (3 ∷ 1 ∷ 5 ∷ []) ∷ (5 ∷ 0 ∷ []) ∷ (5 ∷ 1 ∷ 3 ∷ 1 ∷ []) ∷ (3 ∷ 2 ∷ 4 ∷ 1 ∷ []) ∷ (3 ∷ 2 ∷ 3 ∷ 2 ∷ [])
     ∷ (15 ∷ 2 ∷ []) ∷ (16 ∷ 1 ∷ []) ∷ (0 ∷ 17 ∷ []) ∷ (4294967295 ∷ 1 ∷ []) ∷ [])
     ≡ false ∷ false ∷ false ∷ false ∷ false ∷ false ∷ false ∷ false ∷ false ∷ false ∷ []

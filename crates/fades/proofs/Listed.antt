@@ -1,4 +1,4 @@
--- A list of fades from number i on: the fade that stands there, and the rest. A fade that is over covers nothing more, and those behind it have not begun.
+-- A list of fades from number i on: the fade that stands there, and the rest. A fade that is over covers nothing more, and those after it have not begun.
 use mathlib.Core.Path.{_≡_, refl, sym, ap, ap₂, _∙_}
 use mathlib.Core.Bool.{Bool, true, false, _||_, true≢false}
 use mathlib.Core.List.{List, [], _∷_}
@@ -116,7 +116,7 @@ module _ (fades : List ℕ) (i s : ℕ) (left : Left fades i s) where
     unfolding covered
     covers u h = sym (left .same u h) ∙ ap (λ (xs : List ℕ). covered xs u) (drop-two fades i more)
 
-    -- those behind it have not begun
+    -- those after it have not begun
     pub one-left : covered fades s ≡ leb (first fades i) s
     one-left =
         let here : s < first fades i + size fades i = left .lasts l in

@@ -50,7 +50,7 @@ module _ (g : Layout) (s : ℕ) (least : 1 ≤ g .symbols) where
     unfolding placeAt
     place-on = ap₂ (λ (a b : ℕ). a * g .symbols + (b - g .markers)) (ap (λ (x : ℕ). x / unit g) at ∙ digits-div (s / unit g) h) column-on
 
-    -- behind a marker symbol, and behind another
+    -- after a marker symbol, and after another
     pub place-stays : s % unit g + 1 ≤ g .markers → placeAt g (s + 1) ≡ placeAt g s
     unfolding placeAt
     place-stays l = place-on ∙ omega arith
@@ -59,7 +59,7 @@ module _ (g : Layout) (s : ℕ) (least : 1 ≤ g .symbols) where
     unfolding placeAt
     place-more l = place-on ∙ omega arith
 
-  -- behind the last of a line
+  -- after the last of a line
   module _ (h : s % unit g + 1 ≡ unit g) where
     turned : s + 1 ≡ (s / unit g + 1) * unit g + 0
     turned = let d = div-add-mod' s (unit g) in omega arith

@@ -28,7 +28,7 @@ pub record Stands (g : Layout) (a : Spot) : Type 0 where
   pub place-is : a .place ≡ placeAt g (a .symbol)
   pub residue-is : a .residue ≡ a .place % g .rows
 
--- from number i of a list on stand the fades that are not over at symbol s; they are in order in a run of some size, behind some end
+-- from number i of a list on stand the fades that are not over at symbol s; they are in order in a run of some size, after some end
 pub record Left (fades : List ℕ) (i s : ℕ) : Type 0 where
   pub inside : i ≤ length fades
   pub run : ℕ

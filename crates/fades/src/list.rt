@@ -12,7 +12,7 @@ fn wide(x: u32) -> usize
     x as usize
 }
 
-// Whether a fade has a symbol, begins at `end` or behind it, and lies in a run of n symbols.
+// Whether a fade has a symbol, begins at `end` or after it, and lies in a run of n symbols.
 fn fits(n: usize, end: usize, first: usize, size: usize) -> bool
     requires { ⌜ (first < 2 ^ 32) × (size < 2 ^ 32) ⌝ }
     ensures { λ r. ⌜ r ≡ both (leb 1 size) (both (leb end first) (leb (first + size) n)) ⌝ }

@@ -14,7 +14,7 @@ pub struct Spot {
     pub residue: usize,
 }
 
-// The next symbol. A marker symbol has the place of the first symbol behind it.
+// The next symbol. A marker symbol has the place of the first symbol after it.
 fn next(g: Layout, a: Spot) -> Spot
     requires { ⌜ Small g × Stands g a × (a .symbol < 2 ^ 23) ⌝ }
     ensures { λ r. ⌜ Stands g r × (r .symbol ≡ a .symbol + 1) ⌝ }

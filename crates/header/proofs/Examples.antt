@@ -17,7 +17,7 @@ pub example-read : fieldsOf example ≡ exampleFields
 unfolding fieldsOf field val bitAt
 example-read = refl
 
--- the zero bits are those behind: of ten bytes 26, and of eight 16
+-- the zero bits are those after: of ten bytes 26, and of eight 16
 pub zero-bits : (spareOf (0 ∷ 0 ∷ 0 ∷ 0 ∷ 0 ∷ 0 ∷ 3 ∷ 255 ∷ 255 ∷ 255 ∷ []) ≡ 67108863) × (oldSpareOf (0 ∷ 0 ∷ 0 ∷ 0 ∷ 0 ∷ 0 ∷ 255 ∷ 255 ∷ []) ≡ 65535)
 unfolding spareOf oldSpareOf field val bitAt
 zero-bits = (refl, refl)

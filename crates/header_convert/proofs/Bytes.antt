@@ -1,4 +1,4 @@
--- The bits of the two headers, byte by byte: six bytes are those that were there, and what is behind them is computed.
+-- The bits of the two headers, byte by byte: six bytes are those that were there, and what is after them is computed.
 use mathlib.Core.Path.{_≡_, sym, ap, _∙_}
 use mathlib.Core.List.{List}
 use mathlib.Core.Logic.{⊎-elim}
@@ -15,7 +15,7 @@ use Rattle.header_convert.specs.Convert.{wideBit, widened, narrowed}
 use Rattle.header_convert.specs.Inner.{byteOf, Converted}
 use Rattle.header_convert.proofs.Laws.Theorems.{wide-front, wide-behind}
 
--- the six bytes, whatever is behind them
+-- the six bytes, whatever is after them
 front : (from : List ℕ) → Bytes from → (seventh i : ℕ) → i < 6 → (f : ℕ → ℕ) → ((j : ℕ) → j < 48 → f j ≡ bitAt from j) → byteOf from seventh i ≡ val (λ t. f (8 * i + t)) 8
 unfolding byteOf
 front from b seventh i l f same =

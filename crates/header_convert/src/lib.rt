@@ -8,7 +8,7 @@ ghost use Rattle.answers.specs.Answer.{after};
 ghost use Rattle.header_convert.specs.Convert.{widened, narrowed, widenSays, narrowSays};
 ghost use Rattle.header_convert.specs.Inner.{byteOf, Converted};
 
-// Byte i of a header: six are as they were, the next has the factor, and zeros are behind it.
+// Byte i of a header: six are as they were, the next has the factor, and zeros are after it.
 fn byte_of(from: &[u8], seventh: u8, i: usize) -> u8
     requires { ⌜ 6 ≤ length (now from) ⌝ }
     ensures { λ r. ⌜ r ≡ byteOf (now (from .entry)) seventh i ⌝ }

@@ -1,2 +1,3 @@
-pub mod Bounds
+-- Laws that other crates or several proofs cite, each after those that it rests on.
 pub mod Shape
+pub mod Bounds

@@ -176,7 +176,7 @@ module _ (word ordered planes v : List ℕ)
       rw (z, e) (ap (λ (v : ℕ). v % 2) (zero-div (2 ^ d)) ∙ omega arith))
       (lt-or-le m 7))
 
-  -- with their numbers turned behind them
+  -- with their numbers turned after them
   doubled : (y : ℕ) → y < 4320 → getD v y 0 ≡ seven g (8 * (y % 540) + (7 - y / 540))
   unfolding doubledAt
   doubled y h =

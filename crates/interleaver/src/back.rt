@@ -1,4 +1,4 @@
-// Step 5 back. In go the planes of a word, each with its numbers once more a row on behind it; out come the coded bits.
+// Step 5 back. In go the planes of a word, each with its numbers once more a row on after it; out come the coded bits.
 //
 //     plane m    30 lines of nine numbers: bit 7 - m of the bytes of the word, for seven rows at once; then the same, turned
 //     column c of the word is column c / 8 of plane 7 - c % 8, and column b = takenBy c of the coded bits
@@ -64,7 +64,7 @@ fn starts(off: &[u16], at: &mut [usize], mask: &mut [u8])
     columns::put_masks(&column, &up, mask);
 }
 
-// The coded bits out of the planes, each of which has its numbers turned behind it. `seen` is room for a number of each column and line.
+// The coded bits out of the planes, each of which has its numbers turned after it. `seen` is room for a number of each column and line.
 pub fn given(v: &[u8], off: &[u16], seen: &mut [u8], coded: &mut [u8])
     requires { ⌜ (length (now v) ≡ 2 * rowBits) × Each sourceBit (now off) × (length (now seen) ≡ rowBits) × (length (now coded) ≡ wordBits) ⌝ }
     ensures { λ _. ⌜ Filled (bitBack (now (v .entry))) (now (coded .exit)) wordBits ⌝ }

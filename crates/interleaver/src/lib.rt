@@ -4,7 +4,7 @@
 //     writing                                              reading
 //     coded    15,120 bits, one to a byte                  word     1,890 bytes: 210 lines of nine
 //       | numbers of seven bits, and once more a row on      | lines in the order of the coded bits
-//     v        2 · 2,160 numbers                           ordered  1,890 bytes, and 270 unused behind them
+//     v        2 · 2,160 numbers                           ordered  1,890 bytes, and 270 unused after them
 //       | the word's columns side by side, by planes         | rows and bits change places
 //     seen     8 planes of 30 lines of nine numbers        ordered  8 planes of 270 numbers
 //       | rows and bits change places                        | each plane once more a row on

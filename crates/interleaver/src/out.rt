@@ -45,7 +45,7 @@ fn first_masks(off: &[u16], mask: &mut [u8])
     put_masks(&column, &up, mask);
 }
 
-// The coded bits, seven as one number, and once more behind themselves a row on.
+// The coded bits, seven as one number, and once more after themselves a row on.
 pub fn taken(coded: &[u8], off: &[u16], v: &mut [u8])
     requires { ⌜ Coded (now coded) × Each sourceBit (now off) × (length (now v) ≡ 2 * rowBits) ⌝ }
     ensures { λ _. ⌜ Filled (numberOut (λ j. getD (now (coded .entry)) j 0)) (now (v .exit)) (2 * rowBits) ⌝ }

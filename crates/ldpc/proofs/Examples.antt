@@ -13,7 +13,7 @@ pub first-bit : parity 0x8000000000000000 ≡ 0x0E69166BEF4C0BC2
 unfolding val xorSum rows rowBit parityBit
 first-bit = refl
 
--- the row behind it, turned right by one in each piece of 16 bits
+-- the row after it, turned right by one in each piece of 16 bits
 pub second-bit : parity 0x4000000000000000 ≡ 0x87348B3577A605E1
 unfolding val xorSum rows rowBit parityBit
 second-bit = refl

@@ -1,4 +1,5 @@
+-- Laws that other crates or several proofs cite, each after those that it rests on.
 pub mod Code
-pub mod Exactly
 pub mod Passing
 pub mod Zero
+pub mod Exactly

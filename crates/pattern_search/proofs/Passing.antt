@@ -124,7 +124,7 @@ copied-bit b before room c x l =
     ap (λ (v : ℕ). v / 2 ^ (7 - x % 8) % 2)
     (ap (λ (k : ℕ). getD room k 0) (sym z) ∙ c .here (x / 8) (omega arith) ∙ ap (λ (k : ℕ). getD b k 0) z)
 
--- a short capture with zeros behind it: its starts are as they were
+-- a short capture with zeros after it: its starts are as they were
 pub padded : (b before room marker : List ℕ) (n from end : ℕ) → Copied b 0 before 0 (length b) room → end + n ≤ 8 * length b + 1
     → upTo (missed (bitAt marker) n room) from end ≡ upTo (missed (bitAt marker) n b) from end
 unfolding stands firstMismatch

@@ -51,7 +51,7 @@ sum-val f g hf hg =
 zero-lesser : (x y : ℕ) → 1 ≤ y → lesser x y ≡ 0 → x ≡ 0
 zero-lesser x y h e = ⊎-elim (λ (l : x < 1). omega arith) (λ (l : 1 ≤ x). absurd (let s = lesser-some x y l h in omega arith)) (lt-or-le x 1)
 
--- what one look compares: no more slots than either window shows, and none behind the marker's n
+-- what one look compares: no more slots than either window shows, and none after the marker's n
 pub record Sight (i n w u most : ℕ) : Type 0 where
   pub some : 1 ≤ most
   pub capture : most ≤ w

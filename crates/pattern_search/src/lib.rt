@@ -51,7 +51,7 @@ fn first_start(
     end
 }
 
-// The same of any capture: one of less than eight bytes is looked at with zeros behind it.
+// The same of any capture: one of less than eight bytes is looked at with zeros after it.
 pub fn first_any(
     b: &[u8],
     marker: &[u8],

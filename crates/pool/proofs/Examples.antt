@@ -28,7 +28,7 @@ pub three-copies : three (33 ∷ 4 ∷ []) ∷ three (32 ∷ 66 ∷ []) ∷ thre
 unfolding pooled peak beats count weight bitAt firstFrom
 three-copies = refl
 
--- 00100 00100 01000 01000: symbol 1 stands behind all copies of symbol 0
+-- 00100 00100 01000 01000: symbol 1 comes after all copies of symbol 0
 pub copies-in-a-row : pooled (33 ∷ 16 ∷ 128 ∷ []) 2 5 4 1 ≡ 1
 unfolding pooled peak beats count weight bitAt firstFrom
 copies-in-a-row = refl

@@ -9,7 +9,7 @@
 -- The contracts of `delay_write` and `delay_read` are equations with `stepCode` and `areaAfter`, on the side `Writing` or `Reading`: what a step
 -- answers, and the area afterwards, from the header, the step's number n, the symbol q and the area before. N, B and m are `rows`, `step` and `bits`
 -- of the header's fields. `placed` (channel/specs/Channel.antt) is what step 9 puts at a place, of the symbols of a layout, which has C words of S;
--- `cut n q` are the first n of the symbols q, and zeros behind them.
+-- `cut n q` are the first n of the symbols q, and zeros after them.
 use mathlib.Core.Path.{_≡_}
 use mathlib.Core.List.{List}
 use Prim.Native.Nat.{ℕ, zero, suc, _+_, _-_, _*_, _/_, _%_, _^_, _≤_, _<_}
@@ -112,7 +112,7 @@ AcceptedBelow = (side : Side) (header : List ℕ) (q : ℕ → ℕ) (n : ℕ) �
 
 -- "After any number of accepted steps, told 0, 1, 2 and so on, the symbols given are the first ones that step 9 defines for the symbols taken so far
 -- followed by zeros, its place rule running on past C·S": after n steps, in every layout with the header's N and B and at least n symbols, whatever its C
--- and S, and so with as many zeros behind as one likes
+-- and S, and so with as many zeros after as one likes
 abbrev pub Written : Type 0
 Written =
     (header : List ℕ) (q : ℕ → ℕ) (n : ℕ) → Accepted Writing header q n
@@ -154,7 +154,7 @@ ReadZeros =
 
 -- ---- a run
 
--- on a run's symbols, those of step 8 with zeros behind the C·S of them, the symbols given are the run's places, which step 10 sends
+-- on a run's symbols, those of step 8 with zeros after the C·S of them, the symbols given are the run's places, which step 10 sends
 abbrev pub RunPlaces : Type 0
 RunPlaces =
     (header marker frames : List ℕ) → headerSays header ≡ Done → (x : ℕ)

@@ -2,7 +2,7 @@
 -- question out, and never use 17 again."
 --
 -- `callSays` is questions 1 to 7, 20 and 8 of a call that is lent frames and slots (plan/specs/Lengths.antt); the fill bits are what the C blocks of k bits
--- hold behind the A marked frames.
+-- hold after the A marked frames.
 use mathlib.Core.Path.{_≡_}
 use mathlib.Core.List.{List}
 use Prim.Native.Nat.{ℕ, _+_, _*_, _<_}

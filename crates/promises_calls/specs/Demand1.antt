@@ -112,7 +112,7 @@ LengthsAre =
     → runLengthsRight f markerLength framesLength slotsLength
     ≡ both (eqb markerLength (f .markers)) (both (eqb framesLength (f .frames * f .size)) (eqb slotsLength (sizes.slotBytes f)))
 
--- `runSays` is 1 to 7 of a header and its marker symbols, and 20; `callSays` has 8 behind them
+-- `runSays` is 1 to 7 of a header and its marker symbols, and 20; `callSays` has 8 after them
 abbrev pub RunAnswers : Type 0
 RunAnswers =
     (header marker : List ℕ) (framesLength slotsLength : ℕ)

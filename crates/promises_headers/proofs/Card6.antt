@@ -40,12 +40,12 @@ other-copies copies f = refl
 
 -- ---- the questions in figures
 
--- 1, of ten bytes or of eight, then the ranges, and what comes behind them
+-- 1, of ten bytes or of eight, then the ranges, and what comes after them
 asked : (one : Bool) (f : Fields) (rest : Answer) → then (then (ask one 1 0) (fieldsSay f)) rest ≡ then (ask one 1 0) (rangesAsked f rest)
 unfolding question2 question3 question4 question5 question6 question7 symbolsPerWord interleaverDelay
 asked = asks-on
 
--- nothing behind them
+-- nothing after them
 alone : (a : Answer) → then a Done ≡ a
 alone Done = refl
 alone (No number place) = refl
@@ -71,7 +71,7 @@ old-answers old bytes =
     ∙ asked (oldQuestion1 old) (fieldsOf old) Done
     ∙ ap₂ (λ (t : Bool) (f : Fields). then (ask (both (eqb (length old) 8) t) 1 0) (rangesAsked f Done)) (eight-end old bytes) (fields-in old bytes)
 
--- ---- what passes, and what is behind it
+-- ---- what passes, and what is after it
 
 record Asked (f : Fields) (rest : Answer) : Type 0 where
   ranges : Ranges f

@@ -28,7 +28,7 @@ part header at i r n e l =
     ap₂ (λ (x y : ℕ). getD header x 0 / 2 ^ y % 2) (omega arith) (omega arith))
     ∙ cut-out (byte header i) 8 r n l
 
--- a bits, and the n behind them
+-- a bits, and the n after them
 joined : (header : List ℕ) (at a n : ℕ) → field header at (a + n) ≡ field header at a * 2 ^ n + field header (at + a) n
 unfolding field
 joined header at a n =

@@ -47,7 +47,7 @@ TenBytes = (header : List ℕ) → question1 header ≡ both (eqb (length header
 -- ---- the same in plain arithmetic of the bytes: "rate, 2 bits (0 for 1/3, 1 for 1/2, 2 for 2/3); m, 4 bits; rows N, 8 bits; step B, 9 bits; frame bytes F,
 -- 12 bits; marker symbols W, 6 bits; frame count A, 7 bits", the factor in 6 bits, "most significant bit first"
 
--- byte i of a header, 0 behind its end
+-- byte i of a header, 0 after its end
 abbrev pub byte : List ℕ → ℕ → ℕ
 byte header i = getD header i 0
 
@@ -82,7 +82,7 @@ tenEnd h = both (eqb (byte h 6 % 4) 0) (both (eqb (byte h 7) 0) (both (eqb (byte
 abbrev pub eightEnd : List ℕ → Bool
 eightEnd h = both (eqb (byte h 6) 0) (eqb (byte h 7) 0)
 
--- 2 to 7, W's range being all of 7 that is put to a header, and what comes behind them
+-- 2 to 7, W's range being all of 7 that is put to a header, and what comes after them
 abbrev pub rangesAsked : Fields → Answer → Answer
 rangesAsked f rest =
     then (ask (ltb (f .rate) 3) 2 0)
@@ -96,7 +96,7 @@ rangesAsked f rest =
 abbrev pub oneOfSeven : ℕ → Bool
 oneOfSeven k = eqb k 1 || eqb k 2 || eqb k 3 || eqb k 4 || eqb k 8 || eqb k 16 || eqb k 32
 
--- 1 to 7 (`formSays`), and with 20 behind them all that are put to a header alone
+-- 1 to 7 (`formSays`), and with 20 after them all that are put to a header alone
 abbrev pub FormAnswers : Type 0
 FormAnswers =
     (header : List ℕ) → ((i : ℕ) → byte header i < 256)

@@ -43,7 +43,7 @@ RateSizes =
     × (blockBytes 0 ≡ 626) × (blockBytes 1 ≡ 941) × (blockBytes 2 ≡ 1256)
     × (wordBytes ≡ 1890)
 
--- of a header with these fields: T bits of marked frames; S symbols a word; C, the blocks of k bits that hold T; the fill bits behind them; R lines of S places,
+-- of a header with these fields: T bits of marked frames; S symbols a word; C, the blocks of k bits that hold T; the fill bits after them; R lines of S places,
 -- with N (N - 1) B that are not hit; the symbols, W markers before every line; the slots, M and M/4 of them a symbol, each symbol sent as often as the factor
 -- says; their bytes, with spare bits at the end; and the bytes of the frames, the marker symbols and the area of the delay lines
 abbrev pub RunSizes : Type 0

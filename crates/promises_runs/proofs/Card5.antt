@@ -120,7 +120,7 @@ call-refuses header marker k n =
     (refuses-then early _ _ (refuses-ask early (question20 f) 20 0 refl)
     (refuses-ask early (runLengthsRight f (length marker) k n) 8 0 refl))))))))))
 
--- and those behind question 10, none of which is 10
+-- and those after question 10, none of which is 10
 abbrev late : List ℕ
 late = 0 ∷ 2 ∷ 8 ∷ 11 ∷ 12 ∷ 13 ∷ 14 ∷ 15 ∷ 16 ∷ 18 ∷ []
 
@@ -194,7 +194,7 @@ module _ (header marker slots : List ℕ) (n : ℕ) (one : fieldsOf header .copi
           let said : runReadSays header marker slots n ≡ No 9 0 = rw (called, e) refl in
           absurd (true-false (among early 9) refl (ap (λ (a : Answer). among early (numberOf a)) (sym said) ∙ passed))
 
-  -- so the answer is 10, or what comes behind it
+  -- so the answer is 10, or what comes after it
   asked-10 : runReadSays header marker slots n ≡ then (ask (eqb (firstBadSymbol p slots) (layouts.layoutSymbols (p .layout))) 10 (firstBadSymbol p slots)) (behind f p slots)
   unfolding runReadSays
   asked-10 = rw (called, steps-laws.asked-in-order f p slots, spare) refl

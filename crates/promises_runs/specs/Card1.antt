@@ -119,7 +119,7 @@ RefusedCut =
     → cuts.cutSays header (length capture) s (length old) ≡ No number place
     → cutAfter header capture s old ≡ old
 
--- ---- "If a sound run begins at slot s": one that is written for some frames; what stands before and behind it in the capture is free
+-- ---- "If a sound run begins at slot s": one that is written for some frames; what stands before and after it in the capture is free
 
 abbrev pub RunMeans : Type 0
 RunMeans =

@@ -50,7 +50,7 @@ RunFactorRefused =
 
 -- ---- "Faint links send each symbol, markers and guard slots included, .. times in a row"
 
--- slot r of copy c of symbol s has a pulse if the symbol is r, and there is none behind the last copy
+-- slot r of copy c of symbol s has a pulse if the symbol is r, and there is none after the last copy
 abbrev pub CopiesSent : Type 0
 CopiesSent =
     (header marker frames : List ℕ) (s c r : ℕ) → s < layouts.layoutSymbols (planIn header marker .layout) → c < fieldsOf header .copies → r < planIn header marker .group
@@ -73,7 +73,7 @@ LargestSent = (slotCount (withCopies 32 largest) ≡ 46624952320) × (slotBytes 
 abbrev pub Counts : Type 0
 Counts = (b : List ℕ) (copies group s r : ℕ) → count b copies group s r ≡ weight (λ c. bitAt b ((s * copies + c) * group + r)) copies
 
--- of M data slots and the guard slots behind them, `group` in all: q is the symbol if its count is above each other's, and only then; where there is no such
+-- of M data slots and the guard slots after them, `group` in all: q is the symbol if its count is above each other's, and only then; where there is no such
 -- data slot, `pooled` is M
 abbrev pub PooledIs : Type 0
 PooledIs =

@@ -28,7 +28,7 @@ use Rattle.run.specs.Run.{slotsAfter, framesAfter, runReadSays, runWriteSays}
 -- ---- "The writer gives the slots that the specification defines": step by step, each of the one before (`steps`), for F, A, m, N, B, W and the factor of
 -- the header. A word is `words.wordOf` of its block, and Card3 has how that is made.
 
--- Step 1: 1ACFFC1D before each of the A frames of F bytes, the first bit highest, and zeros behind the last; k bits of this are a block.
+-- Step 1: 1ACFFC1D before each of the A frames of F bytes, the first bit highest, and zeros after the last; k bits of this are a block.
 abbrev pub StreamIs : Type 0
 StreamIs =
     (header marker frames : List ℕ) (F A : ℕ) → F ≡ fieldsOf header .size → A ≡ fieldsOf header .frames

@@ -57,7 +57,7 @@ perWord f = 15120 / f .bits
 abbrev pub symbolRead : Fields → List ℕ → ℕ → ℕ
 symbolRead f slots s = pooled slots (f .copies) (2 ^ f .bits + 2 ^ f .bits / 4) (2 ^ f .bits) s
 
--- 9: the spare bits behind the last slot are 0
+-- 9: the spare bits after the last slot are 0
 abbrev pub SpareSlotsZero : Fields → List ℕ → Type 0
 SpareSlotsZero f slots = (x : ℕ) → slotCount f ≤ x → x < 8 * length slots → bitAt slots x ≡ 0
 
@@ -78,7 +78,7 @@ UnhitZero f slots s =
     → symbolRead f slots s ≡ 0
 
 -- the words: bit y of word j is bit y mod m, the first highest, of symbol t = j · S + y / m, which stands at place x = t + (t mod N) · B · N, and so is
--- symbol x mod S behind the W markers of line x / S
+-- symbol x mod S after the W markers of line x / S
 abbrev pub standsAt : Fields → ℕ → ℕ
 standsAt f x = x / perWord f * (perWord f + f .markers) + (f .markers + x % perWord f)
 
@@ -103,7 +103,7 @@ streamRead f slots x = bitAt (words.blockIn (f .rate) (wordRead f slots (x / inf
 abbrev pub FrameMarked : Fields → List ℕ → ℕ → Type 0
 FrameMarked f slots j = (r : ℕ) → r < 32 → streamRead f slots (j * (32 + 8 * f .size) + r) ≡ 0x1ACFFC1D / 2 ^ (31 - r) % 2
 
--- 18: all bits behind the A frames are 0, up to the end of the C blocks of k bits
+-- 18: all bits after the A frames are 0, up to the end of the C blocks of k bits
 abbrev pub FillZero : Fields → List ℕ → Type 0
 FillZero f slots = (x : ℕ) → f .frames * (32 + 8 * f .size) ≤ x → x < blockCount f * infoBits (f .rate) → streamRead f slots x ≡ 0
 
@@ -201,11 +201,11 @@ inputRead rate word = decode rate (words.codedIn word)
 abbrev pub CodedRight : ℕ → List ℕ → ℕ → Type 0
 CodedRight rate word j = words.codedIn word j ≡ encode rate (inputRead rate word) j
 
--- 14: the two bits behind block and check are 0
+-- 14: the two bits after block and check are 0
 abbrev pub Terminated : ℕ → List ℕ → Type 0
 Terminated rate word = (inputRead rate word (infoBits rate + 32) ≡ 0) × (inputRead rate word (infoBits rate + 33) ≡ 0)
 
--- 15: the 32 bits behind the block are the register's
+-- 15: the 32 bits after the block are the register's
 abbrev pub CheckRight : ℕ → List ℕ → Type 0
 CheckRight rate word = val (λ i. inputRead rate word (infoBits rate + i)) 32 ≡ register (inputRead rate word) (infoBits rate)
 

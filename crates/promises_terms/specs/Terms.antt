@@ -1,5 +1,5 @@
 -- What the words mean in which the other promises speak of bits, bytes and lists: each by equations of its own, so that none of them rests on a definition
--- elsewhere. `getD xs i 0` is element i of a list, or 0 behind its end, and `length`, `take`, `drop` and `bitXor`, the sum of bits place by place, are the kit's.
+-- elsewhere. `getD xs i 0` is element i of a list, or 0 after its end, and `length`, `take`, `drop` and `bitXor`, the sum of bits place by place, are the kit's.
 -- The words of questions and answers are in Demand1.
 use mathlib.Core.Path.{_≡_}
 use mathlib.Core.Bool.{Bool, true, false}
@@ -24,7 +24,7 @@ ValIs = (f : ℕ → ℕ) (n : ℕ) → (val f 0 ≡ 0) × (val f (suc n) ≡ va
 abbrev pub BytesOfIs : Type 0
 BytesOfIs = (n : ℕ) (f : ℕ → ℕ) → (length (bytesOf n f) ≡ n) × ((i : ℕ) → i < n → getD (bytesOf n f) i 0 ≡ val (λ t. f (8 * i + t)) 8)
 
--- the first m bits of x, and zeros behind them
+-- the first m bits of x, and zeros after them
 abbrev pub CutIs : Type 0
 CutIs = (m : ℕ) (x : ℕ → ℕ) (i : ℕ) → (i < m → cut m x i ≡ x i) × (m ≤ i → cut m x i ≡ 0)
 

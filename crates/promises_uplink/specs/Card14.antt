@@ -33,7 +33,7 @@ FrameFirst = (u : ℕ → ℕ) (j : ℕ) → j < 64 → codeword u j ≡ u j
 abbrev pub ParityBehind : Type 0
 ParityBehind = (u : ℕ → ℕ) (t : ℕ) → codeword u (64 + t) ≡ parityBit u t
 
--- here in figures: the parity bits of bits 0, 16, 32 and 48, first bit highest; those of the fifteen bits behind each are those of the bit before,
+-- here in figures: the parity bits of bits 0, 16, 32 and 48, first bit highest; those of the fifteen bits after each are those of the bit before,
 -- each of the four pieces of 16 turned right by one
 abbrev pub ParityIs : Type 0
 ParityIs =

@@ -22,7 +22,7 @@ use Rattle.stream_writer.specs.Stream as streams
 use Rattle.stream_reader.specs.Frames.{frameMarked}
 
 -- "Step 7 moves ahead of step 2, restarts at each block, and the accumulator's output is the word": steps 7, 2, 3, 4, 5 and 6 of one block, whose
--- bits get the sequence from its start, and nothing behind them.
+-- bits get the sequence from its start, and nothing after them.
 abbrev pub WordIsMade : Type 0
 WordIsMade =
     (rate : ℕ) (block : List ℕ)

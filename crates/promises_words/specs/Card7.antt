@@ -3,7 +3,7 @@
 -- sum rule, the distances and the block that a read returns are meant over those k bits."
 --
 -- The sum rule and the distances are `sums` and `distances` of Demand3; the block that a read returns is `word-written-read` and `word-whole` of
--- Demand2. A packed block has 626, 941 or 1256 bytes (`blockBytes`); its first k bits are the information block (`infoBits`) and the two behind them
+-- Demand2. A packed block has 626, 941 or 1256 bytes (`blockBytes`); its first k bits are the information block (`infoBits`) and the two after them
 -- are spare. `SpareZero` says that these are 0.
 use mathlib.Core.Path.{_≡_}
 use mathlib.Core.Bool.{true}

@@ -1,4 +1,5 @@
+-- Laws that other crates or several proofs cite, each after those that it rests on.
 pub mod Refusals
-pub mod Places
 pub mod Return
+pub mod Places
 pub mod Steps

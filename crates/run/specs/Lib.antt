@@ -1,2 +1,3 @@
+-- Definitions, in the order in which to read them.
 pub mod Run
 pub mod Steps

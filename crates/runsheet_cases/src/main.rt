@@ -1,4 +1,4 @@
-// Prints what `runsheet` prints of each file that is named as an argument, behind the file's name.
+// Prints what `runsheet` prints of each file that is named as an argument, after the file's name.
 use libc::STDOUT_FILENO;
 
 fn print_line(fd: i32) {

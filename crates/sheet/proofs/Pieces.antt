@@ -34,7 +34,7 @@ put-more before piece after at i l m e =
     ∙ append-assoc (take at before) (take i piece) (getD piece i 0 ∷ [])
     ∙ ap (λ (x : List ℕ). take at before ++ x) (sym (take-suc piece i 0 l)))
 
--- a piece behind a piece
+-- a piece after a piece
 pub put-put : (a b c x y : List ℕ) (at mid next : ℕ) → Put a at x b mid → Put b mid y c next → Put a at (x ++ y) c next
 put-put a b c x y at mid next p q = record {
   next-is = q .next-is ∙ ap (λ (n : ℕ). n + length y) (p .next-is) ∙ simp length-append (omega arith);
@@ -52,7 +52,7 @@ pub item-short : (n : ℕ) → length (item n) ≤ 21
 unfolding item
 item-short n = let l = decimal-short n in omega arith
 
--- a number behind a space, put in two
+-- a number after a space, put in two
 pub put-spaced : (a c : List ℕ) (at n next : ℕ) → at < length a → Put (set a at space) (at + 1) (decimal n) c next → Put a at (item n) c next
 unfolding item
 put-spaced a c at n next l q = put-put a (set a at space) c (space ∷ []) (decimal n) at (at + 1) next (put-byte a at space l) q

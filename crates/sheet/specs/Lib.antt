@@ -1,3 +1,4 @@
+-- Definitions, in the order in which to read them; Inner has the words of private contracts.
 pub mod Text
 pub mod Line
 pub mod Inner

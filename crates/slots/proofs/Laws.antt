@@ -1,3 +1,4 @@
+-- Laws that other crates or several proofs cite, each after those that it rests on.
 pub mod Bounds
-pub mod Return
 pub mod Slots
+pub mod Return

@@ -12,7 +12,7 @@ use Rattle.plan.specs.Plan.{sentCount}
 use Rattle.answers.specs.declared.Answer.{Answer}
 use Rattle.answers.specs.Answer.{ask, then}
 
--- question 9: are the spare bits behind the last slot empty?
+-- question 9: are the spare bits after the last slot empty?
 abbrev pub spareSlotsEmpty : Plan → List ℕ → Bool
 spareSlotsEmpty p b = pulses.spareEmpty (p .group) (sentCount p) b
 

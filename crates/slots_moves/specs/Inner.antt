@@ -25,7 +25,7 @@ pub record Of (p : Plan) (copies group s q : ℕ) : Type 0 where
   pub among : s < layoutSymbols (p .layout)
   pub small : q < p .group
 
--- the first `end` bytes hold groups with pulses at f 0, f 1, ..; those behind hold anything
+-- the first `end` bytes hold groups with pulses at f 0, f 1, ..; those after hold anything
 pub record Groups (p : Plan) (f : ℕ → ℕ) (end : ℕ) (slots : List ℕ) : Type 0 where
   pub room : length slots ≡ slotBytes p
   pub bytes : Bytes slots
@@ -39,7 +39,7 @@ Holds p f end slots = Groups p (λ u. f (u / p .copies)) end slots
 pub record Moved (p : Plan) (s q : ℕ) (before after : List ℕ) : Type 0 where
   pub becomes : (f g : ℕ → ℕ) (end : ℕ) → f s ≡ 0 → g s ≡ q → ((u : ℕ) → (u ≡ s → ⊥) → f u ≡ g u) → Holds p f end before → Holds p g end after
 
--- the first n symbols of a run, and zeros behind them
+-- the first n symbols of a run, and zeros after them
 abbrev pub front : Plan → (ℕ → List ℕ) → ℕ → ℕ → ℕ
 front p word n s = cut n (symbolAt p word) s
 

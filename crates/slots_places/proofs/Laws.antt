@@ -1,2 +1,3 @@
-pub mod Passing
+-- Laws that other crates or several proofs cite, each after those that it rests on.
 pub mod Taken
+pub mod Passing

@@ -20,7 +20,7 @@ pub record Stretch (p : Plan) (b : List ℕ) (from to : ℕ) : Type 0 where
   pub near : to ≤ from + unit (p .layout)
   pub passed : (s : ℕ) → from ≤ s → s < to → pooledIn p b s < p .order
 
--- room for the words, and a byte behind them, all 0
+-- room for the words, and a byte after them, all 0
 pub record Cleared (p : Plan) (words : List ℕ) : Type 0 where
   pub room : p .layout .words * wordBytes < length words
   pub empty : (k : ℕ) → getD words k 0 ≡ 0
@@ -31,7 +31,7 @@ pub record Cleared (p : Plan) (words : List ℕ) : Type 0 where
 unfoldable pub takenBit : Plan → List ℕ → ℕ → ℕ → ℕ
 takenBit p b s y = pick (ltb (symbolOf (p .layout) (place (p .layout) (y / p .bits))) s) (dataIn p b (y / p .bits) / 2 ^ (p .bits - 1 - y % p .bits) % 2) 0
 
--- the words lie back to back, with a byte behind them
+-- the words lie back to back, with a byte after them
 pub record Took (p : Plan) (b : List ℕ) (s : ℕ) (words : List ℕ) : Type 0 where
   pub room : p .layout .words * wordBytes < length words
   pub right : (y : ℕ) → y < p .layout .words * wordBits → bitAt words y ≡ takenBit p b s y

@@ -60,7 +60,7 @@ fn mark_right(p: plan::Plan, b: &[u8], line: usize, w: usize) -> u8
     is_symbol(p, b, s, q)
 }
 
-// The first wrong marker symbol of a line, or the symbol behind them.
+// The first wrong marker symbol of a line, or the symbol after them.
 fn bad_mark_in(p: plan::Plan, b: &[u8], line: usize) -> usize
     requires { ⌜ Grouped p (now b) × (line < p .layout .lines) ⌝ }
     ensures { λ r. ⌜ r ≡ upTo (markRight (p .layout) (p .marks) (pooledIn p (now (b .entry)))) (line * unit (p .layout)) (line * unit (p .layout) + p .layout .markers) ⌝ }

@@ -45,7 +45,7 @@ module _ (rate n : ℕ) (blocks : List ℕ) (at : Position) (h : HeldAt rate blo
   pub piece-le : at .piece ≤ 210
   piece-le = let p = piece-in in let t = h .held .lie .pieces2 in omega arith
 
-  -- m bytes of the block from the place on, and the byte behind them, lie in the blocks
+  -- m bytes of the block from the place on, and the byte after them, lie in the blocks
   pub stretch-in : (m : ℕ) → at .bit + 8 * m ≤ infoBits rate → (at .piece * (8 * blockBytes rate) + at .bit) / 8 + m < length blocks
   stretch-in m l =
       let p : (at .piece + 1) * blockBytes rate ≤ h .held .pieces * blockBytes rate = mul-le-mul piece-in (le-refl (blockBytes rate)) in

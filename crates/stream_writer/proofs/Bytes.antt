@@ -1,4 +1,4 @@
--- Bytes of the stream, by where they lie: in the marker, in a frame, behind the last frame.
+-- Bytes of the stream, by where they lie: in the marker, in a frame, after the last frame.
 use mathlib.Core.Path.{_≡_, sym, ap, subst, _∙_}
 use mathlib.Core.List.{List}
 use Prim.Native.Nat.{ℕ, _+_, _-_, _*_, _/_, _≤_, _<_}
@@ -38,7 +38,7 @@ module _ (size count : ℕ) (frames : List ℕ) where
       let b : j * span size + (markerBits + (r - markerBits + t)) ≡ j * span size + r + t = omega arith in
       ap (bitAt frames) a ∙ sym (stream-frame size count frames j (r - markerBits + t) h (omega arith)) ∙ ap (streamBit size count frames) b
 
-  -- n bytes that lie together, and the byte behind them, lie in the frames
+  -- n bytes that lie together, and the byte after them, lie in the frames
   pub together-inside : (at : Position) (most n : ℕ) → Frames size count frames → Together size count at most n → 1 ≤ n
       → (at .piece * (8 * size) + (at .bit - markerBits)) / 8 + n < length frames
   together-inside at most n f t h =

@@ -30,7 +30,7 @@ lowOf e m a b = bitOr (bitAnd a m) (bitAnd b m * 2 ^ e % 2 ^ 8)
 unfoldable pub highOf : ℕ → ℕ → ℕ → ℕ → ℕ
 highOf e m a b = bitOr (bitAnd (a / 2 ^ e) m) (bitAnd b (m * 2 ^ e % 2 ^ 8))
 
--- n bytes from `at` on have done so with those d bytes behind them; all others are as they were
+-- n bytes from `at` on have done so with those d bytes after them; all others are as they were
 pub record Exchanged (e m d at n : ℕ) (before after : List ℕ) : Type 0 where
   pub long : length after ≡ length before
   pub low : (y : ℕ) → at ≤ y → y < at + n → getD after y 0 ≡ lowOf e m (getD before y 0) (getD before (y + d) 0)

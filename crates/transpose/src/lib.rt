@@ -7,12 +7,12 @@
 //     row 7   h7 .. h1 h0          row 7   h7 .. b7 a7
 //
 // By fours, then by twos, then one by one: in a stage of e the upper e of 2 e bits in the first e of 2 e rows change places with the
-// lower e bits in the e rows behind them. All w squares go through a stage together.
+// lower e bits in the e rows after them. All w squares go through a stage together.
 ghost use Prim.Native.Nat.{_+_, _*_, _≤_};
 ghost use lib.ListN.{length};
 ghost use Rattle.transpose.specs.Inner.{Mask, Exchanged, Stage, Transposed};
 
-// The d bytes from `at` on and the d behind them: e bits of each change places, those that the mask has not in the first and those that it has
+// The d bytes from `at` on and the d after them: e bits of each change places, those that the mask has not in the first and those that it has
 // in the second.
 fn exchanged(s: &mut [u8], at: usize, d: usize, e: usize, m: u8)
     requires { ⌜ Mask e m × (at + 2 * d ≤ length (now s)) ⌝ }

@@ -15,7 +15,7 @@ pub zero-frame : take 8 (uplinkSlotsOf (replicate 8 0)) ≡ 0x44 ∷ 0x44 ∷ 0x
 unfolding tab val bitAt bytesOf xorSum next window sequence randomize rows rowBit parityBit codeword codeblock sentBit slotOf uplinkSlotsOf
 zero-frame = refl
 
--- a second frame begins anew: behind one zero frame, another is sent as the sequence from its start
+-- a second frame begins anew: after one zero frame, another is sent as the sequence from its start
 pub zero-again : val (λ t. sentBit (replicate 16 0) (128 + t)) 64 ≡ 0xFF480EC09A0D70BC
 unfolding val bitAt xorSum next window sequence randomize rows rowBit parityBit codeword codeblock sentBit
 zero-again = refl

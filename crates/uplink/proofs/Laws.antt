@@ -1,3 +1,4 @@
+-- Laws that other crates or several proofs cite, each after those that it rests on.
+pub mod Uplink
 pub mod Exports
 pub mod Return
-pub mod Uplink

@@ -81,7 +81,7 @@ module _ (frames : List ℕ) (i frame : ℕ) (e : frame ≡ val (frameBit frames
       (parity-same (bitOf frame) (frameBit frames i) frame-bit t
       ∙ sym (codeword-behind (frameBit frames i) (64 + t) (omega arith) ∙ ap (parityBit (frameBit frames i)) d)))
 
-  -- both halves, laid one behind the other
+  -- both halves, laid one after the other
   pub halves-laid : (before middle after : List ℕ) (at parity : ℕ) → parity ≡ val (parityBit (bitOf frame)) 64
       → Laid before at 32 (slotOf (bitOf (bitXor frame 0xFF480EC09A0D70BC))) middle
       → Laid middle (at + 32) 32 (slotOf (bitOf (bitXor parity 0x8E2C93ADA7B746CE))) after

@@ -28,7 +28,7 @@ pub order-example-2 : (val (checkedBlock 0 []) 16 ≡ 0xFF48) × (register (take
 unfolding checkedBlock checked takenIn register advance randomize sequence window next bitAt infoBits val
 order-example-2 = (refl, refl)
 
--- step 5 before step 6, and nothing behind it: coded bit 221 alone goes to place 1, and from there on the accumulator turns every bit over
+-- step 5 before step 6, and nothing after it: coded bit 221 alone goes to place 1, and from there on the accumulator turns every bit over
 pub order-example-5 : val (shuffled (λ i. bool (eqb i 221))) 16 ≡ 0x7FFF
 unfolding shuffled accumulate interleave sourceBit val
 order-example-5 = refl

@@ -24,7 +24,7 @@ use Rattle.answers.specs.Answer.{ask, then}
 unfoldable pub takenIn : List ℕ → ℕ → ℕ
 takenIn block = randomize (bitAt block)
 
--- step 2: the k bits, and their check behind them
+-- step 2: the k bits, and their check after them
 unfoldable pub checkedBlock : ℕ → List ℕ → ℕ → ℕ
 checkedBlock rate block = checked (infoBits rate) (takenIn block)
 

@@ -51,13 +51,13 @@ column f x = val (λ t. f (x + rowBits * (6 - t))) 7
 abbrev pub turnOf : ℕ → ℕ
 turnOf v = v / 2 + v % 2 * 64
 
--- of the first n numbers, m stand turned behind them
+-- of the first n numbers, m stand turned after them
 pub record Turned (n m : ℕ) (before after : List ℕ) : Type 0 where
   pub long : length after ≡ length before
   pub earlier : (k : ℕ) → k < n → getD after k 0 ≡ getD before k 0
   pub here : (x : ℕ) → x < m → getD after (n + x) 0 ≡ turnOf (getD before x 0)
 
--- planes, each with its numbers turned behind it
+-- planes, each with its numbers turned after it
 unfoldable pub doubledAt : List ℕ → ℕ → ℕ
 doubledAt planes y =
     pick (ltb (y % (2 * planeBytes)) planeBytes) (getD planes (planeBytes * (y / (2 * planeBytes)) + y % (2 * planeBytes)) 0)
@@ -73,7 +73,7 @@ nineOf by k = lineBytes * (by * (k / lineBytes) % wordLines) + k % lineBytes
 abbrev pub roll : ℕ → ℕ
 roll v = v / 64 + v % 64 * 2
 
--- m masks behind those of the first bit are each the one before it, rolled
+-- m masks after those of the first bit are each the one before it, rolled
 pub record Rolled (m : ℕ) (before after : List ℕ) : Type 0 where
   pub long : length after ≡ length before
   pub first : (y : ℕ) → y < twoLines → getD after y 0 ≡ getD before y 0

@@ -44,12 +44,12 @@ pub const ROW_TWOS: usize = LINES / 2;
 
 pub const WORD_TWOS: usize = WORD_LINES / 2;
 
-// A mask for each row and each column of two lines; those of the rows behind the first.
+// A mask for each row and each column of two lines; those of the rows after the first.
 pub const MASKS: usize = ROWS * TWO_LINES;
 
 pub const FURTHER_MASKS: usize = MASKS - TWO_LINES;
 
-// Numbers, and behind them the same numbers from the next row on: a column that passes the last line goes on there.
+// Numbers, and after them the same numbers from the next row on: a column that passes the last line goes on there.
 pub const DOUBLE_ROW: usize = 2 * ROW;
 
 pub const DOUBLE_PLANE: usize = 2 * PLANE;

@@ -1,5 +1,5 @@
 // For each of the seven rows and each column of two lines a byte with one bit: the bit of a number that this row fills in this column.
-// In goes that bit for the first row, column by column; each further row's is one up, and behind the seventh comes the first again.
+// In goes that bit for the first row, column by column; each further row's is one up, and after the seventh comes the first again.
 //
 //     row 0   2^e(b)              for each column b of two lines: 144 bytes
 //     row 1   2^(e(b) + 1 mod 7)

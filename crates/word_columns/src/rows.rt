@@ -1,4 +1,4 @@
-// Numbers from the next row on, behind those that there are; and the lines of a packed word in another order.
+// Numbers from the next row on, after those that there are; and the lines of a packed word in another order.
 //
 //     in    n(0)  n(1)  ..  n(last)
 //     out   n(0)  n(1)  ..  n(last)  t(0)  t(1)  ..  t(last)        t: the seven bits of n from the next row on
@@ -20,7 +20,7 @@ fn turn(b: u8) -> u8
     (b >> 1) + ((b & 1) << 6)
 }
 
-// The first n numbers once more behind themselves, turned.
+// The first n numbers once more after themselves, turned.
 pub fn turned(v: &mut [u8], n: usize)
     requires { ⌜ n + n ≤ length (now v) ⌝ }
     ensures { λ _. ⌜ Turned n n (now (v .entry)) (now (v .exit)) ⌝ }
@@ -32,7 +32,7 @@ pub fn turned(v: &mut [u8], n: usize)
     }
 }
 
-// Plane m, and behind it its numbers turned.
+// Plane m, and after it its numbers turned.
 fn plane(planes: &[u8], m: usize, v: &mut [u8])
     requires { ⌜ (length (now planes) ≡ rowBits) × (m < 8) × (length (now v) ≡ 2 * rowBits) × Filled (doubledAt (now planes)) (now v) (2 * planeBytes * m) ⌝ }
     ensures { λ _. ⌜ Filled (doubledAt (now (planes .entry))) (now (v .exit)) (2 * planeBytes * m + 2 * planeBytes) ⌝ }

@@ -31,7 +31,7 @@ fn write_says(rate: u64, block: &[u8], word_length: usize) -> Answer
     Answer::Done
 }
 
-// Steps 2 and 3: the check of the first k bits behind them, and two zeros.
+// Steps 2 and 3: the check of the first k bits after them, and two zeros.
 fn add_check(rate: u64, input: &mut [u8])
     requires { ⌜ Checks rate (now input) ⌝ }
     ensures { λ _. ⌜ ((i : ℕ) → i < inputBits rate → bitAt (now (input .exit)) i ≡ terminated (infoBits rate + 32) (checked (infoBits rate) (bitAt (now (input .entry)))) i) ⌝ }

@@ -1,3 +1,4 @@
+-- Each row is a worked value of a step, which antt computes.
 use Rattle.bench_table.proofs.Table.{rows, bench, sent-twice}
 use Rattle.bench_table.proofs.bench_table.Statement.{statement}
 use Rattle.bench_table.proofs.bench_table.Tie as tie

@@ -25,7 +25,7 @@ xor-sum-on f m (suc n) =
     rw add-suc
     (ap (λ (s : ℕ). bitXor s (f (m + n))) (xor-sum-on f m n) ∙ xor-assoc (xorSum f m) (xorSum (λ i. f (m + i)) n) (f (m + n)))
 
--- the first of them, where the one behind them is 0
+-- the first of them, where the one after them is 0
 pub xor-sum-first : (f : ℕ → ℕ) (n : ℕ) → f n ≡ 0 → xorSum f n ≡ bitXor (f 0) (xorSum (λ i. f (suc i)) n)
 unfolding xorSum
 xor-sum-first f n z =

@@ -160,7 +160,7 @@ module _ (t : ℕ → Bool) (size end count : ℕ) where
               ∙ sought .left;
         }
 
-  -- all parts passed, with nothing behind them
+  -- all parts passed, with nothing after them
   pub sought-end : (c : ℕ) → Sought t size end count c → c * size ≡ end → c * size ≡ upTo t 0 end
   sought-end c sought e = e ∙ sym (first-end t end (c * size) (omega arith) (omega arith)) ∙ sought .left
 
@@ -173,7 +173,7 @@ pub record FirstOne (x : ℕ → ℕ) (n : ℕ) : Type 0 where
   pub one : x at ≡ 1
   pub quiet : (k : ℕ) → k < at → x k ≡ 0
 
--- and another at least 32 places behind it
+-- and another at least 32 places after it
 pub record FarOnes (x : ℕ → ℕ) (n : ℕ) : Type 0 where
   pub first : FirstOne x n
   pub other : ℕ

@@ -18,7 +18,7 @@ val-split f a (suc n) =
     let e : a + suc n ≡ suc (a + n) = omega arith in
     rw (e, pow-suc) (let r = val-split f a n in omega arith)
 
--- shifted down by the d bits behind them and masked, the n bits from `at` on are left
+-- shifted down by the d bits after them and masked, the n bits from `at` on are left
 pub val-part : (f : ℕ → ℕ) → Bits f → (at n d : ℕ) → val f (at + n + d) / 2 ^ d % 2 ^ n ≡ val (λ t. f (at + t)) n
 val-part f b at n d =
     rw (val-split f (at + n) d, high (val f (at + n)) d (val-lt (λ t. f (at + n + t)) (λ t. b (at + n + t)) d), val-split f at n)
@@ -70,7 +70,7 @@ unfolding val
 val-times b f zero = omega arith
 val-times b f (suc n) = let e = val-times b f n in omega (arith, mul-add b (val f n * 2) (f n), mul-assoc b (val f n) 2)
 
--- ---- zeros behind
+-- ---- zeros after
 
 pub val-none : (f : ℕ → ℕ) (n : ℕ) → ((i : ℕ) → i < n → f i ≡ 0) → val f n ≡ 0
 unfolding val
@@ -82,7 +82,7 @@ pub none-val : (f : ℕ → ℕ) → Bits f → (n : ℕ) → val f n ≡ 0 → 
 none-val f b n e i l =
     sym (bit-val f b (n - 1 - i) i n (omega arith)) ∙ ap (λ (v : ℕ). v / 2 ^ (n - 1 - i) % 2) e ∙ ap (λ (v : ℕ). v % 2) (zero-div (2 ^ (n - 1 - i)))
 
--- a number with zeros behind it is shifted up
+-- a number with zeros after it is shifted up
 pub val-cut : (f : ℕ → ℕ) (m n : ℕ) → m ≤ n → val (cut m f) n ≡ val f m * 2 ^ (n - m)
 val-cut f m n h =
     let e : n ≡ m + (n - m) = omega arith in
@@ -90,7 +90,7 @@ val-cut f m n h =
     let same : val (cut m f) m ≡ val f m = val-same (cut m f) f m (λ i l. cut-in m f i l) in
     ap (val (cut m f)) e ∙ val-split (cut m f) m (n - m) ∙ ap₂ (λ (x y : ℕ). x * 2 ^ (n - m) + y) same none ∙ omega arith
 
--- `v << r` on n bits: the first r bits are gone, and zeros stand behind the others
+-- `v << r` on n bits: the first r bits are gone, and zeros come after the others
 pub val-shift : (f : ℕ → ℕ) → Bits f → (r n : ℕ) → r ≤ n → val f n * 2 ^ r % 2 ^ n ≡ val (cut (n - r) (λ t. f (r + t))) n
 val-shift f b r n h =
     let rest : ℕ = val (λ t. f (r + t)) (n - r) in

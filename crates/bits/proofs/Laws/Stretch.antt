@@ -14,7 +14,7 @@ use Rattle.bits.specs.Inner.{Laid}
 pub laid-none : (before : List ℕ) (at : ℕ) (f : ℕ → ℕ) → Laid before at 0 f before
 laid-none before at f = record { long = refl; earlier = λ k l. refl; here = λ t l. absurd (omega arith); later = λ k l. refl }
 
--- more bytes behind those that are laid
+-- more bytes after those that are laid
 pub laid-on : (before middle after : List ℕ) (at m n : ℕ) (f g : ℕ → ℕ) → Laid before at m f middle → Laid middle (at + m) n g after
     → ((u : ℕ) → u < 8 * n → g u ≡ f (8 * m + u)) → Laid before at (m + n) f after
 laid-on before middle after at m n f g p q same =

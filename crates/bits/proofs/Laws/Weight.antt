@@ -63,7 +63,7 @@ weight-still f a zero h = ap (weight f) (add-zero a)
 weight-still f a (suc n) h =
     rw (add-suc a n) (omega (arith, weight-still f a n (λ i l u. h i l (omega arith)), h (a + n) (omega arith) (omega arith)))
 
--- so a bound grows by the places behind a stretch of zeros alone
+-- so a bound grows by the places after a stretch of zeros alone
 pub weight-past : (f : ℕ → ℕ) → Bits f → (a b n w : ℕ) → a ≤ b → b ≤ n → weight f a ≤ w → ((i : ℕ) → a ≤ i → i < b → f i ≡ 0) → weight f n ≤ w + (n - b)
 weight-past f h a b n w ab bn bound none =
     let eb : a + (b - a) ≡ b = omega arith in

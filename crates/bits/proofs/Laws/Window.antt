@@ -42,7 +42,7 @@ window-pass b x end w h m e =
     ∙ sym (cut-in w (bitsFrom b x) (k - x) (omega arith))
     ∙ no-one (cut w (bitsFrom b x)) (cut-bits w (bitsFrom b x) bits) e (k - x) (omega arith)))
 
--- a window with a one in it shows the next one, if that is not behind the end
+-- a window with a one in it shows the next one, if that is not after the end
 pub window-stop : (b : List ℕ) (x end w r : ℕ) → x ≤ end → Leads 64 (val (cut w (bitsFrom b x)) 64) r → upTo (clearAt b) x end ≡ x + lesser r (end - x)
 unfolding lesser
 window-stop b x end w r h l =

@@ -1,4 +1,4 @@
--- How far apart coded bits are: an input difference that has a 1 at least 32 places behind its first 1, and ends in two zeros, has a coded
+-- How far apart coded bits are: an input difference that has a 1 at least 32 places after its first 1, and ends in two zeros, has a coded
 -- difference of at least 16, 10 or 6 ones.
 --
 -- The walk through the code's states takes two input bits a step. The state before input bit i is (δ (i-1), δ (i-2)). `gained` bounds from
@@ -241,7 +241,7 @@ module _ (δ : ℕ → ℕ) (bits : Bits δ) where
       let e : made r (newer p) (older p) u v ≡ made r 0 0 u v = ap₂ (λ (a b : ℕ). made r a b u v) (z .0) (z .1) in
       omega (arith, after, ones-grow r p h, e, left r u v h (bits (2 * p)) (bits (suc (2 * p))) (loud (f .at) (f .one)))
 
-  -- after a 1 at least 32 places behind it, a free distance is made besides
+  -- after a 1 at least 32 places after it, a free distance is made besides
   far-on : (r n : ℕ) → r < 3 → (f : FarOnes δ n)
       → distance r + gained r (newer (suc (f .other / 2))) (older (suc (f .other / 2))) ≤ ones r (suc (f .other / 2))
   far-on r n h f =

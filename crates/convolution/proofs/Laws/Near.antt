@@ -45,7 +45,7 @@ module _ (δ : ℕ → ℕ) (bits : Bits δ) where
     unfolding second
     second-one = ap₂ bitXor (ap₂ bitXor one (quiet-delay δ i quiet)) (quiet-delay2 δ i quiet)
 
-    -- and of the bit behind it: the first is that bit, the second its opposite
+    -- and of the bit after it: the first is that bit, the second its opposite
     first-next : first δ (suc i) ≡ δ (suc i)
     unfolding first delay
     first-next = ap (λ (d : ℕ). bitXor (δ (suc i)) d) (quiet-delay δ i quiet) ∙ xor-zero-r (δ (suc i))

@@ -10,7 +10,7 @@ use Rattle.bits.proofs.Laws.Sum.{xor-cross, xor-bit, xor-digit, sum3, sum3-self
 use Rattle.bits.specs.Pack.{Bits, val}
 use Rattle.crc.specs.Check.{polynomial, advance, register, checkBit, checked}
 
--- the single bit 1, and its check field FFFFFFFE behind it: all ones, and then the 0
+-- the single bit 1, and its check field FFFFFFFE after it: all ones, and then the 0
 pub check-example : val (checked 1 (λ i. 1)) 33 ≡ 0x1FFFFFFFE
 unfolding checked checkBit register advance val
 check-example = refl

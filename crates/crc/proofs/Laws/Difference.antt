@@ -44,7 +44,7 @@ registers-plus x y hx hy n =
     ∙ sym (advances-plus 0xFFFFFFFF 0xFFFFFFFF x y (omega arith) (omega arith) hx hy n)
     ∙ ap (λ (r : ℕ). advances r (λ i. bitXor (x i) (y i)) n) (xor-self 0xFFFFFFFF)
 
--- and so do the bits with their check behind them
+-- and so do the bits with their check after them
 pub checked-plus : (k : ℕ) (x y : ℕ → ℕ) → Bits x → Bits y → (i : ℕ)
     → bitXor (checked k x i) (checked k y i) ≡ checkedChange k (λ i. bitXor (x i) (y i)) i
 checked-plus k x y hx hy i =

@@ -135,7 +135,7 @@ burst-found δ h n start within i l one e =
     sym (cut-in n δ i l) ∙ ap d (sym here) ∙ zeros-alone (λ t. d (start + t)) (λ t. hd (start + t)) alone (i - start) (omega arith) in
     omega arith
 
--- so ones after which a register of zeros is one of zeros again are not all so near: one is at least 32 places behind the first
+-- so ones after which a register of zeros is one of zeros again are not all so near: one is at least 32 places after the first
 pub spans : (δ : ℕ → ℕ) → Bits δ → (n : ℕ) → advances 0 δ n ≡ 0 → (i : ℕ) → i < n → δ i ≡ 1 → FarOnes δ n
 spans δ h n e i l one =
     ⊎-elim (λ (f : FirstOne δ n). second f)
@@ -175,7 +175,7 @@ registers-differ x y hx hy n start within i l ne e =
     (⊎-elim (λ (z : δ i ≡ 0). absurd (ne (same-xor (x i) (y i) z))) (λ (o : δ i ≡ 1). o) (bit-cases (δ i) (hδ i)))
     (sym (registers-plus x y hx hy n) ∙ xor-same (register x n) (register y n) e)
 
--- k bits and the check field behind them leave a register of zeros
+-- k bits and the check field after them leave a register of zeros
 pub field-zero : (x : ℕ → ℕ) → Bits x → (k : ℕ) → val (λ t. x (k + t)) 32 ≡ register x k → register x (k + 32) ≡ 0
 unfolding checkBit
 field-zero x h k e =

@@ -37,7 +37,7 @@ givenAt rows late q n = given rows late n (q n) (areaAt rows late q n)
 -- Where the rows lie, what an accepted step is known to be, and that the answers fit the number that C gets.
 
 module _ (late : ℕ → ℕ) where
-  -- a row begins behind the one before it, and behind all of those
+  -- a row begins after the one before it, and after all of those
   pub begin-next : (i : ℕ) → begin late (i + 1) ≡ begin late i + late i
   unfolding begin
   begin-next i = rw (add-one i) refl

@@ -1,5 +1,5 @@
 -- What the lines give, told 0, 1, 2 and so on: each row its own symbols, as many turns late as it has bytes, and zeros before them. So the writing side gives step 9's
--- places, and the reading side behind it the writer's symbols.
+-- places, and the reading side after it the writer's symbols.
 use mathlib.Core.Path.{_≡_, refl, sym, ap, _∙_}
 use mathlib.Core.List.{List}
 use mathlib.Core.Logic.{⊎-elim}
@@ -172,7 +172,7 @@ module _ (rows step : ℕ) (least : 1 ≤ rows) (q : ℕ → ℕ) where
       let whole : (n + r) * (step * rows) ≡ (rows - 1) * (step * rows) = ap (λ (k : ℕ). k * (step * rows)) e in
       omega (arith, mul-assoc n step rows, mul-assoc r step rows, add-mul n r (step * rows))
 
-  -- what the reading side gives behind it is the writer's symbols, N (N - 1) B steps late, and zeros before them
+  -- what the reading side gives after it is the writer's symbols, N (N - 1) B steps late, and zeros before them
   pub through : (n : ℕ) → givenAt rows (lag Reading rows step) (givenAt rows (lag Writing rows step) q) (n + (rows - 1) * (step * rows)) ≡ q n
   through n =
       let late : ℕ → ℕ = lag Reading rows step in

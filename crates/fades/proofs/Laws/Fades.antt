@@ -64,7 +64,7 @@ module _ (first size : ℕ) (rest : List ℕ) where
       let f : suc (suc (2 * i)) + 1 ≡ suc (suc (2 * i + 1)) = omega arith in
       rw (e, f) refl
 
--- behind `end`
+-- after `end`
 record Behind (n end : ℕ) (fades : List ℕ) : Type 0 where
   pub rules : Rules n fades
   pub begins : 0 < length fades → end ≤ firstOf fades 0

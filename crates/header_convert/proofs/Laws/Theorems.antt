@@ -1,4 +1,4 @@
--- Each trip undoes the other, since the 48 bits stay and what is behind them is known.
+-- Each trip undoes the other, since the 48 bits stay and what is after them is known.
 use mathlib.Core.Path.{_≡_, refl, sym, ap, _∙_}
 use mathlib.Core.Bool.{Bool}
 use mathlib.Core.List.{List}
@@ -118,7 +118,7 @@ narrow-long : (header : List ℕ) → length (narrowed header) ≡ 8
 unfolding narrowed
 narrow-long header = length-bytes 8 (cut 48 (bitAt header))
 
--- ---- what stands behind the 48 bits of a header that is accepted
+-- ---- what comes after the 48 bits of a header that is accepted
 
 old-behind : (old : List ℕ) → oldSpareOf old ≡ 0 → (j : ℕ) → 48 ≤ j → j < 64 → bitAt old j ≡ 0
 unfolding oldSpareOf field

@@ -10,7 +10,7 @@ use Rattle.answers.specs.Answer.{ask, then}
 use Rattle.answers.proofs.Laws.Answer.{then-then}
 use Rattle.header_questions.specs.Questions.{question1, question2, question3, question4, question5, question6, question7, question20, fieldsSay, formSays, headerSays}
 
--- 1, of ten bytes or of eight, then 2 to 7, and whatever is asked behind them
+-- 1, of ten bytes or of eight, then 2 to 7, and whatever is asked after them
 pub asks-on : (one : Bool) (f : Fields) (rest : Answer)
     → then (then (ask one 1 0) (fieldsSay f)) rest
     ≡ then (ask one 1 0)

@@ -26,7 +26,7 @@ use Rattle.parameters.specs.Inner.{checkedOf, checked}
 use Rattle.parameters.specs.declared.Parameters.{Parameters}
 use Rattle.parameters.specs.declared.Checked.{Checked}
 
--- the checked parameters: 32 bytes, the lent symbols first, zeros behind them, all below M
+-- the checked parameters: 32 bytes, the lent symbols first, zeros after them, all below M
 pub record CarriesMarks (f : Fields) (marker : List ℕ) (p : Parameters) : Type 0 where
   pub fields : p .fields ≡ f
   pub long : length (p .marks) ≡ 32

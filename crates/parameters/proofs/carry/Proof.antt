@@ -1,4 +1,4 @@
--- The symbols passed stand in place, and zeros behind them.
+-- The symbols passed stand in place, and zeros after them.
 use mathlib.Core.Path.{_≡_, refl, sym, ap, _∙_}
 use Prim.Native.Nat.{ℕ, _-_, _≤_, _<_}
 use native.Mathlib.Omega.{arith}

@@ -1,4 +1,4 @@
--- The starts of a short capture with zeros behind it are those of the capture.
+-- The starts of a short capture with zeros after it are those of the capture.
 use mathlib.Core.Path.{_≡_, _∙_}
 use Prim.Native.Nat.{ℕ}
 use native.Mathlib.Omega.{arith}

@@ -31,7 +31,7 @@ module _ (group n : ℕ) (f : ℕ → ℕ) where
   unfolding slotBit
   slot-in s r h l = rw (digits-div s h, digits-mod s h, lt-ltb s n l) refl
 
-  -- behind the last group
+  -- after the last group
   pub slot-past : (x : ℕ) → n ≤ x / group → slotBit group n f x ≡ 0
   unfolding slotBit
   slot-past x h = rw (le-ltb (x / group) n h) refl

@@ -1,4 +1,4 @@
--- The ten bytes behind the status.
+-- The ten bytes after the status.
 use Rattle.rack_entries.proofs.Bytes.{header-copied}
 use borrow.Author.Needs.{needs}
 use Rattle.rack_entries.proofs.get_header.Statement.{statement}

@@ -1,4 +1,4 @@
--- The first byte of the entry, and 0 behind the end.
+-- The first byte of the entry, and 0 after the end.
 use mathlib.Core.Path.{sym, ap, _∙_}
 use Prim.Native.Nat.{ℕ}
 use native.Mathlib.Omega.{arith}

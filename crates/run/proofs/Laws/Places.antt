@@ -63,7 +63,7 @@ module _ (group n : ℕ) (b : List ℕ) (fit : n * group ≤ 8 * length b) where
       eq-eqb (upTo (clearAt b) (n * group) (8 * length b)) (8 * length b)
       (found-none (clearAt b) (n * group) (8 * length b) fit (λ x a l. eq-eqb (bitAt b x) 0 (h x a l)))
 
--- ---- 11 and 12: symbol w of the markers of a line, and symbol i behind them
+-- ---- 11 and 12: symbol w of the markers of a line, and symbol i after them
 
 module _ (g : Layout) (some : 1 ≤ g .symbols) (read : ℕ → ℕ) where
   line-is : (s : ℕ) → s / unit g * unit g + s % unit g ≡ s
@@ -120,7 +120,7 @@ module _ (g : Layout) (some : 1 ≤ g .symbols) (read : ℕ → ℕ) where
       (lt-or-le (hitBy g x) (total g)))
       (lt-or-le w (g .markers))
 
--- ---- 16 and 18: the marker before frame j, and the fill behind the last
+-- ---- 16 and 18: the marker before frame j, and the fill after the last
 
 module _ (size : ℕ) (stream : ℕ → ℕ) (bits : Bits stream) where
   pub frame-told : (j : ℕ) → frameMarked size stream j ≡ true → (r : ℕ) → r < markerBits → stream (j * span size + r) ≡ frameMarker / 2 ^ (31 - r) % 2
@@ -460,7 +460,7 @@ module _ (header marker slots : List ℕ) (n : ℕ) (mark : ℕ → ℕ)
   made-18 : Before18 → then (then (then (then (then (then c q9) q10) q11) q12) q13) q16 ≡ Done
   made-18 h = rw (made-16 (h .0)) (yes-frames (h .1))
 
-  -- ---- and which numbers cannot come from there, nor from behind
+  -- ---- and which numbers cannot come from there, nor from after
 
   no-c : (number : ℕ) → 9 ≤ number → (20 ≡ number → ⊥) → Never number c
   no-c number big other = call-never header marker n (length slots) number big other
@@ -489,7 +489,7 @@ module _ (header marker slots : List ℕ) (n : ℕ) (mark : ℕ → ℕ)
 
   -- ---- the refusals
 
-  -- what comes behind 9, 10, 11, 12 and the words
+  -- what comes after 9, 10, 11, 12 and the words
   behind-13 : (number : ℕ) → (16 ≡ number → ⊥) → (18 ≡ number → ⊥) → Never number (then q16 q18)
   behind-13 number x16 x18 = never-then number q16 q18 (no-16 number x16) (no-18 number x18)
 
@@ -595,7 +595,7 @@ module _ (header marker slots : List ℕ) (n : ℕ) (mark : ℕ → ℕ)
     λ h. said-16 ∙ others-done (then (then (then (then (then c q9) q10) q11) q12) q13) q16 q18 16 j (made-16 (h .0)) (no-frames j (h .1)),
   )
 
-  -- the fill behind the frames: its test, once the header is known to be good
+  -- the fill after the frames: its test, once the header is known to be good
   module _ (called : Called) where
     end : ℕ
     end = quantities.blockCount f * infoBits (f .rate)

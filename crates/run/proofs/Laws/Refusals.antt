@@ -40,7 +40,7 @@ never-then number a b na nb p e =
 
 -- ---- one question among others
 
--- what comes before it was answered yes, and what comes behind it does not matter
+-- what comes before it was answered yes, and what comes after it does not matter
 pub among-others : (a q b : Answer) (number p : ℕ) → Never number a → Never number b → then a (then q b) ≡ No number p → (a ≡ Done) × (q ≡ No number p)
 among-others a q b number p na nb e =
     ⊎-elim

@@ -85,7 +85,7 @@ module _ (header marker frames : List ℕ) where
   unfolding planOf parametersOf
   copies-are = refl
 
-  -- slot r of copy c of symbol s has a pulse if it is the symbol, and there is none behind the last copy
+  -- slot r of copy c of symbol s has a pulse if it is the symbol, and there is none after the last copy
   pub slot-is : (s c r : ℕ) → s < layoutSymbols (planIn header marker .layout) → c < fieldsOf header .copies → r < planIn header marker .group
       → (slot header marker frames) ((s * fieldsOf header .copies + c) * planIn header marker .group + r) ≡ bool (eqb r ((step10 header marker frames) s))
   slot-is s c r h k l =

@@ -1,4 +1,4 @@
--- `no`, and behind it the number as the one item.
+-- `no`, and after it the number as the one item.
 use mathlib.Core.List.{[], _∷_}
 use Rattle.sheet.specs.Text.{items}
 use Rattle.sheet.proofs.Pieces.{put-put}

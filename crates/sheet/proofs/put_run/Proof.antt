@@ -1,4 +1,4 @@
--- The rate, and behind it the numbers.
+-- The rate, and after it the numbers.
 use mathlib.Core.Path.{ap₂}
 use mathlib.Core.List.{List, _++_}
 use Prim.Native.Nat.{ℕ}

@@ -80,7 +80,7 @@ holds-next p word s end q slots after same h m =
     (lt-or-le u s))
     h
 
--- with all of them, and no pulse behind them, it is the definition
+-- with all of them, and no pulse after them, it is the definition
 pub holds-all : (p : Plan) → Fine p → (word : ℕ → List ℕ) (slots after : List ℕ) → Holds p (front p word (p .layout .lines * unit (p .layout))) (lineEnd p (p .layout .lines)) slots
     → Ends slots (p .layout .lines * unit (p .layout) * p .copies * p .group) after → Bytes after → after ≡ runSlots p word
 unfolding runSlots pulses.slotsOf pulses.slotBit
@@ -188,7 +188,7 @@ module _ (p : Plan) (fine : Fine p) (word : ℕ → List ℕ) (r y : ℕ) (res :
   unfolding source
   source-is = hit-is (p .layout) y ∙ ap (λ (d : ℕ). pick (ltb y d) (total (p .layout)) (pick (ltb (y - d) (total (p .layout))) (y - d) (total (p .layout)))) same-delay
 
-  -- before the first symbol comes there, and behind the last
+  -- before the first symbol comes there, and after the last
   pub placed-early : y < delay (p .layout) (r % p .layout .rows) → placedSymbol p word y ≡ 0
   placed-early h =
       let e : hitBy (p .layout) y ≡ total (p .layout) = source-is ∙ rw (lt-ltb y (delay (p .layout) (r % p .layout .rows)) h) refl in
@@ -251,7 +251,7 @@ module _ (p : Plan) (word : ℕ → List ℕ) (j : ℕ) where
   unfolding soFar cut
   so-past r x s l = rw (le-ltb s (j * unit (p .layout) + p .layout .markers + p .layout .symbols) l) refl
 
-  -- each of them: before the line's places, among them, or behind them
+  -- each of them: before the line's places, among them, or after them
   by-line : (r x s v : ℕ) → (s < j * unit (p .layout) + p .layout .markers → symbolAt p word s ≡ v)
       → ((k : ℕ) → k < p .layout .symbols → s ≡ j * unit (p .layout) + p .layout .markers + k → pick (sooner (stride (p .layout .rows)) r x (j * p .layout .symbols + k)) (placedSymbol p word (j * p .layout .symbols + k)) 0 ≡ v)
       → (j * unit (p .layout) + p .layout .markers + p .layout .symbols ≤ s → 0 ≡ v) → soFar p word j r x s ≡ v
@@ -277,7 +277,7 @@ module _ (p : Plan) (word : ℕ → List ℕ) (j : ℕ) where
       (λ k l e. h (j * p .layout .symbols + k) (omega arith) (omega arith) (omega arith) ∙ sym (ap (soFar p word j u v) e ∙ so-line u v k l))
       (λ l. sym (so-past u v s l))
 
-  -- before the first residue, and behind the last
+  -- before the first residue, and after the last
   pub line-begun : (s : ℕ) → front p word (j * unit (p .layout) + p .layout .markers) s ≡ soFar p word j 0 0 s
   line-begun s =
       let n : ℕ = stride (p .layout .rows) in
@@ -366,7 +366,7 @@ module _ (p : Plan) (word : ℕ → List ℕ) (j : ℕ) where
         (λ (h : y % n ≡ r → ⊥). ap (λ (t : Bool). pick t (placedSymbol p word y) 0) (sooner-other n r 0 y h ∙ sym (sooner-other n r x y h)))
         (eq-or-ne (y % n) r))
 
-    -- behind its last place that is hit
+    -- after its last place that is hit
     pub residue-ended : (x end : ℕ) → end ≡ min (j * p .layout .symbols + p .layout .symbols) (delay (p .layout) (r % p .layout .rows) + total (p .layout)) → end ≤ x
         → (s : ℕ) → soFar p word j r x s ≡ soFar p word j (r + 1) 0 s
     residue-ended x end e far s =

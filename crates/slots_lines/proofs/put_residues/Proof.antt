@@ -1,4 +1,4 @@
--- The residues below r are done; those before the first and behind the last have no symbol in the line.
+-- The residues below r are done; those before the first and after the last have no symbol in the line.
 use mathlib.Core.Path.{_≡_, refl, sym, ap, _∙_}
 use Prim.Native.Nat.{ℕ, _+_, _-_, _*_, _%_, _≤_, _<_}
 use native.Mathlib.Omega.{arith}

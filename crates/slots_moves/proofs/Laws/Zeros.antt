@@ -69,7 +69,7 @@ turns p fine x =
     let e : x ≡ x % 320 + x / 320 * (320 / g) * g = let a = mul-assoc (x / 320) (320 / g) g in let b : x / 320 * (320 / g * g) ≡ x / 320 * 320 = ap (λ (v : ℕ). x / 320 * v) whole in omega arith in
     sym (ap (λ (y : ℕ). y % g) e ∙ add-mul-mod-self-right (x % 320) (x / 320 * (320 / g)) g)
 
--- behind the first n symbols zeros are what belongs there so far
+-- after the first n symbols zeros are what belongs there so far
 pub holds-laid : (p : Plan) → Fine p → (word : ℕ → List ℕ) (n from to : ℕ) (z slots after : List ℕ) → n * p .copies * p .group ≤ 8 * from
     → Zeros (p .group) z → Holds p (front p word n) from slots → Laid z slots from to after → Bytes after → Holds p (front p word n) to after
 unfolding bitAt

@@ -1,4 +1,4 @@
--- All rows are put; then the spare bits behind them, which the zeros ran into, are cleared.
+-- All rows are put; then the spare bits after them, which the zeros ran into, are cleared.
 use native.Mathlib.Omega.{arith}
 use borrow.Author.Needs.{needs}
 use Rattle.slots.proofs.Laws.Bounds.{bounds}

@@ -1,4 +1,4 @@
--- Why few coded bits change: a changed block bit reaches the coded bits of its own step and of the two behind it, and through the check the steps
+-- Why few coded bits change: a changed block bit reaches the coded bits of its own step and of the two after it, and through the check the steps
 -- from k on; all others see zeros.
 use mathlib.Core.Path.{_≡_, refl, ap, ap₂, _∙_}
 use mathlib.Core.Bool.{Bool, true, false}
@@ -51,7 +51,7 @@ encode-quiet rate x j h = cases (eqb (j % codedPer rate) 0)
 -- ---- input bits of which, among the first k, only bit b is not zero
 
 module _ (δ : ℕ → ℕ) (bits : Bits δ) (b : ℕ) where
-  -- the first output behind it does not see it
+  -- the first output after it does not see it
   first-behind : δ (suc b) ≡ 0 → ((i : ℕ) → suc i ≡ b → δ i ≡ 0) → first δ (suc b) ≡ 0
   unfolding first delay
   first-behind e f = cases b e f
@@ -64,7 +64,7 @@ module _ (δ : ℕ → ℕ) (bits : Bits δ) (b : ℕ) where
   unfolding weight
   none rate = omega arith
 
-  -- three, and of the three behind them two, and three; then those from step k on. Or those from step k - 2 on alone
+  -- three, and of the three after them two, and three; then those from step k on. Or those from step k - 2 on alone
   few-third : b < 5006 → ((i : ℕ) → i < 5006 → (i ≡ b → ⊥) → δ i ≡ 0) → weight (encode 0 δ) wordBits ≤ 110
   unfolding inputPlace inputsPer codedPer
   few-third l alone =
@@ -86,7 +86,7 @@ module _ (δ : ℕ → ℕ) (bits : Bits δ) (b : ℕ) where
       omega arith)
       (lt-or-le b 5004)
 
-  -- two, and of the two behind them one, and two
+  -- two, and of the two after them one, and two
   few-half : b < 7526 → ((i : ℕ) → i < 7526 → (i ≡ b → ⊥) → δ i ≡ 0) → weight (encode 1 δ) wordBits ≤ 73
   unfolding inputPlace inputsPer codedPer
   few-half l alone =

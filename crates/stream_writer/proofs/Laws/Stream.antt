@@ -46,7 +46,7 @@ stream-bits size count frames x =
     (pick-bit (ltb r markerBits) (markerBit r) (bitAt frames place) (marker-bits r) (bit-lt frames place))
     (omega arith)
 
--- the marker before frame j, the frame itself, and the zeros behind the last
+-- the marker before frame j, the frame itself, and the zeros after the last
 pub stream-mark : (size count : ℕ) (frames : List ℕ) (j r : ℕ) → j < count → r < markerBits → streamBit size count frames (j * span size + r) ≡ markerBit r
 unfolding streamBit
 stream-mark size count frames j r h l =

@@ -21,7 +21,7 @@ use Rattle.word.specs.Word.{takenIn, checkedBlock, checkField, carriedOn
 use Rattle.word.proofs.Laws.Word as Laws
 use Rattle.word.proofs.Laws.Answers as Answers
 
--- the k bits, as step 2 took them in, stand first; the check field is what stands in the 32 places behind them
+-- the k bits, as step 2 took them in, stand first; the check field is what stands in the 32 places after them
 pub taken-first : (rate : ℕ) (block : List ℕ) (i : ℕ) → i < infoBits rate → checkedBlock rate block i ≡ takenIn block i
 unfolding checkedBlock
 taken-first rate block i l = checked-block (infoBits rate) (takenIn block) i l

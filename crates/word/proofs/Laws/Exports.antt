@@ -25,7 +25,7 @@ word-length = Laws.word-length
 pub word-bytes : (rate : ℕ) (block : List ℕ) → Bytes (wordOf rate block)
 word-bytes = Laws.word-bytes
 
--- it is the block with its check behind it, carried on from step 3
+-- it is the block with its check after it, carried on from step 3
 pub word-carried : (rate : ℕ) (block : List ℕ) → wordOf rate block ≡ carriedOn rate (checkedBlock rate block)
 word-carried = Laws.word-carried
 

@@ -22,7 +22,7 @@ input-size rate n h e = let size = block-size rate h in omega arith
 pub input-fits : (rate n : ℕ) → rate < 3 → n ≡ blockBytes rate → n + 4 ≤ 1260
 input-fits rate n h e = let room = block-room rate h in omega arith
 
--- the input bits are the first k, their check behind them, and two zeros
+-- the input bits are the first k, their check after them, and two zeros
 pub input-ended : (rate : ℕ) (before after : List ℕ) (check k : ℕ) → 8 * length before ≡ inputBits rate → k ≡ infoBits rate → check ≡ register (bitAt before) k → Ended before check after
     → (i : ℕ) → i < inputBits rate → bitAt after i ≡ terminated (infoBits rate + 32) (checked (infoBits rate) (bitAt before)) i
 unfolding inputBits checked checkBit

@@ -29,7 +29,7 @@ unfolding codedOf
 coded-list rate block input h e =
     tab-same wordBits (encode rate (bitAt input)) (codedOf rate block) (encode-same rate (bitAt input) (inputOf rate block) h e)
 
--- questions 13 to 15 look at the coded bits and at the input bits, and at nothing behind them
+-- questions 13 to 15 look at the coded bits and at the input bits, and at nothing after them
 judged-same : (rate : ℕ) (c d x y : ℕ → ℕ) → rate < 3 → ((j : ℕ) → j < wordBits → c j ≡ d j) → ((i : ℕ) → i < inputBits rate → x i ≡ y i) → judged rate c x ≡ judged rate d y
 unfolding judged firstWrong agrees endsInZeros checkRight inputBits
 judged-same rate c d x y h ec ex =

@@ -34,7 +34,7 @@ use Rattle.randomizer.specs.Randomizer.{sequence, window, next, randomize}
 use Rattle.randomizer.proofs.Laws.Randomizer.{randomize-bits, randomize-same, randomize-twice, randomize-sum3, randomize-differ}
 use Rattle.word.specs.Word.{SpareZero, SameBits, takenIn, checkedBlock, inputOf, codedOf, shuffled, wordOf, carriedOn, codedIn, inputIn, packedBlock, blockIn, agrees, firstWrong, endsInZeros, checkRight}
 
--- a packed block with spare bits of 0, as the reader gives it and a run has it: as many bytes as the rate implies, its bits, and zeros behind them
+-- a packed block with spare bits of 0, as the reader gives it and a run has it: as many bytes as the rate implies, its bits, and zeros after them
 pub record Packed (rate : ℕ) (block : List ℕ) : Type 0 where
   pub size : length block ≡ blockBytes rate
   pub bytes : Bytes block
@@ -308,7 +308,7 @@ pub carried-length : (rate : ℕ) (x : ℕ → ℕ) → length (carriedOn rate x
 unfolding carriedOn
 carried-length rate x = length-bytes wordBytes (shuffled (encode rate (terminated (infoBits rate + 32) x)))
 
--- a word is its block with the check behind it, carried on from step 3
+-- a word is its block with the check after it, carried on from step 3
 pub word-carried : (rate : ℕ) (block : List ℕ) → wordOf rate block ≡ carriedOn rate (checkedBlock rate block)
 unfolding wordOf codedOf inputOf carriedOn
 word-carried rate block = refl

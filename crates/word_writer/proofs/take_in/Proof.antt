@@ -1,4 +1,4 @@
--- The block is copied and randomized, and its check put behind it.
+-- The block is copied and randomized, and its check put after it.
 use mathlib.Core.Path.{_∙_}
 use native.Mathlib.Omega.{arith}
 use Rattle.sizes.specs.Inner.{inputBits}

@@ -1,4 +1,4 @@
--- Eight bytes, or one with zeros behind it.
+-- Eight bytes, or one with zeros after it.
 use mathlib.Core.Path.{_∙_}
 use Prim.Native.Nat.{_+_}
 use native.Mathlib.Omega.{arith}

@@ -1,4 +1,4 @@
--- The columns of the rows, and behind them those of the next row.
+-- The columns of the rows, and after them those of the next row.
 use Rattle.decoder.specs.Inner.{bitsOf}
 use Rattle.decoder.proofs.Columns.{coded-past, held-next}
 use borrow.Author.Needs.{needs}

@@ -1,4 +1,4 @@
--- Each turn fills a place more behind the row.
+-- Each turn fills a place more after the row.
 use mathlib.Core.Path.{_≡_, ap}
 use Prim.Native.Nat.{ℕ, _-_, _/_, _≤_}
 use native.Mathlib.Omega.{arith}

@@ -1,4 +1,4 @@
--- What is left of the list is asked, behind the end of the last fade, what the whole list is asked; nothing may be left at the end.
+-- What is left of the list is asked, after the end of the last fade, what the whole list is asked; nothing may be left at the end.
 use mathlib.Core.Path.{_≡_, refl, sym, _∙_}
 use mathlib.Core.Bool.{true, false}
 use Prim.Native.Nat.{_-_, _≤_}

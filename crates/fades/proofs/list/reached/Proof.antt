@@ -1,4 +1,4 @@
--- The fades before number i are over, and those behind it have not begun.
+-- The fades before number i are over, and those after it have not begun.
 use mathlib.Core.Path.{sym, ap, _∙_}
 use Prim.Native.Nat.{ℕ}
 use native.Mathlib.Omega.{arith}

@@ -1,4 +1,4 @@
--- The first pulse of a look is the first of all; where it shows none, what is left behind it finds what the whole scan finds.
+-- The first pulse of a look is the first of all; where it shows none, what is left after it finds what the whole scan finds.
 use mathlib.Core.Path.{_≡_, sym, ap, _∙_}
 use Prim.Native.Nat.{ℕ, _+_, _-_, _≤_}
 use native.Mathlib.Omega.{arith}

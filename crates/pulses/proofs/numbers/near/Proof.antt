@@ -1,4 +1,4 @@
--- The group's slots, with zeros behind them, as one number.
+-- The group's slots, with zeros after them, as one number.
 use mathlib.Core.Path.{sym, ap, _∙_}
 use Prim.Native.Nat.{ℕ, _-_, _*_, _/_, _%_, _^_}
 use native.Mathlib.Omega.{arith}

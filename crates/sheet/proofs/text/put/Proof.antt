@@ -1,4 +1,4 @@
--- Before each turn the bytes passed stand behind what stood before.
+-- Before each turn the bytes passed come after what stood before.
 use mathlib.Core.Path.{_≡_, refl, sym, ap, _∙_}
 use mathlib.Core.List.{List, _++_, append-nil}
 use Prim.Native.Nat.{ℕ, _+_, _-_, _≤_}

@@ -1,4 +1,4 @@
--- A space, and the digits behind it.
+-- A space, and the digits after it.
 use mathlib.Core.Path.{_∙_}
 use Prim.Native.Nat.{_<_}
 use native.Mathlib.Omega.{arith}

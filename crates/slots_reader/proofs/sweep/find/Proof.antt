@@ -1,4 +1,4 @@
--- Forties that are zeros', then some that are not, and the groups behind the last forty.
+-- Forties that are zeros', then some that are not, and the groups after the last forty.
 use mathlib.Core.Path.{_≡_, refl, sym, ap, _∙_}
 use Prim.Native.Nat.{ℕ, _+_, _-_, _*_, _/_, _%_, _≤_, _<_}
 use native.Mathlib.Omega.{arith}

@@ -1,4 +1,4 @@
--- A block's bytes lie behind those of the blocks before it.
+-- A block's bytes lie after those of the blocks before it.
 use mathlib.Core.Path.{ap}
 use Prim.Native.Nat.{ℕ, _+_, _*_, _≤_}
 use native.Mathlib.Omega.{arith}

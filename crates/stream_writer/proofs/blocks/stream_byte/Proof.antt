@@ -1,4 +1,4 @@
--- By where the place lies: behind the last frame, in the marker, or where the reader goes.
+-- By where the place lies: after the last frame, in the marker, or where the reader goes.
 use mathlib.Core.Path.{ap, _∙_}
 use Prim.Native.Nat.{ℕ, _+_, _*_}
 use native.Mathlib.Omega.{arith}

@@ -274,7 +274,7 @@ module _ {M : Type 1} (𝓤 : URA M) (H : Heap 𝓤) (A : Atoms 𝓤) (W : Given
           split ! $ move ! (0 ∷ 4 ∷ []) $ use2 W (later (‵ (fdead (ν ∷ κ)) ⊛ ‵ (flft κ (PosShare·right q)))) (within-end 𝓤 H A W ν κ (PosShare·right q)) $ await ! tt $ split ! $ move ! (0 ∷ 4 ∷ 3 ∷ []) $
           use3 W (later (‵ (mem (R κ) .lies (h (i + 1)) l₅ 0))) (ref-back 𝓤 H A W (R κ) (ν ∷ κ) γ (h (i + 1)) l₅ 0) $ await ! tt $
           move ! (2 ∷ []) $ split ! $ move ! (1 ∷ []) $ drop ! $ move ! (0 ∷ 2 ∷ []) $ use2 W (‵ (flft κ q)) (W .lfts .lft-join κ q) $
-          -- the bit is put behind the number
+          -- the bit is put after the number
           use0 W (raw (Pushed 𝓤 H A at-mem run .pre (to-pushed (val f i) r))) (goes-pushed (val f i) r (small i l) (is .1)) $
           calls-at ! fm (Pushed 𝓤 H A at-mem run) known-pushed (to-pushed (val f i) r) (and-then ! (load ! (from ! (stop !)) (look ! 14 refl)) (and-then ! (load ! (from ! (stop !)) (look ! 6 refl)) (no-more !))) (λ w′.
           use1 W (later (some (λ (t : ℕ). (‵ ftrue ⊛ ‵ (u64 .own t (w′ ∷ []))) ⊛ raw (ensured 𝓤 H A pushed.ended (pushed.clauses 𝓤 H A at-mem run) tt (val f i, (r, tt)) tt t)))) (id⊢ 𝓤 _) $ await ! tt $ pick ! (λ t.

@@ -1,4 +1,4 @@
--- The rows before r are copied, and what stands behind them is as it was.
+-- The rows before r are copied, and what comes after them is as it was.
 use mathlib.Core.Path.{_≡_, refl, _∙_}
 use Prim.Native.Nat.{ℕ, _+_, _-_, _*_, _/_, _%_, _≤_, _<_}
 use native.Mathlib.Omega.{arith}

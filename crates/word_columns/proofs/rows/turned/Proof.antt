@@ -1,4 +1,4 @@
--- One number more stands turned behind the others.
+-- One number more stands turned after the others.
 use mathlib.Core.Path.{_≡_}
 use Prim.Native.Nat.{_-_, _≤_}
 use native.Mathlib.Omega.{arith}
