@@ -80,6 +80,7 @@ help:
 	@echo 'make demo       the command at work: runs, recordings, damage, racks, uplinks; proves quietly,'
 	@echo '                and keeps its picture under target/demo'
 	@echo 'make bench      times of the library beside plain C and beside memory'
+	@echo 'make bench-builds OTHER=FILE.so  this build beside another over random headers'
 	@echo 'make lib        the static library and the shared one: $(LIBS)'
 	@echo '                $(SHARED)'
 	@echo 'make program    the command: $(PROGRAM)'
@@ -184,7 +185,7 @@ demo:
 picture: $(PROGRAM) $(HOST)/slots
 	@demo/run $^ docs/capture.svg >/dev/null
 
-bench: $(addprefix $(HOST)/bench_,words passes uplinks runs captures fades delays) $(PROGRAM)
+bench: $(addprefix $(HOST)/bench_,words passes uplinks runs orders captures fades delays) $(PROGRAM)
 	@$(HOST)/bench_words
 	@echo
 	@$(HOST)/bench_passes
@@ -192,6 +193,8 @@ bench: $(addprefix $(HOST)/bench_,words passes uplinks runs captures fades delay
 	@$(HOST)/bench_uplinks
 	@echo
 	@$(HOST)/bench_runs
+	@echo
+	@$(HOST)/bench_orders
 	@echo
 	@$(HOST)/bench_captures
 	@echo
@@ -349,10 +352,20 @@ HOST_PARTS = $(filter-out host/main.c,$(HOST_SOURCES))
 $(HOST)/slots: demo/slots.c $(HOST_PARTS) $(HOST_HEADERS) $(HEADER) $(LINKED)
 	@$(COMPILE) $(HOST_FLAGS) $< $(HOST_PARTS) $(HOST_LIBS) $(LDFLAGS) -o $@
 
-BENCHES = $(addprefix $(HOST)/bench_,words passes uplinks runs captures fades delays)
+BENCHES = $(addprefix $(HOST)/bench_,words passes uplinks runs orders captures fades delays)
 $(BENCHES): $(HOST)/bench_%: bench/bench_%.c bench/timing.h tests/c/runs.h $(REFERENCE) \
     $(REFERENCE_HEADERS) $(HEADER) $(LINKED)
 	@$(COMPILE) -Itests/c -Ireference $< $(REFERENCE) $(LIBS) -o $@
+
+# Another build of the shared library beside this one, over random headers: is any of them slower?
+OTHER ?=
+HEADERS_TRIED ?= 200
+.PHONY: bench-builds
+bench-builds: $(HOST)/bench_builds $(SHARED)
+	@[ -n '$(OTHER)' ] || { echo 'make bench-builds OTHER=FILE.so: the build to compare with' >&2; exit 2; }
+	@$(HOST)/bench_builds $(OTHER) $(SHARED) $(HEADERS_TRIED) $(SEED)
+$(HOST)/bench_builds: bench/bench_builds.c bench/timing.h tests/c/runs.h $(HEADER) $(LINKED)
+	@$(COMPILE) -Itests/c $< $(LIBS) -ldl -o $@
 
 # Evidence beyond the tests (docs/EVIDENCE.md): for as long as one likes, on all cores.
 SECONDS ?= 60

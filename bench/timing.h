@@ -25,6 +25,13 @@ static inline double now(void) {
     return (double)t.tv_sec * 1e6 + (double)t.tv_nsec / 1e3;
 }
 
+/* Microseconds of processor time, which other work on the machine hardly changes. */
+static inline double processor_now(void) {
+    struct timespec t;
+    clock_gettime(CLOCK_PROCESS_CPUTIME_ID, &t);
+    return (double)t.tv_sec * 1e6 + (double)t.tv_nsec / 1e3;
+}
+
 /* The same bytes in every run of a bench. */
 static inline void fill(uint8_t *bytes, size_t len) {
     static uint64_t state = 1;
