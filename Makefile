@@ -73,7 +73,7 @@ UPLINKS ?=
 LARGE ?=
 
 help:
-	@echo 'make test       prove every crate (rt ci), then host-test; last line: N passed, 0 failed'
+	@echo 'make test       lint, prove every crate (rt ci), then host-test; last line: N passed, 0 failed'
 	@echo 'make host-test  the tests outside the proofs alone; SEED=n, WORDS=n, PASSES=n, RUNS=n,'
 	@echo '                CAPTURES=n, HEADERS=n, FADES=n, DELAYS=n, TRACES=n and UPLINKS=n choose'
 	@echo '                what is compared'
@@ -166,8 +166,6 @@ host-test: $(HOST_TESTS)
 	@$(STACK) && COMMAND=$(PROGRAM) RUNSHEET=$(RUNSHEET) tests/command/run -q
 	@$(CRASH_TEST)
 	@$(PYTHON_TEST)
-	@$(LINT)
-	@tests/believed --selftest
 	@$(STACK_TEST)
 	@echo 'tests outside the proofs: passed'
 
@@ -404,7 +402,7 @@ controls:
 stack: $(SHARED)
 	@tests/stack $<
 
-# What programs that read sources have to say of ours. A shorter form is part of the tests.
+# What programs that read sources have to say of ours. `make test` asks them first.
 .PHONY: lint
 lint:
 	@$(LINT)
