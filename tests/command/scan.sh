@@ -361,6 +361,24 @@ once_scan_of_a_file_that_changes() {
     same 'no summary then' '' "$(out)"
 }
 
+# A start in every thirteen bytes, 4,096 of them: what is short is not judged on a stack each.
+once_scan_dense() {
+    begin
+    local i
+    head -c 13 slots >recording
+    for ((i = 0; i < 12; i++)); do
+        cat recording recording >twice
+        mv twice recording
+    done
+    prefix=(env "LD_PRELOAD=$faults" FAULT=thread:40:11) # at the fortieth it would fail
+    run 1 -q scan "$header" "$marker" recording
+    prefix=()
+    has 'the summary of a dense recording' 'recording: 0 runs sound, 4,096 starts refused' "$(out)"
+    run 1 -qv scan --from 3 "$header" "$marker" recording
+    same 'what is said of each of its starts' "$(seq 104 104 425880 | cksum)" \
+        "$(sed -n 's/^mahyrei: recording: slot \([0-9]*\): refused, number [0-9]*, .*/\1/p' "$said/err" | cksum)"
+}
+
 # More than there is memory: mapped, not read.
 once_scan_larger_than_memory() {
     begin_recording
@@ -379,7 +397,7 @@ once_scan_larger_than_memory() {
 once_scan_faults() {
     begin_recording
     local fault
-    for fault in read:1:5 write:1:28 write:1:5 fsync:1:5 close:1:5 rename:1:5 thread:1:11 thread:2:11; do
+    for fault in read:1:5 write:1:28 write:1:5 fsync:1:5 close:1:5 rename:1:5 thread:1:11; do
         rm -rf to
         prefix=(env "LD_PRELOAD=$faults" "FAULT=$fault")
         run 2 scan header "$marker" recording to
@@ -387,6 +405,14 @@ once_scan_faults() {
         same "frames after $fault" '' "$(find . -path './to/*')"
         same "no summary after $fault" '' "$(out)"
     done
+    # After the first run that is sound another thread is wanted: what was written before is whole.
+    prefix=(env "LD_PRELOAD=$faults" FAULT=thread:2:11)
+    rm -rf to
+    run 2 scan header "$marker" recording to
+    has 'what is said without a second stack' 'a stack of 4 MiB for the library: Resource' "$err"
+    same 'files then' run-160013.frames "$(ls -A to)"
+    alike 'the frames then' frames to/run-160013.frames
+    same 'no summary then' '' "$(out)"
     prefix=()
     "$mahyrei" scan "$header" "$marker" recording >/dev/full 2>"$said/err"
     same 'status of a summary that cannot be printed' 2 $?
