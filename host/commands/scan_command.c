@@ -99,8 +99,7 @@ static void say_start_refused(const struct scan *scan, uint64_t slot, uint64_t a
 static enum status refuse(struct scan *scan, uint64_t answer) {
     struct lent whole = scan->run;
     whole.capture = scan->recording.bytes;
-    entry_answer(scan->entry, answer);
-    say_refusal(answer, "The marker is longer or shorter than the header says.");
+    entry_refuse(scan->entry, answer, "The marker is longer or shorter than the header says.");
     say_where(answer, &whole, &scan->operands);
     return REFUSED;
 }
@@ -191,10 +190,14 @@ static enum status try_all(struct scan *scan) {
 
 /* ---- the summary */
 
+static bool in_json(const struct scan *scan) {
+    return scan->line->options[JSON] != NULL;
+}
+
 static bool report(FILE *to, const void *what) {
     const struct scan *const scan = what;
-    if (scan->line->options[JSON] != NULL) {
-        print_scan_json(to, &scan->counts);
+    if (in_json(scan)) {
+        print_scan_json(to, &scan->counts, scan->entry);
     } else {
         print_scan(to, &scan->counts);
     }
@@ -220,18 +223,21 @@ static bool annotate(FILE *to, const void *what) {
     return true;
 }
 
-/* What it ends with: a run that is sound is what a recording was gone through for. */
+/* The answer that it ends with: a run that is sound is what a recording was gone through for. */
+static uint64_t outcome(const struct scan_counts *counts) {
+    return counts->count > 0      ? MAHYREI_ACCEPTED
+           : counts->refused == 0 ? MAHYREI_NO_MARKER
+                                  : counts->first_refusal;
+}
+
 static enum status conclude(struct scan *scan) {
-    const struct scan_counts *const counts = &scan->counts;
-    if (counts->count > 0) {
-        entry_answer(scan->entry, MAHYREI_ACCEPTED);
+    if (scan->counts.count > 0) {
         return DONE;
     }
-    if (counts->refused == 0) {
+    if (scan->counts.refused == 0) {
         return refuse(scan, MAHYREI_NO_MARKER);
     }
-    entry_answer(scan->entry, counts->first_refusal);
-    remark(counts->name, "no run in it is sound");
+    remark(scan->counts.name, "no run in it is sound");
     return REFUSED;
 }
 
@@ -250,8 +256,11 @@ static enum status summarize(struct scan *scan, const struct drawings *drawings)
     if (!recording_unchanged(&scan->recording) ||
         (drawings->picture.name != NULL && !put_printed(&drawings->picture, draw, scan)) ||
         (drawings->annotations.name != NULL &&
-         !put_printed(&drawings->annotations, annotate, scan)) ||
-        !put_printed(NULL, report, scan)) {
+         !put_printed(&drawings->annotations, annotate, scan))) {
+        return FAILED;
+    }
+    entry_answer(scan->entry, outcome(&scan->counts));
+    if (!put_printed(NULL, report, scan)) {
         return FAILED;
     }
     if (drawings->annotations.name != NULL && scan->counts.refused > REFUSED_KEPT) {
@@ -297,7 +306,11 @@ static enum status go(struct scan *scan) {
         return FAILED;
     }
     const enum status status = try_all(scan);
-    return status == DONE ? summarize(scan, &drawings) : status;
+    if (status == DONE) {
+        return summarize(scan, &drawings);
+    }
+    /* Whoever reads JSON is told of a header or marker that is refused there too. */
+    return status == REFUSED && in_json(scan) && !put_printed(NULL, report, scan) ? FAILED : status;
 }
 
 enum status scan_command(const struct line *line, struct entry *entry) {

@@ -180,7 +180,7 @@ test_scan_json() {
     local digest
     digest=$(sha256sum frames | cut -d ' ' -f 1)
     has 'a run as JSON' "{\"slot\":160013,\"frames\":3,\"bytes\":1500,\"sha256\":\"$digest\",\"file\":\"to/run-160013.frames\"}" "$(out)"
-    has 'the counts as JSON' '"starts_refused":8,"refused_by_number":{"8":3,"10":5},"slots_not_in_any_run":547268,"longest_gap":{"slot":387113,"slots":227191}}' "$(out)"
+    has 'the counts as JSON' '"starts_refused":8,"refused_by_number":{"8":3,"10":5},"slots_not_in_any_run":547268,"longest_gap":{"slot":387113,"slots":227191},"status":0,"number":0,"place":0,"sentence":"' "$(out)"
     cp recording $'a "name"\n\xFF'
     run 0 -q scan --json "$header" "$marker" $'a "name"\n\xFF'
     has 'a name as JSON' '{"capture":"a \"name\"\u000a\udcff","slots":1228568,"runs_sound":3,' "$(out)"
@@ -188,6 +188,23 @@ test_scan_json() {
         same 'the summary is JSON' 3 \
             "$(python3 -c 'import json, sys; print(len(json.load(sys.stdin)["runs"]))' <"$said/out")"
     fi
+    # A program that reads it is told of every refusal, also of a header or a marker.
+    ended() {
+        local status=$1 number=$2 place=$3 text=$4
+        shift 4
+        run "$status" -q scan --json "$@"
+        has "the end of scan $*" ",\"status\":$status,\"number\":$number,\"place\":$place,\"sentence\":\"$text\"}" "$(out)"
+        has "the runs of scan $*" '"runs_sound":0,"runs":[],' "$(out)"
+        same "lines of scan $*" 1 "$(wc -l <"$said/out")"
+    }
+    ended 1 1 0 "$(sentence 1)" 00 "$marker" recording
+    ended 1 5 0 "$(sentence 5)" "$(header 1 4 2 189 500 5 3)" "$marker" recording
+    ended 1 7 0 "$(sentence 7)" "$header" 0500100309 recording
+    ended 1 8 0 "$(sentence_of_8 scan x)" "$header" 05 recording
+    ended 1 19 0 "$(sentence 19)" "$header" "$marker" empty
+    ended 1 10 7000 "$(sentence 10)" "$header" "$marker" damaged
+    "$mahyrei" -q scan --json 00 "$marker" recording >/dev/full 2>"$said/err"
+    same 'status where a refusal cannot be printed' 2 $?
 }
 
 # A sound run by itself, none at all, and nothing to find one by.
