@@ -82,7 +82,18 @@ test_text_in_a_file() {
     echo "$marker" >text
     says "$text" \
         find "$header" text slots
-    local name
+    # Every command that takes a header says so.
+    local words name
+    echo '0 7' >fades
+    echo "$header" >text
+    for words in "read text $marker slots out" "verify --capture text $marker slots" \
+        "scan text $marker slots" 'cut text slots 0 out' 'fades text fades' \
+        'rack-load rack 0 0 0 text' "inspect text $marker slots" 'show text slots 0 1' 'narrow text out'; do
+        # shellcheck disable=SC2086  # several words are meant
+        says "$text" $words
+    done
+    old_header "$header" >text
+    says "$text" widen text out
     for name in frames slots empty; do
         run 1 sheet "$name"
         same "$name is no text" 0 "$(grep -c 'hexadecimal' "$said/err")"
