@@ -104,6 +104,19 @@ test_text_in_a_file() {
     run 0 sheet text
 }
 
+# One word for one thing: slots begin with the run, and are no capture. In what the documents show, a
+# command takes a file that is called so only where it takes a capture.
+once_slots_are_no_capture() {
+    local lines
+    lines=$(grep -hE '^ *(\$ )?mahyrei( -[a-z]+)* (read|verify|inspect|show) ' "$root/README.md" \
+        "$root"/docs/manual/*.md "$root/host/man/mahyrei.1" | sed 's/\\//g')
+    same 'lines that show it' yes "$([ "$(wc -l <<<"$lines")" -ge 12 ] && echo yes)"
+    same 'slots that are called a capture' '' \
+        "$(grep -v -- '--capture' <<<"$lines" | grep -E ' (capture|record)[a-z.]*( |$)')"
+    same 'slots that a message calls a capture' '' \
+        "$(grep -hE '^ *mahyrei: (capture|record)[a-z.]*: symbol ' "$root"/docs/manual/*.md "$root/host/man/mahyrei.1")"
+}
+
 test_pack() {
     begin
     run 0 unpack slots bytes
