@@ -413,7 +413,7 @@ once_scan_larger_than_memory() {
 
 once_scan_faults() {
     begin_recording
-    local fault
+    local fault name
     for fault in read:1:5 write:1:28 write:1:5 fsync:1:5 close:1:5 rename:1:5 thread:1:11; do
         rm -rf to
         prefix=(env "LD_PRELOAD=$faults" "FAULT=$fault")
@@ -421,6 +421,16 @@ once_scan_faults() {
         has "what is said after $fault" 'mahyrei: ' "$err"
         same "frames after $fault" '' "$(find . -path './to/*')"
         same "no summary after $fault" '' "$(out)"
+    done
+    # The name of a new folder is brought to the disk before anything is in it; and that of one which a
+    # scan before this one has made, and which may have been cut short there.
+    for name in to there; do
+        rm -rf to
+        mkdir -p there
+        prefix=(env "LD_PRELOAD=$faults" FAULT=fsync:1:5)
+        run 2 scan "$header" "$marker" recording "$name"
+        has "a folder whose name does not get to the disk, $name" "mahyrei: $name: Input/output error" "$err"
+        same "what is in it then, $name" '' "$(ls -A "$name")"
     done
     # After the first run that is sound another thread is wanted: what was written before is whole.
     prefix=(env "LD_PRELOAD=$faults" FAULT=thread:2:11)
