@@ -96,69 +96,108 @@ static void say_start_refused(const struct scan *scan, uint64_t slot, uint64_t a
     }
 }
 
-/* What the run from this slot on is: its bytes are copied first, and the copy is judged, so that
- * nothing that becomes of the recording can come between. And the slot to go on from. */
-static bool try_start(struct scan *scan, uint64_t slot, uint64_t *next) {
-    uint64_t answer, at;
-    *next = slot + 1;
-    copy_run(&scan->recording, &scan->counts.run, slot, &scan->run.capture, &at);
-    if (!library_cut(&scan->run, at, &answer) ||
-        (answer == MAHYREI_ACCEPTED && !library_read(&scan->run, &answer))) {
-        return false;
-    }
-    if (answer != MAHYREI_ACCEPTED) {
-        scan_add_refused(&scan->counts, slot, answer);
-        say_start_refused(scan, slot, answer);
-        return true;
-    }
-    *next = slot + scan->counts.run.sizes.slots;
-    return keep_run(scan, slot);
+static enum status refuse(struct scan *scan, uint64_t answer) {
+    struct lent whole = scan->run;
+    whole.capture = scan->recording.bytes;
+    entry_refuse(scan->entry, answer, "The marker is longer or shorter than the header says.");
+    say_where(answer, &whole, &scan->operands);
+    return REFUSED;
 }
 
-/* ---- all of them */
+/* ---- some of them, and all */
+
+/* Starts that are tried one after another, on one stack of the library's: a recording can have one
+ * in each byte. They are no more than have so many bytes of slots together, so that what came of
+ * them is said soon. The last is a run that is sound, or there are no more, or there may be. */
+enum { TRIED_MOST = 256, TRIED_BYTES = 4 << 20 };
+struct tried {
+    struct scan *scan;
+    uint64_t from; /* the slot to go on from */
+    size_t most, count;
+    struct refused_start refused[TRIED_MOST];
+    enum { MAY_GO_ON, A_SOUND_RUN, NO_MORE } end;
+    uint64_t last; /* the slot of the run, or the answer of a search that found nothing */
+};
+
+/* What the run from this slot on is: its bytes are copied first, and the copy is judged, so that
+ * nothing that becomes of the recording can come between. */
+static bool try_start(struct scan *scan, uint64_t slot, uint64_t *answer) {
+    uint64_t at;
+    copy_run(&scan->recording, &scan->counts.run, slot, &scan->run.capture, &at);
+    return library_cut(&scan->run, at, answer) &&
+           (*answer != MAHYREI_ACCEPTED || library_read(&scan->run, answer));
+}
 
 static void show_progress(const struct scan *scan, uint64_t at) {
     const uint64_t hundredth = scan->counts.slots / 100 + 1;
     progress_scan((int)(at / hundredth), (int)(scan->counts.count & INT32_MAX));
 }
 
-static enum status refuse(struct scan *scan, uint64_t answer) {
-    struct lent whole = scan->run;
-    whole.capture = scan->recording.bytes;
-    entry_answer(scan->entry, answer);
-    say_refusal(answer, "The marker is longer or shorter than the header says.");
-    say_where(answer, &whole, &scan->operands);
-    return REFUSED;
+/* Every slot at which the marker begins, except those in a run that is sound. */
+static bool try_some(void *given) {
+    struct tried *const tried = given;
+    struct scan *const scan = tried->scan;
+    tried->end = MAY_GO_ON;
+    for (tried->count = 0; tried->count < tried->most && tried->count < TRIED_MOST;
+         tried->count++) {
+        uint64_t found, answer;
+        show_progress(scan, tried->from);
+        if (!search_next(&scan->search, tried->from, &found)) {
+            return false;
+        }
+        const uint64_t slot = mahyrei_answer_place(found);
+        if (mahyrei_answer_number(found) != MAHYREI_ACCEPTED) {
+            tried->end = NO_MORE;
+            tried->last = found;
+            return true;
+        }
+        if (!try_start(scan, slot, &answer)) {
+            return false;
+        }
+        if (answer == MAHYREI_ACCEPTED) {
+            tried->end = A_SOUND_RUN;
+            tried->last = slot;
+            tried->from = slot + scan->counts.run.sizes.slots;
+            return true;
+        }
+        tried->refused[tried->count] = (struct refused_start){slot, answer};
+        tried->from = slot + 1;
+    }
+    return true;
 }
 
-/* Every slot at which the marker begins, except those in a run that is sound. */
-static enum status try_all(struct scan *scan) {
-    uint64_t at = scan->operands.from;
-    for (;;) {
-        uint64_t answer;
-        show_progress(scan, at);
-        if (!search_next(&scan->search, at, &answer)) {
-            return FAILED;
-        }
-        const unsigned number = mahyrei_answer_number(answer);
-        if (number == MAHYREI_NO_MARKER) {
-            return DONE;
-        }
-        if (number != MAHYREI_ACCEPTED) {
-            return refuse(scan, answer);
-        }
-        if (!try_start(scan, mahyrei_answer_place(answer), &at)) {
-            return FAILED;
-        }
+/* Of what came of them, what is to be counted, said and kept. */
+static bool take_tried(const struct tried *tried) {
+    struct scan *const scan = tried->scan;
+    for (size_t i = 0; i < tried->count; i++) {
+        const struct refused_start *const start = &tried->refused[i];
+        scan_add_refused(&scan->counts, start->slot, start->answer);
+        say_start_refused(scan, start->slot, start->answer);
     }
+    return tried->end != A_SOUND_RUN || keep_run(scan, tried->last);
+}
+
+static enum status try_all(struct scan *scan) {
+    struct tried tried = {.scan = scan, .from = scan->operands.from};
+    tried.most = TRIED_BYTES / (scan->counts.run.sizes.slot_bytes + 1) + 1;
+    do {
+        if (!library_together(try_some, &tried) || !take_tried(&tried)) {
+            return FAILED;
+        }
+    } while (tried.end != NO_MORE);
+    return mahyrei_answer_number(tried.last) == MAHYREI_NO_MARKER ? DONE : refuse(scan, tried.last);
 }
 
 /* ---- the summary */
 
+static bool in_json(const struct scan *scan) {
+    return scan->line->options[JSON] != NULL;
+}
+
 static bool report(FILE *to, const void *what) {
     const struct scan *const scan = what;
-    if (scan->line->options[JSON] != NULL) {
-        print_scan_json(to, &scan->counts);
+    if (in_json(scan)) {
+        print_scan_json(to, &scan->counts, scan->entry);
     } else {
         print_scan(to, &scan->counts);
     }
@@ -184,18 +223,21 @@ static bool annotate(FILE *to, const void *what) {
     return true;
 }
 
-/* What it ends with: a run that is sound is what a recording was gone through for. */
+/* The answer that it ends with: a run that is sound is what a recording was gone through for. */
+static uint64_t outcome(const struct scan_counts *counts) {
+    return counts->count > 0      ? MAHYREI_ACCEPTED
+           : counts->refused == 0 ? MAHYREI_NO_MARKER
+                                  : counts->first_refusal;
+}
+
 static enum status conclude(struct scan *scan) {
-    const struct scan_counts *const counts = &scan->counts;
-    if (counts->count > 0) {
-        entry_answer(scan->entry, MAHYREI_ACCEPTED);
+    if (scan->counts.count > 0) {
         return DONE;
     }
-    if (counts->refused == 0) {
+    if (scan->counts.refused == 0) {
         return refuse(scan, MAHYREI_NO_MARKER);
     }
-    entry_answer(scan->entry, counts->first_refusal);
-    remark(counts->name, "no run in it is sound");
+    remark(scan->counts.name, "no run in it is sound");
     return REFUSED;
 }
 
@@ -214,8 +256,11 @@ static enum status summarize(struct scan *scan, const struct drawings *drawings)
     if (!recording_unchanged(&scan->recording) ||
         (drawings->picture.name != NULL && !put_printed(&drawings->picture, draw, scan)) ||
         (drawings->annotations.name != NULL &&
-         !put_printed(&drawings->annotations, annotate, scan)) ||
-        !put_printed(NULL, report, scan)) {
+         !put_printed(&drawings->annotations, annotate, scan))) {
+        return FAILED;
+    }
+    entry_answer(scan->entry, outcome(&scan->counts));
+    if (!put_printed(NULL, report, scan)) {
         return FAILED;
     }
     if (drawings->annotations.name != NULL && scan->counts.refused > REFUSED_KEPT) {
@@ -261,7 +306,11 @@ static enum status go(struct scan *scan) {
         return FAILED;
     }
     const enum status status = try_all(scan);
-    return status == DONE ? summarize(scan, &drawings) : status;
+    if (status == DONE) {
+        return summarize(scan, &drawings);
+    }
+    /* Whoever reads JSON is told of a header or marker that is refused there too. */
+    return status == REFUSED && in_json(scan) && !put_printed(NULL, report, scan) ? FAILED : status;
 }
 
 enum status scan_command(const struct line *line, struct entry *entry) {

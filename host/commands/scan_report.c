@@ -6,7 +6,9 @@
 #include "formats/json.h"
 #include "formats/numbers.h"
 #include "formats/text.h"
+#include "mahyrei.h"
 #include "report/messages.h"
+#include "report/status.h"
 
 /* ---- for people */
 
@@ -95,7 +97,7 @@ static void print_run_json(FILE *to, const struct scan_counts *counts,
     fputc('}', to);
 }
 
-void print_scan_json(FILE *to, const struct scan_counts *counts) {
+void print_scan_json(FILE *to, const struct scan_counts *counts, const struct entry *entry) {
     const struct gap gap = scan_longest_gap(counts);
     const char *before = "";
     fputs("{\"capture\":", to);
@@ -115,6 +117,10 @@ void print_scan_json(FILE *to, const struct scan_counts *counts) {
     }
     fprintf(to,
             "},\"slots_not_in_any_run\":%" PRIu64 ",\"longest_gap\":{\"slot\":%" PRIu64
-            ",\"slots\":%" PRIu64 "}}\n",
+            ",\"slots\":%" PRIu64 "}",
             scan_outside(counts), gap.first, gap.slots);
+    const int status = entry->answer == MAHYREI_ACCEPTED ? DONE : REFUSED;
+    fprintf(to, ",\"status\":%d", status);
+    entry_print_answer_json(to, entry, status);
+    fputs("}\n", to);
 }

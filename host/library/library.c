@@ -194,7 +194,25 @@ static void *make_fades_call(void *given) {
     return NULL;
 }
 
-/* Starts a thread that no signal comes to, so that handlers run where the program waits. */
+/* Whether this thread has such a stack already. */
+static _Thread_local bool has_stack;
+
+/* Work that makes many calls, and whether it is done. */
+struct together {
+    bool (*work)(void *with);
+    void *with;
+    bool good;
+};
+
+static void *do_together(void *given) {
+    struct together *const together = given;
+    has_stack = true;
+    together->good = together->work(together->with);
+    return NULL;
+}
+
+/* Starts a thread that no signal comes to, so that handlers run where the program waits. A byte of
+ * a mapping that is gone is missed where it is looked at, which may be there. */
 static int start(pthread_t *thread, void *(*make)(void *), void *call) {
     sigset_t all, before;
     pthread_attr_t attributes;
@@ -203,6 +221,7 @@ static int start(pthread_t *thread, void *(*make)(void *), void *call) {
         return error;
     }
     sigfillset(&all);
+    sigdelset(&all, SIGBUS);
     pthread_sigmask(SIG_BLOCK, &all, &before);
     error = pthread_attr_setstacksize(&attributes, CALL_STACK);
     error = error != 0 ? error : pthread_create(thread, &attributes, make, call);
@@ -213,6 +232,10 @@ static int start(pthread_t *thread, void *(*make)(void *), void *call) {
 
 static bool on_its_stack(void *(*make)(void *), void *call) {
     pthread_t thread;
+    if (has_stack) {
+        make(call);
+        return true;
+    }
     int error = start(&thread, make, call);
     error = error != 0 ? error : pthread_join(thread, NULL);
     if (error != 0) {
@@ -220,6 +243,11 @@ static bool on_its_stack(void *(*make)(void *), void *call) {
         return false;
     }
     return true;
+}
+
+bool library_together(bool (*work)(void *with), void *with) {
+    struct together together = {work, with, false};
+    return on_its_stack(do_together, &together) && together.good;
 }
 
 static bool ask(struct call *call, uint64_t *answer) {

@@ -12,6 +12,11 @@
 #include "files/bytes.h"
 #include "system/file_id.h"
 
+/* Does work that makes many calls, all of them on one such stack: one for each takes longer than a
+ * short call. False where there is none, or where the work says so. It runs beside the program,
+ * which waits for it, and so makes no file that a signal would have to remove. */
+bool library_together(bool (*work)(void *with), void *with);
+
 /* What a run call is lent. */
 struct lent {
     struct bytes header, marker, frames, slots, capture;

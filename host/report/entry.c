@@ -298,7 +298,7 @@ static void print_part_members(FILE *to, const char *what, const struct entry_pa
     print_text_member(to, name, part->digest);
 }
 
-static void print_answer_members(FILE *to, const struct entry *entry, int status) {
+void entry_print_answer_json(FILE *to, const struct entry *entry, int status) {
     const unsigned number = mahyrei_answer_number(entry->answer);
     if (!entry->answered) {
         fputs(",\"number\":null,\"place\":null", to);
@@ -320,6 +320,6 @@ void entry_print_json(FILE *to, const struct entry *entry, int status) {
         print_part_members(to, "capture", &entry->capture);
         fprintf(to, ",\"slot\":%s", strcmp(entry->slot, "-") == 0 ? "null" : entry->slot);
     }
-    print_answer_members(to, entry, status);
+    entry_print_answer_json(to, entry, status);
     fputs("}\n", to);
 }

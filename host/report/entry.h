@@ -111,6 +111,10 @@ void entry_part(struct entry_part *part, const uint8_t *at, size_t len, bool who
  * monday.frames on disk`. */
 void entry_say(const struct entry *entry);
 
+/* Prints its answer as members of an object of JSON, after others: number, place and, unless it
+ * failed, the sentence. */
+void entry_print_answer_json(FILE *to, const struct entry *entry, int status);
+
 /* Prints the entry of a run as an object of JSON. */
 void entry_print_json(FILE *to, const struct entry *entry, int status);
 

@@ -8,8 +8,8 @@
 #include <unistd.h>
 
 /* The library call is one call that nothing comes back from until it ends, so a timer's signal
- * draws the line; its handler uses these, and write(2). */
-static volatile sig_atomic_t at_phase, halves, shown, ended, all;
+ * draws the line; its handler uses these, which another thread may set, and write(2). */
+static _Atomic int at_phase, halves, shown, ended, all;
 
 static void say(const char *text, size_t len) {
     /* A line that does not come out harms nobody, and there is nowhere to say so. */
@@ -65,7 +65,7 @@ static void tick(int signal_number) {
     add(&line, "\r\033[Kmahyrei: ");
     add_phase(&line);
     add(&line, ", ");
-    add_number(&line, (int)halves / 2);
+    add_number(&line, halves / 2);
     add(&line, halves % 2 == 0 ? ".0 s" : ".5 s");
     shown = 1;
     say(line.at, line.len);
@@ -91,7 +91,7 @@ void progress_start(void) {
 }
 
 void progress_phase(enum phase phase) {
-    at_phase = (sig_atomic_t)phase;
+    at_phase = (int)phase;
 }
 
 void progress_count(int runs_ended, int runs) {

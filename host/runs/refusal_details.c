@@ -301,10 +301,12 @@ void say_where_in_form(unsigned number, const struct forms *forms, bool widening
                        const char *operand) {
     if (widening && number == MAHYREI_BAD_HEADER) {
         say_old_header_bytes(&forms->eight, shown(operand));
+        say_if_text(&forms->eight, operand);
     } else if (widening) {
         say_old_fields(&forms->eight, shown(operand));
     } else if (number == MAHYREI_BAD_HEADER) {
         say_header_bytes(&forms->ten, shown(operand));
+        say_if_text(&forms->ten, operand);
     } else if (number == MAHYREI_NO_OLD_HEADER) {
         struct mahyrei_fields fields;
         mahyrei_header_fields(forms->ten.at, forms->ten.len, &fields);

@@ -82,7 +82,18 @@ test_text_in_a_file() {
     echo "$marker" >text
     says "$text" \
         find "$header" text slots
-    local name
+    # Every command that takes a header says so.
+    local words name
+    echo '0 7' >fades
+    echo "$header" >text
+    for words in "read text $marker slots out" "verify --capture text $marker slots" \
+        "scan text $marker slots" 'cut text slots 0 out' 'fades text fades' \
+        'rack-load rack 0 0 0 text' "inspect text $marker slots" 'show text slots 0 1' 'narrow text out'; do
+        # shellcheck disable=SC2086  # several words are meant
+        says "$text" $words
+    done
+    old_header "$header" >text
+    says "$text" widen text out
     for name in frames slots empty; do
         run 1 sheet "$name"
         same "$name is no text" 0 "$(grep -c 'hexadecimal' "$said/err")"
@@ -91,6 +102,19 @@ test_text_in_a_file() {
     same 'text itself is right' 0 "$(grep -c 'hexadecimal' "$said/err")"
     bytes "$header" >text
     run 0 sheet text
+}
+
+# One word for one thing: slots begin with the run, and are no capture. In what the documents show, a
+# command takes a file that is called so only where it takes a capture.
+once_slots_are_no_capture() {
+    local lines
+    lines=$(grep -hE '^ *(\$ )?mahyrei( -[a-z]+)* (read|verify|inspect|show) ' "$root/README.md" \
+        "$root"/docs/manual/*.md "$root/host/man/mahyrei.1" | sed 's/\\//g')
+    same 'lines that show it' yes "$([ "$(wc -l <<<"$lines")" -ge 12 ] && echo yes)"
+    same 'slots that are called a capture' '' \
+        "$(grep -v -- '--capture' <<<"$lines" | grep -E ' (capture|record)[a-z.]*( |$)')"
+    same 'slots that a message calls a capture' '' \
+        "$(grep -hE '^ *mahyrei: (capture|record)[a-z.]*: symbol ' "$root"/docs/manual/*.md "$root/host/man/mahyrei.1")"
 }
 
 test_pack() {

@@ -274,6 +274,31 @@ once_log_of_another() {
     alike 'the log of another run' kept out
 }
 
+# What others add to the log during a run stays, be it there before or not: lines go to its end as it
+# is then, and not as it was when it was opened.
+once_log_at_its_end() {
+    begin
+    local name held temporary
+    echo 'an earlier line' >old
+    for name in old new; do
+        temporary=''
+        : >hold
+        env "LD_PRELOAD=$faults" FAULT=hold "$mahyrei" --log "$name" read "$header" "$marker" slots \
+            "out.$name" &
+        held=$!
+        while [ ! -s "$temporary" ] && kill -0 "$held" 2>/dev/null; do # its log is open by then
+            for temporary in .mahyrei.*; do :; done
+        done
+        echo 'a line of another run' >>"$name"
+        rm hold
+        wait "$held"
+        same "status beside another run, $name" 0 $?
+        logged "$name" "read $sound"
+        same "lines before it, $name" 'a line of another run' "$(tail -n 2 "$name" | head -n 1)"
+    done
+    same 'lines of both' '3 2' "$(wc -l <old) $(wc -l <new)"
+}
+
 # Erasing rests on it: the line of a run that is done is on the disk.
 once_log_synced() {
     begin

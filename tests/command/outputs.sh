@@ -170,6 +170,23 @@ once_open_files_synced() {
     prefix=()
 }
 
+# Some disks say only on closing that a write failed, so an open file is closed once too, by another
+# number; its own stays open.
+once_open_files_closed() {
+    begin
+    prefix=(env "LD_PRELOAD=$faults" FAULT=close:1:5)
+    run 2 read "$header" "$marker" slots -
+    has 'standard output that fails when it is closed' \
+        'mahyrei: standard output: Input/output error' "$err"
+    run 2 read "$header" "$marker" slots /dev/fd/7 7>out
+    has 'an open file that fails then' 'mahyrei: /dev/fd/7: Input/output error' "$err"
+    run 2 -q sheet "$header"
+    has 'text that fails then' 'mahyrei: standard output: Input/output error' "$err"
+    run 2 -q find --all "$header" "$marker" slots
+    has 'pieces of text that fail then' 'mahyrei: standard output: Input/output error' "$err"
+    prefix=()
+}
+
 # owned FILE: its owner, group and mode
 owned() {
     stat -c '%u %g %a' "$1"

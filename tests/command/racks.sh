@@ -664,6 +664,9 @@ once_rack_wait() {
     kept 2 'rack: another program has it locked, after 1 seconds' rack-drop --wait 1 rack 0 0 1
     same 'no less than that' yes \
         "$([ $((${EPOCHREALTIME/./} - begun)) -ge 900000 ] && echo yes)"
+    same 'that it waits is said' 1 "$(grep -c '^mahyrei: rack: .*; waiting$' "$said/err")"
+    kept 2 'rack: another program has it locked, after 1 seconds' -q rack-drop --wait 1 rack 0 0 1
+    same 'lines of one that waits quietly' 1 "$(wc -l <"$said/err")"
     kept 2 'not a number' rack-drop --wait soon rack 0 0 1
     rm hold
     wait "$held"

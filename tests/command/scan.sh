@@ -180,7 +180,7 @@ test_scan_json() {
     local digest
     digest=$(sha256sum frames | cut -d ' ' -f 1)
     has 'a run as JSON' "{\"slot\":160013,\"frames\":3,\"bytes\":1500,\"sha256\":\"$digest\",\"file\":\"to/run-160013.frames\"}" "$(out)"
-    has 'the counts as JSON' '"starts_refused":8,"refused_by_number":{"8":3,"10":5},"slots_not_in_any_run":547268,"longest_gap":{"slot":387113,"slots":227191}}' "$(out)"
+    has 'the counts as JSON' '"starts_refused":8,"refused_by_number":{"8":3,"10":5},"slots_not_in_any_run":547268,"longest_gap":{"slot":387113,"slots":227191},"status":0,"number":0,"place":0,"sentence":"' "$(out)"
     cp recording $'a "name"\n\xFF'
     run 0 -q scan --json "$header" "$marker" $'a "name"\n\xFF'
     has 'a name as JSON' '{"capture":"a \"name\"\u000a\udcff","slots":1228568,"runs_sound":3,' "$(out)"
@@ -188,6 +188,23 @@ test_scan_json() {
         same 'the summary is JSON' 3 \
             "$(python3 -c 'import json, sys; print(len(json.load(sys.stdin)["runs"]))' <"$said/out")"
     fi
+    # A program that reads it is told of every refusal, also of a header or a marker.
+    ended() {
+        local status=$1 number=$2 place=$3 text=$4
+        shift 4
+        run "$status" -q scan --json "$@"
+        has "the end of scan $*" ",\"status\":$status,\"number\":$number,\"place\":$place,\"sentence\":\"$text\"}" "$(out)"
+        has "the runs of scan $*" '"runs_sound":0,"runs":[],' "$(out)"
+        same "lines of scan $*" 1 "$(wc -l <"$said/out")"
+    }
+    ended 1 1 0 "$(sentence 1)" 00 "$marker" recording
+    ended 1 5 0 "$(sentence 5)" "$(header 1 4 2 189 500 5 3)" "$marker" recording
+    ended 1 7 0 "$(sentence 7)" "$header" 0500100309 recording
+    ended 1 8 0 "$(sentence_of_8 scan x)" "$header" 05 recording
+    ended 1 19 0 "$(sentence 19)" "$header" "$marker" empty
+    ended 1 10 7000 "$(sentence 10)" "$header" "$marker" damaged
+    "$mahyrei" -q scan --json 00 "$marker" recording >/dev/full 2>"$said/err"
+    same 'status where a refusal cannot be printed' 2 $?
 }
 
 # A sound run by itself, none at all, and nothing to find one by.
@@ -361,6 +378,24 @@ once_scan_of_a_file_that_changes() {
     same 'no summary then' '' "$(out)"
 }
 
+# A start in every thirteen bytes, 4,096 of them: what is short is not judged on a stack each.
+once_scan_dense() {
+    begin
+    local i
+    head -c 13 slots >recording
+    for ((i = 0; i < 12; i++)); do
+        cat recording recording >twice
+        mv twice recording
+    done
+    prefix=(env "LD_PRELOAD=$faults" FAULT=thread:40:11) # at the fortieth it would fail
+    run 1 -q scan "$header" "$marker" recording
+    prefix=()
+    has 'the summary of a dense recording' 'recording: 0 runs sound, 4,096 starts refused' "$(out)"
+    run 1 -qv scan --from 3 "$header" "$marker" recording
+    same 'what is said of each of its starts' "$(seq 104 104 425880 | cksum)" \
+        "$(sed -n 's/^mahyrei: recording: slot \([0-9]*\): refused, number [0-9]*, .*/\1/p' "$said/err" | cksum)"
+}
+
 # More than there is memory: mapped, not read.
 once_scan_larger_than_memory() {
     begin_recording
@@ -378,8 +413,8 @@ once_scan_larger_than_memory() {
 
 once_scan_faults() {
     begin_recording
-    local fault
-    for fault in read:1:5 write:1:28 write:1:5 fsync:1:5 close:1:5 rename:1:5 thread:1:11 thread:2:11; do
+    local fault name
+    for fault in read:1:5 write:1:28 write:1:5 fsync:1:5 close:1:5 rename:1:5 thread:1:11; do
         rm -rf to
         prefix=(env "LD_PRELOAD=$faults" "FAULT=$fault")
         run 2 scan header "$marker" recording to
@@ -387,6 +422,24 @@ once_scan_faults() {
         same "frames after $fault" '' "$(find . -path './to/*')"
         same "no summary after $fault" '' "$(out)"
     done
+    # The name of a new folder is brought to the disk before anything is in it; and that of one which a
+    # scan before this one has made, and which may have been cut short there.
+    for name in to there; do
+        rm -rf to
+        mkdir -p there
+        prefix=(env "LD_PRELOAD=$faults" FAULT=fsync:1:5)
+        run 2 scan "$header" "$marker" recording "$name"
+        has "a folder whose name does not get to the disk, $name" "mahyrei: $name: Input/output error" "$err"
+        same "what is in it then, $name" '' "$(ls -A "$name")"
+    done
+    # After the first run that is sound another thread is wanted: what was written before is whole.
+    prefix=(env "LD_PRELOAD=$faults" FAULT=thread:2:11)
+    rm -rf to
+    run 2 scan header "$marker" recording to
+    has 'what is said without a second stack' 'a stack of 4 MiB for the library: Resource' "$err"
+    same 'files then' run-160013.frames "$(ls -A to)"
+    alike 'the frames then' frames to/run-160013.frames
+    same 'no summary then' '' "$(out)"
     prefix=()
     "$mahyrei" scan "$header" "$marker" recording >/dev/full 2>"$said/err"
     same 'status of a summary that cannot be printed' 2 $?
