@@ -14,7 +14,8 @@ from .antt import NotFollowed
 # The crates that have a part of their own here. No other crate is named.
 CALLS = "c_calls"  # every call that C sees
 # a function a demand or card, whose contract is what is promised
-PROMISES = ("promises", "promises_words", "promises_runs", "promises_rack", "promises_uplink")
+PROMISES = ("promises", "promises_words", "promises_runs", "promises_rack", "promises_uplink",
+            "promises_sheet")
 TABLE = "bench_table"  # the bench table, likewise
 SHEET = "sheet"  # what the program `runsheet` prints
 WORD = "word"  # its definitions are opened in it alone
