@@ -15,7 +15,7 @@ from .antt import NotFollowed
 CALLS = "c_calls"  # every call that C sees
 # a function a demand or card, whose contract is what is promised; and the statements, by subject
 PROMISES = ("promises", "promises_terms", "promises_headers", "promises_calls", "promises_words", "promises_runs",
-            "promises_fades", "promises_rack", "promises_uplink")
+            "promises_fades", "promises_rack", "promises_uplink", "promises_sheet")
 TABLE = "bench_table"  # the bench table, likewise
 SHEET = "sheet"  # what the program `runsheet` prints
 WORD = "word"  # its definitions are opened in it alone

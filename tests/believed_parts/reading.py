@@ -6,7 +6,8 @@ from . import closure, printing
 
 PAPER = "docs/PROMISES.md"
 ROW = re.compile(r"^\| ([\d,]+) \| ((?:`[\w/.]+`|[^|`])+) \|", re.MULTILINE)
-NAMED = {"worked values": "edges", "terms": "terms", "places": "places", "search from a slot": "find_from"}
+NAMED = {"worked values": "edges", "terms": "terms", "places": "places", "search from a slot": "find_from",
+         "the line of `runsheet`": "runsheet_line"}
 CELL = re.compile(rf"\| ((?:Demand|Card) \d+|{'|'.join(NAMED)})([^|]*)\| ([\d,]+) (?=\|)")
 
 

@@ -24,6 +24,7 @@ ghost use Rattle.promises_uplink.specs.Card14.{Card14};
 ghost use Rattle.promises_runs.specs.FindFrom.{FindFrom};
 ghost use Rattle.promises_headers.specs.Edges.{Edges};
 ghost use Rattle.promises_runs.specs.Places.{Places};
+ghost use Rattle.promises_sheet.specs.Runsheet.{Runsheet};
 
 // What the words mean in which the others speak of bits, bytes and lists.
 pub fn terms()
@@ -128,4 +129,9 @@ pub fn edges()
 // Which place each refusal has.
 pub fn places()
     ensures { λ _. ⌜ Places ⌝ }
+{}
+
+// The line that `runsheet` prints: `no` and a number, or what a run with the header holds, in this order.
+pub fn runsheet_line()
+    ensures { λ _. ⌜ Runsheet ⌝ }
 {}

@@ -1,0 +1,2 @@
+-- The theorems, and what several of them need.
+pub mod RunsheetHolds
