@@ -1,5 +1,5 @@
 -- Proved where its statements are.
-use Rattle.promises_runs.proofs.PlacesHold.{places}
+use Rattle.promises_runs.proofs.Places.{places}
 use Rattle.promises.proofs.places.Statement.{statement}
 use Rattle.promises.proofs.places.Tie as tie
 
