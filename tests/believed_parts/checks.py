@@ -21,6 +21,7 @@ def faults(believed):
         not_followed(believed)
         + misplaced(believed)
         + idle(believed)
+        + two_meanings(believed)
         + opened(believed.tree)
         + transparent(believed)
         + unlisted(believed)
@@ -59,6 +60,15 @@ def idle(believed):
                 found.append(f"{made.place}: no promise or contract rests on {made.name}, "
                              "which is in a file of definitions to be believed")
     return found
+
+
+def two_meanings(believed):
+    """Names that mean one thing in one file and another in the next."""
+    files = {}
+    for made in believed.order:
+        files.setdefault(made.name, set()).add(made.module.path)
+    return [f"{name} is defined in {' and in '.join(sorted(paths))}: one name has one meaning"
+            for name, paths in sorted(files.items()) if len(paths) > 1]
 
 
 def readable(tree, path, found):

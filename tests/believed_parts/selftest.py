@@ -139,6 +139,16 @@ def figure_in_promise(copy):
     return figure(copy, with_figure(filter(copy.believed.is_statement, copy.believed.order)))
 
 
+def name_of_another(copy):
+    """A promise gets the name of one in another file."""
+    statements = [made for made in copy.believed.order if copy.believed.is_statement(made)]
+    first = statements[0]
+    second = next(made for made in statements if made.module.path != first.module.path)
+    text = copy.read(second.module.path)
+    copy.write(second.module.path, re.sub(rf"\b{second.name}\b", first.name, text))
+    return f"{first.name} is defined in "
+
+
 def figure(copy, made):
     text = lines_of(made)
     other = NUMBER.sub(lambda found: str(int(found.group(0)) + 1), text, count=1)
@@ -314,7 +324,7 @@ def private_vocabulary(copy):
 
 FAULTS = [
     moved_to_laws, moved_to_inner, law_in_specs, strange_form_in_specs, figure_in_definition,
-    figure_in_promise, number_in_type, contract_changed, contract_dropped, call_elsewhere,
+    figure_in_promise, name_of_another, number_in_type, contract_changed, contract_dropped, call_elsewhere,
     figure_of_the_paper, use_line_changed, use_line_of_the_kit_changed, name_unknown,
     opened_by_name, opened_by_another_name, opened_by_alias, opened_by_path,
     opened_on_the_next_line, opened_in_a_term, opened_through_a_crate, opened_through_a_law,
