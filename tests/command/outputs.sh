@@ -386,6 +386,23 @@ test_missing_folder() {
     run 2 write -f "$header" "$marker" absent directory
     has 'a folder as output' 'directory: Is a directory' "$err"
     same 'nothing else is looked at before that' '' "$(grep absent: "$said/err")"
+    # Nor is a folder in which nothing can be made, or a file that may not be written.
+    mkdir shut
+    echo old >kept
+    chmod 444 kept
+    chmod 555 shut
+    if [ "$(id -u)" -eq 0 ]; then # nothing is forbidden to root
+        chown -R 65534:65534 .
+        prefix=(chroot --userspec=65534:65534 --groups= --skip-chdir /)
+    fi
+    run 2 write "$header" "$marker" absent shut/out
+    has 'a folder that may not be written' 'shut/out: no temporary file can be made in shut: ' "$err"
+    same 'nothing else is looked at before that' '' "$(grep absent: "$said/err")"
+    run 2 write -f "$header" "$marker" absent kept
+    has 'a file that may not be written' 'kept: Permission denied' "$err"
+    same 'nothing else is looked at before that' '' "$(grep absent: "$said/err")"
+    prefix=()
+    chmod 755 shut
 }
 
 # A file that appears between the last look and the renaming stays too.
