@@ -226,6 +226,28 @@ test_owners() {
     chown 0:0 .
 }
 
+# A file that only its owner may read has no moment in which others may read what takes its place.
+once_modes_on_the_way() {
+    begin
+    local held temporary=''
+    echo old >out
+    chmod 600 out
+    : >hold
+    # shellcheck disable=SC2016  # the inner shell expands it
+    env "LD_PRELOAD=$faults" FAULT=holdmode bash -c 'umask 0; exec "$@"' bash "$mahyrei" -qf write \
+        "$header" "$marker" frames out &
+    held=$!
+    while [ ! -s "$temporary" ] && kill -0 "$held" 2>/dev/null; do
+        for temporary in .mahyrei.*; do :; done
+    done
+    same 'the mode of the file on its way' 600 "$(stat -c %a .mahyrei.*)"
+    rm hold
+    wait "$held"
+    same 'status then' 0 $?
+    same 'the mode at the end' 600 "$(stat -c %a out)"
+    alike 'the file' slots out
+}
+
 test_access_lists() {
     begin
     gcc -std=c11 "$root/tests/c/access_list.c" -o list_tool
