@@ -98,15 +98,21 @@ static bool is_same(int file, const uint8_t *from, size_t len) {
 
 enum { TO_READ = O_RDONLY | O_NOFOLLOW | O_NONBLOCK | O_NOCTTY | O_CLOEXEC };
 
-/* Whether a file that is there has these very bytes and is on the disk. */
-static bool has_bytes(const struct place *place, const uint8_t *from, size_t len) {
+/* Whether a file that is there has these very bytes, and is on the disk by now: whoever put it
+ * there may have been ended before that. What is wrong has been said. */
+static bool will_do(const struct place *place, const uint8_t *from, size_t len) {
     const int file = openat(place->folder, place->base, TO_READ);
-    if (file < 0) {
-        return false;
+    const bool same = file >= 0 && is_same(file, from, len);
+    const bool good = same && sync_data(file) && sync_folder(place->folder);
+    if (!same) {
+        complain_text(place->name, THERE);
+    } else if (!good) {
+        complain(place->name, errno);
     }
-    const bool same = is_same(file, from, len) && sync_data(file) && sync_folder(place->folder);
-    (void)close(file);
-    return same;
+    if (file >= 0) {
+        (void)close(file);
+    }
+    return good;
 }
 
 bool output_is_file(const struct output *output) {
@@ -146,9 +152,10 @@ static bool put_file(const struct output *output, const void *from, size_t len) 
         const struct terms terms = {
             .any = output->force, .own = output->own, .spared = &output->spared};
         const enum replaced outcome = replace(&place, &terms, from, len);
-        good = outcome == REPLACED ||
-               (outcome == TAKEN && output->same_will_do && has_bytes(&place, from, len));
-        if (outcome == TAKEN && !good) {
+        good = outcome == REPLACED;
+        if (outcome == TAKEN && output->same_will_do) {
+            good = will_do(&place, from, len);
+        } else if (outcome == TAKEN) {
             complain_text(output->name, THERE);
         }
     }

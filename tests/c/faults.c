@@ -4,6 +4,7 @@
  *   FAULT=NAME:COUNT:ERROR    the COUNT-th call of NAME fails with this error number
  *   FAULT=slow                reads and writes move little at a time, and signals interrupt them
  *   FAULT=hold                fsync waits as long as there is a file `hold` in the folder
+ *   FAULT=holdmode            fchmod does
  *   FAULT=nonblocking         the standard files do not block
  *   FAULT=memory              the machine has four pages of memory
  *
@@ -113,10 +114,14 @@ ssize_t write(int file, const void *from, size_t count) {
     return fails("write") || !moves(&count) ? -1 : syscall(SYS_write, file, from, count);
 }
 
-int fsync(int file) {
-    while (is("hold") && access("hold", F_OK) == 0) {
+static void wait_where(const char *kind) {
+    while (is(kind) && access("hold", F_OK) == 0) {
         usleep(5000);
     }
+}
+
+int fsync(int file) {
+    wait_where("hold");
     swap("fsync");
     return fails("fsync") ? -1 : (int)syscall(SYS_fsync, file);
 }
@@ -140,6 +145,7 @@ int open(const char *name, int how, ...) {
 }
 
 int fchmod(int file, mode_t mode) {
+    wait_where("holdmode");
     return fails("fchmod") ? -1 : (int)syscall(SYS_fchmod, file, mode);
 }
 

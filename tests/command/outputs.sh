@@ -226,6 +226,28 @@ test_owners() {
     chown 0:0 .
 }
 
+# A file that only its owner may read has no moment in which others may read what takes its place.
+once_modes_on_the_way() {
+    begin
+    local held temporary=''
+    echo old >out
+    chmod 600 out
+    : >hold
+    # shellcheck disable=SC2016  # the inner shell expands it
+    env "LD_PRELOAD=$faults" FAULT=holdmode bash -c 'umask 0; exec "$@"' bash "$mahyrei" -qf write \
+        "$header" "$marker" frames out &
+    held=$!
+    while [ ! -s "$temporary" ] && kill -0 "$held" 2>/dev/null; do
+        for temporary in .mahyrei.*; do :; done
+    done
+    same 'the mode of the file on its way' 600 "$(stat -c %a .mahyrei.*)"
+    rm hold
+    wait "$held"
+    same 'status then' 0 $?
+    same 'the mode at the end' 600 "$(stat -c %a out)"
+    alike 'the file' slots out
+}
+
 test_access_lists() {
     begin
     gcc -std=c11 "$root/tests/c/access_list.c" -o list_tool
@@ -386,6 +408,23 @@ test_missing_folder() {
     run 2 write -f "$header" "$marker" absent directory
     has 'a folder as output' 'directory: Is a directory' "$err"
     same 'nothing else is looked at before that' '' "$(grep absent: "$said/err")"
+    # Nor is a folder in which nothing can be made, or a file that may not be written.
+    mkdir shut
+    echo old >kept
+    chmod 444 kept
+    chmod 555 shut
+    if [ "$(id -u)" -eq 0 ]; then # nothing is forbidden to root
+        chown -R 65534:65534 .
+        prefix=(chroot --userspec=65534:65534 --groups= --skip-chdir /)
+    fi
+    run 2 write "$header" "$marker" absent shut/out
+    has 'a folder that may not be written' 'shut/out: no temporary file can be made in shut: ' "$err"
+    same 'nothing else is looked at before that' '' "$(grep absent: "$said/err")"
+    run 2 write -f "$header" "$marker" absent kept
+    has 'a file that may not be written' 'kept: Permission denied' "$err"
+    same 'nothing else is looked at before that' '' "$(grep absent: "$said/err")"
+    prefix=()
+    chmod 755 shut
 }
 
 # A file that appears between the last look and the renaming stays too.

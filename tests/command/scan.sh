@@ -432,6 +432,15 @@ once_scan_faults() {
         has "a folder whose name does not get to the disk, $name" "mahyrei: $name: Input/output error" "$err"
         same "what is in it then, $name" '' "$(ls -A "$name")"
     done
+    # So are frames that are there already, and their names: who left them may have been ended before.
+    prefix=()
+    run 0 -q scan "$header" "$marker" recording to
+    for fault in fsync:2:5 fsync:3:5; do
+        prefix=(env "LD_PRELOAD=$faults" "FAULT=$fault")
+        run 2 scan "$header" "$marker" recording to
+        has "frames that were there, $fault" 'mahyrei: to/run-160013.frames: Input/output error' "$err"
+        same "no line of the log then, $fault" 0 "$(grep -c 'slot=160013 answer=0' "$said/err")"
+    done
     # After the first run that is sound another thread is wanted: what was written before is whole.
     prefix=(env "LD_PRELOAD=$faults" FAULT=thread:2:11)
     rm -rf to
