@@ -1,3 +1,4 @@
+-- What the proofs of this crate share; Laws are for other crates too.
 pub mod Laws
 pub mod Pieces
 pub mod Fifths

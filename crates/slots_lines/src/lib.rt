@@ -65,7 +65,7 @@ fn put_residue(p: Plan, words: &[u8], line: usize, c: usize, r: usize, slots: &m
 }
 
 // Residues below this one have had all their symbols before place `start`.
-fn residues_from(rows: usize, step: usize, total: usize, start: usize) -> usize
+pub fn residues_from(rows: usize, step: usize, total: usize, start: usize) -> usize
     requires { ⌜ (rows ≤ 128) × (step ≤ 256) × (start < 2 ^ 32) ⌝ }
     ensures { λ k. ⌜ ((r : ℕ) → r < k → r % rows * (step * rows) + total ≤ start) ⌝ }
 {
@@ -76,7 +76,7 @@ fn residues_from(rows: usize, step: usize, total: usize, start: usize) -> usize
 }
 
 // Residues from this one on, below n, have none before place `end`.
-fn residues_to(rows: usize, step: usize, end: usize, n: usize) -> usize
+pub fn residues_to(rows: usize, step: usize, end: usize, n: usize) -> usize
     requires { ⌜ (rows ≤ 128) × (step ≤ 256) × (1 ≤ end) ⌝ }
     ensures { λ k. ⌜ (k ≤ n) × ((r : ℕ) → k ≤ r → r < n → end ≤ r % rows * (step * rows)) ⌝ }
 {

@@ -22,7 +22,7 @@ fn put_line(p: Plan, words: &[u8], zeros: &[u8], line: usize, slots: &mut [u8])
     let to = ((line + 1) * unit * copies * group + 7) / 8;
     slots_moves::lay_zeros(zeros, slots, from, to);
     slots_lines::put_marks(p, line, slots);
-    slots_lines::put_residues(p, words, line, slots);
+    slots_rows::put_symbols(p, words, line, slots);
 }
 
 fn put_lines(p: Plan, words: &[u8], zeros: &[u8], slots: &mut [u8])

@@ -63,23 +63,6 @@ holds-none p word slots e b =
     let z : 0 * unit (p .layout) * p .copies * p .group ≡ 0 = ap (λ (n : ℕ). n * p .copies * p .group) (zero-mul (unit (p .layout))) ∙ ap (λ (n : ℕ). n * p .group) (zero-mul (p .copies)) ∙ zero-mul (p .group) in
     record { room = e; bytes = b; bits = λ x l. absurd (omega arith) }
 
-pub holds-is : (p : Plan) (word : ℕ → List ℕ) (n m end : ℕ) (slots : List ℕ) → n ≡ m → Holds p (front p word n) end slots → Holds p (front p word m) end slots
-holds-is p word n m end slots e h = rw e at h
-
--- one symbol more, in their order
-pub holds-next : (p : Plan) (word : ℕ → List ℕ) (s end q : ℕ) (slots after : List ℕ) → q ≡ symbolAt p word s
-    → Holds p (front p word s) end slots → Moved p s q slots after → Holds p (front p word (s + 1)) end after
-holds-next p word s end q slots after same h m =
-    let f : ℕ → ℕ = symbolAt p word in
-    let le : s ≤ s = omega arith in
-    let lt : s < s + 1 = omega arith in
-    m .becomes (front p word s) (front p word (s + 1)) end (cut-past s f s le) (cut-in (s + 1) f s lt ∙ sym same)
-    (λ u n. ⊎-elim
-    (λ (a : u < s). let b : u < s + 1 = omega arith in cut-in s f u a ∙ sym (cut-in (s + 1) f u b))
-    (λ (a : s ≤ u). let b : s + 1 ≤ u = omega arith in cut-past s f u a ∙ sym (cut-past (s + 1) f u b))
-    (lt-or-le u s))
-    h
-
 -- with all of them, and no pulse after them, it is the definition
 pub holds-all : (p : Plan) → Fine p → (word : ℕ → List ℕ) (slots after : List ℕ) → Holds p (front p word (p .layout .lines * unit (p .layout))) (lineEnd p (p .layout .lines)) slots
     → Ends slots (p .layout .lines * unit (p .layout) * p .copies * p .group) after → Bytes after → after ≡ runSlots p word

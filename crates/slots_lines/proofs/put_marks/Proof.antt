@@ -9,8 +9,8 @@ use Rattle.channel.proofs.Laws.Markers.{line-mark}
 use Rattle.channel.specs.Channel.{unit}
 use Rattle.slots.specs.Writing.{placedSymbol}
 use Rattle.slots_moves.specs.Inner.{Holds, front}
-use Rattle.slots_moves.proofs.Laws.Moves.{copied, of}
-use Rattle.slots_lines.proofs.Laws.Lines.{sizes, holds-is, holds-next}
+use Rattle.slots_moves.proofs.Laws.Moves.{copied, of, holds-is, holds-next}
+use Rattle.slots_lines.proofs.Laws.Lines.{sizes}
 use Rattle.slots_lines.proofs.put_marks.Statement.{statement}
 use Rattle.slots_lines.proofs.put_marks.Tie as tie
 

@@ -14,12 +14,14 @@ use Rattle.bits.specs.Pack.{flipBit, bitAt, Bytes}
 use Rattle.bits.proofs.Laws.Change.{length-flip, flip-bit}
 use Rattle.bits.specs.Basics.{pick, bool}
 use Rattle.bits.proofs.Laws.Choice.{lt-or-le, eq-or-ne}
+use Rattle.bits.proofs.Laws.Pack.{cut-in, cut-past}
 use Rattle.plan.specs.declared.Plan.{Plan}
 use Rattle.plan.specs.Inner.{Fine, slotBytes}
 use Rattle.plan.specs.Plan.{sentCount}
 use Rattle.channel.specs.Channel.{layoutSymbols}
 use Rattle.slots.proofs.Laws.Bounds.{bounds}
-use Rattle.slots_moves.specs.Inner.{Copied, Of, Groups, Holds, Moved}
+use Rattle.slots.specs.Writing.{symbolAt}
+use Rattle.slots_moves.specs.Inner.{Copied, Of, Groups, Holds, Moved, front}
 
 -- slot x is slot q of group s just where it is in that group and q is its place there
 in-group : (g s q x : ℕ) → q < g → x / g ≡ s → eqb x (s * g + q) ≡ eqb (x % g) q
@@ -152,3 +154,22 @@ one-moved p copies group s q o one slots after e bytes =
           (copies-more p pos s f g else end 0 q slots after (o .among) pos (o .small) zero there (copies-begun p pos s f g else end slots h)
           (e ∙ ap (λ (x : ℕ). flipBit (flipBit slots x) (x + q)) at) bytes);
     }
+
+-- ---- the first symbols of a run, in their order
+
+pub holds-is : (p : Plan) (word : ℕ → List ℕ) (n m end : ℕ) (slots : List ℕ) → n ≡ m → Holds p (front p word n) end slots → Holds p (front p word m) end slots
+holds-is p word n m end slots e h = rw e at h
+
+-- one symbol more, in their order
+pub holds-next : (p : Plan) (word : ℕ → List ℕ) (s end q : ℕ) (slots after : List ℕ) → q ≡ symbolAt p word s
+    → Holds p (front p word s) end slots → Moved p s q slots after → Holds p (front p word (s + 1)) end after
+holds-next p word s end q slots after same h m =
+    let f : ℕ → ℕ = symbolAt p word in
+    let le : s ≤ s = omega arith in
+    let lt : s < s + 1 = omega arith in
+    m .becomes (front p word s) (front p word (s + 1)) end (cut-past s f s le) (cut-in (s + 1) f s lt ∙ sym same)
+    (λ u n. ⊎-elim
+    (λ (a : u < s). let b : u < s + 1 = omega arith in cut-in s f u a ∙ sym (cut-in (s + 1) f u b))
+    (λ (a : s ≤ u). let b : s + 1 ≤ u = omega arith in cut-past s f u a ∙ sym (cut-past (s + 1) f u b))
+    (lt-or-le u s))
+    h

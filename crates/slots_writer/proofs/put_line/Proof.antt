@@ -95,8 +95,8 @@ lay-zeros-requires c κs =
 put-marks-requires : tie.Need-put-marks-requires
 put-marks-requires c κs = let s = c .before .before .before .before .before .before .before .before .before in (s .pre .0 .fine, s .pre .2, c .before .before .before .lay-zeros .ensures .long ∙ s .pre .3 .room)
 
-put-residues-requires : tie.Need-put-residues-requires
-put-residues-requires c κs = let s = c .before .before .before .before .before .before .before .before .before .before .before .before .before in (record { given = s .pre .0; room = c .before .before .before .put-marks .kept .1 .1 .0 ∙ (c .before .before .before .before .before .before .before .lay-zeros .ensures .long ∙ s .pre .3 .room) }, s .pre .2)
+put-symbols-requires : tie.Need-put-symbols-requires
+put-symbols-requires c κs = let s = c .before .before .before .before .before .before .before .before .before .before .before .before .before in (record { given = s .pre .0; room = c .before .before .before .put-marks .kept .1 .1 .0 ∙ (c .before .before .before .before .before .before .before .lay-zeros .ensures .long ∙ s .pre .3 .room) }, s .pre .2)
 
 same-length : tie.Need-same-length
 same-length c = search needs
@@ -111,7 +111,7 @@ returns c =
     let end : ℕ = lineEnd p (line + 1) in
     let near : line * unit (p .layout) * p .copies * p .group ≤ 8 * lineEnd p line = omega arith in
     let first = holds-laid p (s .pre .0 .fine) w (line * unit (p .layout)) (lineEnd p line) end _ _ _ near (s .pre .1) (s .pre .3) (laid .ensures) (λ i. omega (arith, c .before .before .before .before .before .before .before .before .slice-known2 .given i)) in
-    c .before .before .put-residues .ensures end (c .before .before .before .before .before .before .put-marks .ensures w end first)
+    c .before .before .put-symbols .ensures end (c .before .before .before .before .before .before .put-marks .ensures w end first)
 
 pub put-line-spec : {M : Type 1} → statement M
 put-line-spec =
@@ -129,6 +129,6 @@ put-line-spec =
     add-to-2
     lay-zeros-requires
     put-marks-requires
-    put-residues-requires
+    put-symbols-requires
     same-length
     returns)

@@ -1,0 +1,133 @@
+// Steps 8 to 10 of a line whose symbols are short: they are gathered in a row, one to a byte, residue by residue modulo N, and laid forty slots at a time.
+use plan::Plan;
+ghost use mathlib.Core.Path.{_≡_};
+ghost use mathlib.Core.Bool.{true};
+ghost use Prim.Native.Nat.{ℕ, _+_, _-_, _*_, _%_, _≤_, _<_};
+ghost use mathlib.Core.List.{List};
+ghost use lib.ListN.{length, getD};
+ghost use Rattle.plan.specs.Inner.{Fine};
+ghost use Rattle.bits.specs.Pack.{piece};
+ghost use Rattle.channel.specs.Channel.{unit};
+ghost use Rattle.channel.specs.Inner.{delay};
+ghost use Rattle.sizes.specs.Sizes.{wordBytes};
+ghost use Rattle.slots.specs.Inner.{Given, Lent};
+ghost use Rattle.slots_moves.specs.Inner.{Holds, front};
+ghost use Rattle.slots_units.specs.Inner.{perForty};
+ghost use Rattle.slots_rows.specs.Inner.{rowBytes, symbolIn, Column, Gather, Places, RowTo};
+
+// How many of the places from x on, n apart, are before `end`.
+fn places(x: usize, end: usize, n: usize) -> usize
+    requires { ⌜ 1 ≤ n ⌝ }
+    ensures { λ count. ⌜ Places x end n count ⌝ }
+{
+    if end <= x {
+        return 0;
+    }
+    (end - x - 1) / n + 1
+}
+
+// `count` symbols of m bits from symbol t on, n apart, to a row, n apart from byte `from` on.
+fn gather(words: &[u8], t: usize, m: usize, row: &mut [u8], from: usize, n: usize, count: usize)
+    requires { ⌜ Gather m t n count (now words) from (now row) ⌝ }
+    ensures { λ _. ⌜ Column (now (row .entry)) from n count (λ j. symbolIn m (now (words .entry)) (t + j * n)) (now (row .exit)) ⌝ }
+{
+    let mut j = 0;
+    while j < count {
+        row[from + j * n] = (bits::packing::field(words, m * (t + j * n), m) & 255) as u8;
+        j += 1;
+    }
+}
+
+// Step 9, the places of a line that are r modulo N: from the first that is hit, symbol after symbol.
+fn row_residue(p: Plan, words: &[u8], line: usize, c: usize, r: usize, row: &mut [u8])
+    requires { ⌜ Given p (now words) × (line < p .layout .lines) × (c ≡ line * p .layout .symbols % p .layout .rows) × (r < p .layout .rows) × RowTo p (piece wordBytes (now words)) line r (now row) ⌝ }
+    ensures { λ _. ⌜ RowTo p (piece wordBytes (now (words .entry))) line (r + 1) (now (row .exit)) ⌝ }
+{
+    let rows = p.layout.rows;
+    let symbols = p.layout.symbols;
+    let m = p.bits;
+    let all = p.layout.words * symbols;
+    let start = line * symbols;
+    let delay = r * (p.layout.step * rows);
+    let end = bits::scan::least(start + symbols, delay + all);
+    let x = bits::scan::most(channel::first_place(start, c, r, rows), delay + r);
+    let count = places(x, end, rows);
+    gather(words, x - delay, m, row, x - start, rows, count);
+}
+
+// The residues from `from` on up to `to`.
+fn row_residues(p: Plan, words: &[u8], line: usize, from: usize, to: usize, row: &mut [u8])
+    requires { ⌜ Given p (now words) × (line < p .layout .lines) × (from ≤ to) × (to ≤ p .layout .rows) × RowTo p (piece wordBytes (now words)) line from (now row) ⌝ }
+    ensures { λ _. ⌜ RowTo p (piece wordBytes (now (words .entry))) line to (now (row .exit)) ⌝ }
+{
+    let c = line * p.layout.symbols % p.layout.rows;
+    let mut r = from;
+    while r < to {
+        row_residue(p, words, line, c, r, row);
+        r += 1;
+    }
+}
+
+// The slots of a line, of whose residues those from `from` on up to `to` have places in it, by a row of zeros.
+fn put_gathered(
+    p: Plan,
+    words: &[u8],
+    line: usize,
+    from: usize,
+    to: usize,
+    row: &mut [u8],
+    slots: &mut [u8],
+)
+    requires { ⌜ Lent p (now words) (now slots) × (line < p .layout .lines) × (from ≤ to) × (to ≤ p .layout .rows) × RowTo p (piece wordBytes (now words)) line from (now row) × ((r : ℕ) → to ≤ r → r < p .layout .rows → line * p .layout .symbols + p .layout .symbols ≤ delay (p .layout) (r % p .layout .rows)) × (1 ≤ perForty (p .copies * p .group)) ⌝ }
+    ensures { λ _. ⌜ ((end : ℕ) → Holds p (front p (piece wordBytes (now (words .entry))) (line * unit (p .layout) + p .layout .markers)) end (now (slots .entry)) → Holds p (front p (piece wordBytes (now (words .entry))) ((line + 1) * unit (p .layout))) end (now (slots .exit))) ⌝ }
+{
+    let symbols = p.layout.symbols;
+    let markers = p.layout.markers;
+    row_residues(p, words, line, from, to, row);
+    slots_units::lay_row(p, row, symbols, line * (symbols + markers) + markers, slots);
+}
+
+fn put_row(p: Plan, words: &[u8], line: usize, from: usize, to: usize, slots: &mut [u8])
+    requires { ⌜ Lent p (now words) (now slots) × (line < p .layout .lines) × (from ≤ to) × (to ≤ p .layout .rows) × ((r : ℕ) → r < from → delay (p .layout) (r % p .layout .rows) + p .layout .words * p .layout .symbols ≤ line * p .layout .symbols) × ((r : ℕ) → to ≤ r → r < p .layout .rows → line * p .layout .symbols + p .layout .symbols ≤ delay (p .layout) (r % p .layout .rows)) × (1 ≤ perForty (p .copies * p .group)) ⌝ }
+    ensures { λ _. ⌜ ((end : ℕ) → Holds p (front p (piece wordBytes (now (words .entry))) (line * unit (p .layout) + p .layout .markers)) end (now (slots .entry)) → Holds p (front p (piece wordBytes (now (words .entry))) ((line + 1) * unit (p .layout))) end (now (slots .exit))) ⌝ }
+{
+    let mut row = [0u8; 7560];
+    put_gathered(p, words, line, from, to, &mut row, slots);
+}
+
+// Whether a line is worth a row: its symbols are short, and an eighth of the residues, from `from` on up to `to`, have places in it.
+fn dense(p: Plan, from: usize, to: usize) -> bool
+    requires { ⌜ Fine p × (to ≤ p .layout .rows) ⌝ }
+    ensures { λ b. ⌜ (b ≡ true → (from ≤ to) × (1 ≤ perForty (p .copies * p .group))) ⌝ }
+{
+    let copies = p.copies;
+    let group = p.group;
+    if to <= from {
+        return false;
+    }
+    if group > 20 {
+        return false;
+    }
+    if slots_units::per_forty(copies * group) == 0 {
+        return false;
+    }
+    (to - from) * 8 >= p.layout.rows
+}
+
+// The slots of a line's symbols.
+pub fn put_symbols(p: Plan, words: &[u8], line: usize, slots: &mut [u8])
+    requires { ⌜ Lent p (now words) (now slots) × (line < p .layout .lines) ⌝ }
+    ensures { λ _. ⌜ ((end : ℕ) → Holds p (front p (piece wordBytes (now (words .entry))) (line * unit (p .layout) + p .layout .markers)) end (now (slots .entry)) → Holds p (front p (piece wordBytes (now (words .entry))) ((line + 1) * unit (p .layout))) end (now (slots .exit))) ⌝ }
+{
+    let rows = p.layout.rows;
+    let step = p.layout.step;
+    let symbols = p.layout.symbols;
+    let start = line * symbols;
+    let to = slots_lines::residues_to(rows, step, start + symbols, rows);
+    let from = slots_lines::residues_from(rows, step, p.layout.words * symbols, start);
+    if dense(p, from, to) {
+        put_row(p, words, line, from, to, slots);
+    } else {
+        slots_lines::put_residues(p, words, line, slots);
+    }
+}
