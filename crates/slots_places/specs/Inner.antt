@@ -10,8 +10,9 @@ use Rattle.channel.specs.Channel.{unit, symbolCount, place, symbolOf, restZero}
 use Rattle.channel.specs.Inner.{Put}
 use Rattle.plan.specs.declared.Plan.{Plan}
 use Rattle.plan.specs.Inner.{Fine}
-use Rattle.sizes.specs.Sizes.{wordBytes, wordBits}
+use Rattle.sizes.specs.Sizes.{wordBits}
 use Rattle.slots.specs.Reading.{pooledIn, dataIn}
+use Rattle.slots_residues.specs.Inner.{Room}
 use Rattle.slots_symbols.specs.Inner.{Row}
 
 -- symbols in a row of bytes, of which the first is symbol `base`: those from `from` on up to `to`, no more than a line of them, are asked about
@@ -24,13 +25,9 @@ pub record Stretch (p : Plan) (base from to : ℕ) (row : List ℕ) : Type 0 whe
   pub room : to ≤ base + length row
   pub small : (i : ℕ) → i < to - base → getD row i 0 < p .order
 
--- room for the words, and a byte after them
-abbrev pub Room : Plan → List ℕ → Type 0
-Room p words = p .layout .words * wordBytes < length words
-
--- the same, all 0
+-- room for the words, all 0
 pub record Cleared (p : Plan) (words : List ℕ) : Type 0 where
-  pub room : p .layout .words * wordBytes < length words
+  pub room : Room p words
   pub empty : (k : ℕ) → getD words k 0 ≡ 0
 
 -- symbol q was put to the words if one of them goes to place x, `delay` after its own number; otherwise r tells whether it is 0
@@ -46,7 +43,7 @@ takenBit p b s y = pick (ltb (symbolOf (p .layout) (place (p .layout) (y / p .bi
 
 -- the words lie back to back, with a byte after them
 pub record Took (p : Plan) (b : List ℕ) (s : ℕ) (words : List ℕ) : Type 0 where
-  pub room : p .layout .words * wordBytes < length words
+  pub room : Room p words
   pub right : (y : ℕ) → y < p .layout .words * wordBits → bitAt words y ≡ takenBit p b s y
 
 -- what a look at the symbols from `from` on up to `to` tells, whatever slots the row was read from: the first wrong place, or `to`, and where none is wrong the words with them

@@ -1,11 +1,14 @@
 // Question 12, and the words: a place that is hit has a symbol of theirs, and the others hold 0. The symbols are in a row of bytes.
 ghost use mathlib.Core.Path.{_≡_};
+ghost use mathlib.Core.Bool.{true};
 ghost use mathlib.Core.List.{List};
-ghost use Prim.Native.Nat.{ℕ, _+_, _*_, _%_, _^_, _≤_, _<_};
-ghost use Rattle.channel.specs.Channel.{unit};
-ghost use Rattle.channel.specs.Inner.{Puts};
+ghost use Prim.Native.Nat.{ℕ, _+_, _-_, _*_, _≤_, _<_};
+ghost use Rattle.channel.specs.Channel.{unit, total};
+ghost use Rattle.channel.specs.Inner.{Puts, delay};
+ghost use Rattle.plan.specs.Inner.{Fine};
+ghost use Rattle.slots_residues.specs.Inner.{Room};
 ghost use Rattle.slots_symbols.specs.Inner.{Row};
-ghost use Rattle.slots_places.specs.Inner.{Stretch, Room, Placed, Tells, Known};
+ghost use Rattle.slots_places.specs.Inner.{Stretch, Placed, Tells, Known};
 
 // Symbol q, of m bits, at place x, to which a symbol comes that is delayed so far: to the words, if it is one of theirs; and whether it is right.
 fn take_place(total: usize, m: usize, x: usize, delay: usize, q: usize, words: &mut [u8]) -> u8
@@ -20,18 +23,6 @@ fn take_place(total: usize, m: usize, x: usize, delay: usize, q: usize, words: &
     }
     channel::put_symbol(words, x - delay, m, q);
     1
-}
-
-// The delay of the next place: `back` more than this one, and none again after the last of N.
-fn next_delay(delay: usize, back: usize, wrap: usize) -> usize
-    requires { ⌜ (delay < 2 ^ 32) × (back < 2 ^ 32) ⌝ }
-    ensures { λ r. ⌜ ((x n : ℕ) → 1 ≤ n → wrap ≡ n * back → delay ≡ x % n * back → r ≡ (x + 1) % n * back) ⌝ }
-{
-    let next = delay + back;
-    if next == wrap {
-        return 0;
-    }
-    next
 }
 
 // The symbols of a line from `from` on up to `to`: the first that is at a place that is not hit
@@ -58,22 +49,53 @@ fn take_in(
     let mut s = bits::scan::most(from, line * symbols + skip);
     let mut delay = (s - skip) % rows * back;
     while s < to {
-        if take_place(
-            total,
-            p.bits,
-            s - skip,
-            delay,
-            row[s - base] as usize,
-            words,
-        )
-            == 0
-        {
+        let q = row[s - base] as usize;
+        if take_place(total, p.bits, s - skip, delay, q, words) == 0 {
             return s;
         }
-        delay = next_delay(delay, back, wrap);
+        delay = slots_residues::next_delay(delay, back, wrap);
         s += 1;
     }
     to
+}
+
+// All places from x on before y are hit, and there are at least two of each residue.
+fn full(p: plan::Plan, x: usize, y: usize) -> bool
+    requires { ⌜ Fine p × (x ≤ y) ⌝ }
+    ensures { λ r. ⌜ (r ≡ true → (x < y) × (delay (p .layout) (p .layout .rows - 1) ≤ x) × (y ≤ total (p .layout))) ⌝ }
+{
+    let rows = p.layout.rows;
+    if y - x < 2 * rows {
+        return false;
+    }
+    if x < (rows - 1) * (p.layout.step * rows) {
+        return false;
+    }
+    y <= p.layout.words * p.layout.symbols
+}
+
+// As `take_in`; where all places are hit, none is wrong.
+fn take_line(
+    p: plan::Plan,
+    row: &[u8],
+    base: usize,
+    line: usize,
+    from: usize,
+    to: usize,
+    words: &mut [u8],
+) -> usize
+    requires { ⌜ Stretch p base from to (now row) × (line < p .layout .lines) × (line * unit (p .layout) ≤ from) × (to ≤ line * unit (p .layout) + unit (p .layout)) × Room p (now words) ⌝ }
+    ensures { λ r. ⌜ Tells p (now (row .entry)) base from to (now (words .entry)) r (now (words .exit)) ⌝ }
+{
+    let markers = p.layout.markers;
+    let skip = line * markers + markers;
+    let s = bits::scan::most(from, line * p.layout.symbols + skip);
+    let end = bits::scan::most(s, to);
+    if full(p, s - skip, end - skip) {
+        slots_residues::take_full(p, row, s - base, end - base, s - skip, words);
+        return to;
+    }
+    take_in(p, row, base, line, from, to, words)
 }
 
 // The same for symbols of one line or two.
@@ -85,12 +107,12 @@ fn take(p: plan::Plan, row: &[u8], from: usize, to: usize, words: &mut [u8]) -> 
     let line = from / unit;
     let end = line * unit + unit;
     let mid = bits::scan::least(to, end);
-    let r = take_in(p, row, from, line, from, mid, words);
+    let r = take_line(p, row, from, line, from, mid, words);
     if r < mid {
         return r;
     }
     if mid < to {
-        return take_in(p, row, from, line + 1, mid, to, words);
+        return take_line(p, row, from, line + 1, mid, to, words);
     }
     to
 }

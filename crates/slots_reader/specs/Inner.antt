@@ -6,7 +6,8 @@ use lib.ListN.{length}
 use Rattle.channel.specs.Channel.{unit, symbolCount}
 use Rattle.plan.specs.declared.Plan.{Plan}
 use Rattle.slots.specs.Inner.{RunSlots}
-use Rattle.slots_places.specs.Inner.{Room, Known}
+use Rattle.slots_places.specs.Inner.{Known}
+use Rattle.slots_residues.specs.Inner.{Room}
 
 -- the symbols from `from` on up to `to` are asked about
 pub record Seeks (p : Plan) (b : List ℕ) (from to rest : ℕ) (words : List ℕ) : Type 0 where

@@ -20,20 +20,19 @@ use Rattle.channel.specs.Channel as channel
 use Rattle.channel.proofs.Laws.Markers.{sym-mod, place-sym, in-line, rest-hit, rest-unhit}
 use Rattle.channel.proofs.Laws.Places.{place-on, place-back, place-one, place-hit, hit-none, hit-here, hit-place}
 use Rattle.channel.specs.declared.Layout.{Layout}
-use Rattle.channel.specs.Inner.{delay, Puts, Put}
+use Rattle.channel.specs.Inner.{delay, Put}
 use Rattle.channel.proofs.Laws.Return as returns
-use Rattle.channel.proofs.Laws.Symbols.{data-inside}
 use Rattle.plan.specs.declared.Plan.{Plan}
 use Rattle.plan.specs.Inner.{Fine}
 use Rattle.channel.specs.Channel.{total, unit, symbolCount, place, hitBy, symbolOf}
 use Rattle.slots.proofs.Laws.Bounds.{bounds}
 use Rattle.slots.specs.Reading.{pooledIn, dataIn, wordOut}
-use Rattle.slots_places.specs.Inner.{Room, Cleared, Placed, takenBit, Took}
+use Rattle.slots_places.specs.Inner.{Cleared, Placed, takenBit, Took}
 
 -- ---- the symbol of a place by its delay
 
 module _ (g : Layout) (x late : ℕ) (e : late ≡ delay g (x % g .rows)) where
-  hit-at : late ≤ x → x - late < total g → hitBy g x ≡ x - late
+  pub hit-at : late ≤ x → x - late < total g → hitBy g x ≡ x - late
   hit-at a l = hit-here g x (x - late) l (place-back g x (x - late) (omega arith))
 
   hit-not : (late ≤ x → x - late < total g → ⊥) → hitBy g x ≡ total g
@@ -41,6 +40,11 @@ module _ (g : Layout) (x late : ℕ) (e : late ≡ delay g (x % g .rows)) where
       hit-none g x (λ t l q.
       let on : x ≡ t + delay g (x % g .rows) = sym q ∙ place-on g t ∙ ap (λ (y : ℕ). t + delay g (y % g .rows)) q in
       n (omega arith) (omega arith))
+
+-- the symbol at place i of a line
+pub symbol-there : (g : Layout) (line i : ℕ) → i < g .symbols → symbolOf g (line * g .symbols + i) ≡ line * unit g + (g .markers + i)
+unfolding channel.symbolOf
+symbol-there g line i inside = ap₂ (λ (u v : ℕ). u * unit g + (g .markers + v)) (digits-div line inside) (digits-mod line inside)
 
 hits : (late x n : ℕ) → ((late ≤ x) × (x - late < n)) ⊎ (late ≤ x → x - late < n → ⊥)
 hits late x n =
@@ -112,20 +116,6 @@ module _ (p : Plan) (fine : Fine p) (b : List ℕ) where
         let f = sym-mod (p .layout) (bounds p fine .symbols-least) (place (p .layout) t) in
         absurd (omega arith))
 
-    -- what laying a symbol of theirs asks for
-    pub puts : (t q : ℕ) → t < total (p .layout) → q < p .order → Room p words → Puts t (p .bits) q words
-    puts t q hit small room =
-        let d : p .bits * t + p .bits ≤ p .layout .words * wordBits = data-inside (p .bits) (p .layout) (fine .symbols-are) t hit in
-        let z = bounds p fine in
-        let least = fine .bits-least in
-        record {
-          bits-least = omega arith;
-          bits-most = fine .bits-most;
-          small = let e = fine .order-is in omega arith;
-          bound = omega arith;
-          room = omega arith;
-        }
-
     -- place i of a line
     module _ (line i : ℕ) (inside : i < p .layout .symbols) where
       abbrev x : ℕ
@@ -135,8 +125,7 @@ module _ (p : Plan) (fine : Fine p) (b : List ℕ) where
       s = line * unit (p .layout) + (p .layout .markers + i)
 
       at : symbolOf (p .layout) x ≡ s
-      unfolding channel.symbolOf
-      at = ap₂ (λ (u v : ℕ). u * unit (p .layout) + (p .layout .markers + v)) (digits-div line inside) (digits-mod line inside)
+      at = symbol-there (p .layout) line i inside
 
       back : (t : ℕ) → stands t ≡ s → place (p .layout) t ≡ x
       back t e =

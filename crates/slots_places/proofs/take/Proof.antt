@@ -57,8 +57,8 @@ add-end c = let r = known (c .before .before .before) in omega arith
 least-requires : tie.Need-least-requires
 least-requires c κs = search needs
 
-take-in-requires : tie.Need-take-in-requires
-take-in-requires c κs =
+take-line-requires : tie.Need-take-line-requires
+take-line-requires c κs =
     let s = c .before .before .before .before .before in
     let h = s .pre .0 in
     let some = s .pre .1 in
@@ -79,7 +79,7 @@ returns c =
     let r = known s in
     let some = s .pre .1 in
     let least = (c .before .before .before .before .before) .least in
-    let first = (c .before .before .before) .take-in in
+    let first = (c .before .before .before) .take-line in
     let e = least .ensures ∙ lesser-min (a .to) (a .from / unit (a .p .layout) * unit (a .p .layout) + unit (a .p .layout)) in
     let l : first .result < least .result = c .if1 .taken in
     record {
@@ -87,11 +87,11 @@ returns c =
       took = λ b row took q. absurd (omega arith);
     }
 
-add-take-in : tie.Need-add-take-in
-add-take-in c = let r = known (c .before .before .before .before .before .before .before .before .before .before) in omega arith
+add-take-line : tie.Need-add-take-line
+add-take-line c = let r = known (c .before .before .before .before .before .before .before .before .before .before) in omega arith
 
-take-in-requires-2 : tie.Need-take-in-requires-2
-take-in-requires-2 c κs =
+take-line-requires-2 : tie.Need-take-line-requires-2
+take-line-requires-2 c κs =
     let s = c .before .before .before .before .before .before .before .before .before .before .before in
     let h = s .pre .0 in
     let some = s .pre .1 in
@@ -102,11 +102,11 @@ take-in-requires-2 c κs =
     let e = least .ensures ∙ lesser-min (s .args .to) (line * unit (p .layout) + unit (p .layout)) in
     let most = h .most in
     let near = h .near in
-    let left : least .result ≤ (c .before .before .before .before .before) .take-in .result = (c .before .before) .if1 .left in
+    let left : least .result ≤ (c .before .before .before .before .before) .take-line .result = (c .before .before) .if1 .left in
     let more : least .result < s .args .to = (c .before) .if2 .taken in
     let next : line + 1 < p .layout .lines =
     ⊎-elim (λ (l : line + 1 < p .layout .lines). l) (λ (l : p .layout .lines ≤ line + 1). let q : p .layout .lines * unit (p .layout) ≤ (line + 1) * unit (p .layout) = mul-le-mul l (le-refl (unit (p .layout))) in absurd (omega arith)) (lt-or-le (line + 1) (p .layout .lines)) in
-    (record { fine = h .fine; start = omega arith; order = omega arith; most = omega arith; near = omega arith; room = h .room; small = h .small }, next, omega arith, omega arith, (let room = s .pre .2 in let k = (c .before .before .before .before .before) .take-in .kept .1 .1 .1 .1 .1 .1 .0 in omega arith))
+    (record { fine = h .fine; start = omega arith; order = omega arith; most = omega arith; near = omega arith; room = h .room; small = h .small }, next, omega arith, omega arith, (let room = s .pre .2 in let k = (c .before .before .before .before .before) .take-line .kept .1 .1 .1 .1 .1 .1 .0 in omega arith))
 
 same-length-2 : tie.Need-same-length-2
 same-length-2 c = search needs
@@ -118,8 +118,8 @@ returns-2 c =
     let r = known s in
     let some = s .pre .1 in
     let least = (c .before .before .before .before .before .before .before .before .before .before) .least in
-    let first = (c .before .before .before .before .before .before .before .before) .take-in in
-    let second = (c .before .before) .take-in2 in
+    let first = (c .before .before .before .before .before .before .before .before) .take-line in
+    let second = (c .before .before) .take-line2 in
     let e = least .ensures ∙ lesser-min (a .to) (a .from / unit (a .p .layout) * unit (a .p .layout) + unit (a .p .layout)) in
     let left : least .result ≤ first .result = (c .before .before .before .before .before) .if1 .left in
     let half : (b : List ℕ) → Row (a .p) b (a .from) (a .to) (a .row .now) → Took (a .p) b (a .from) (a .words .now) → Took (a .p) b (least .result) _ = λ b row took. first .ensures .took b (part row (omega arith)) took left in
@@ -139,7 +139,7 @@ returns-3 c =
     let r = known s in
     let some = s .pre .1 in
     let least = (c .before .before .before .before .before .before) .least in
-    let first = (c .before .before .before .before) .take-in in
+    let first = (c .before .before .before .before) .take-line in
     let e = least .ensures ∙ lesser-min (a .to) (a .from / unit (a .p .layout) * unit (a .p .layout) + unit (a .p .layout)) in
     let same : least .result ≡ a .to = let l = c .if2 .left in omega arith in
     let left : least .result ≤ first .result = (c .before) .if1 .left in
@@ -162,11 +162,11 @@ take-spec =
     mul-end
     add-end
     least-requires
-    take-in-requires
+    take-line-requires
     same-length
     returns
-    add-take-in
-    take-in-requires-2
+    add-take-line
+    take-line-requires-2
     same-length-2
     returns-2
     same-length-3

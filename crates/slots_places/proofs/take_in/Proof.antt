@@ -1,7 +1,7 @@
 -- All symbols that were passed are right, and the words have them; the delay goes along with the place.
 use mathlib.Core.Path.{_≡_, refl, sym, ap, _∙_}
 use mathlib.Core.Bool.{Bool, true, false}
-use mathlib.Core.List.{List, []}
+use mathlib.Core.List.{List}
 use mathlib.Core.Logic.{⊎-elim}
 use Prim.Native.Nat.{ℕ, _+_, _-_, _*_, _%_, _≤_, _<_, min}
 use native.Mathlib.Omega.{arith}
@@ -18,7 +18,8 @@ use Rattle.slots.proofs.Laws.Bounds.{bounds, Bounds}
 use Rattle.slots.specs.Reading.{pooledIn}
 use Rattle.slots_symbols.specs.Inner.{Row}
 use Rattle.slots_places.specs.Inner.{Took, Placed}
-use Rattle.slots_places.proofs.Laws.Taken.{puts, took-marks, took-at}
+use Rattle.slots_residues.proofs.Laws.Residues.{puts}
+use Rattle.slots_places.proofs.Laws.Taken.{took-marks, took-at}
 use Rattle.slots_places.proofs.take_in.Statement.{statement}
 use Rattle.slots_places.proofs.take_in.Tie as tie
 
@@ -115,17 +116,14 @@ loop-holds c =
       ),
     )
 
-sub-take-place : tie.Need-sub-take-place Inv-loop μ-loop
-sub-take-place c = let l = c .before .loop .inv .1 in omega arith
+sub-q : tie.Need-sub-q Inv-loop μ-loop
+sub-q c = let l = c .before .loop .inv .0 in let h = c .before .before .before .before .before .before .before .pre .0 .start in omega arith
 
-sub-take-place-2 : tie.Need-sub-take-place-2 Inv-loop μ-loop
-sub-take-place-2 c = let l = c .before .loop .inv .0 in let h = c .before .before .before .before .before .before .before .pre .0 .start in omega arith
+shared-slice-read-q : tie.Need-shared-slice-read-q Inv-loop μ-loop
+shared-slice-read-q c = let l = c .before .before .loop .inv .0 in let h = c .before .before .before .before .before .before .before .before .pre .0 in omega arith
 
-shared-slice-read-take-place : tie.Need-shared-slice-read-take-place Inv-loop μ-loop
-shared-slice-read-take-place c = let l = c .before .before .loop .inv .0 in let h = c .before .before .before .before .before .before .before .before .pre .0 in omega arith
-
-cast-take-place : tie.Need-cast-take-place Inv-loop μ-loop
-cast-take-place c =
+cast-q : tie.Need-cast-q Inv-loop μ-loop
+cast-q c =
     let s = c .before .before .before .before .before .before .before .before in
     let l = c .before .before .loop in
     let from = l .inv .0 in
@@ -133,6 +131,9 @@ cast-take-place c =
     let small = s .pre .0 .small (l .s - s .args .base) (let t = c .before .loop-test .taken in omega arith) in
     let r = known s in
     record { fits = omega arith }
+
+sub-take-place : tie.Need-sub-take-place Inv-loop μ-loop
+sub-take-place c = let l = c .before .before .loop .inv .1 in omega arith
 
 take-place-requires : tie.Need-take-place-requires Inv-loop μ-loop
 take-place-requires c κs =
@@ -144,7 +145,7 @@ take-place-requires c κs =
     let from = l .inv .0 in
     let start = h .0 .start in
     let long = l .inv .3 in
-    λ t hit. puts p (h .0 .fine) [] (l .words) t _ hit (h .0 .small (l .s - s .args .base) (omega arith)) (let room = h .4 in omega arith)
+    λ t hit. puts p (h .0 .fine) (l .words) t _ hit (h .0 .small (l .s - s .args .base) (omega arith)) (let room = h .4 in omega arith)
 
 same-length : tie.Need-same-length Inv-loop μ-loop
 same-length c = search needs
@@ -240,10 +241,10 @@ take-in-spec =
     rem-delay
     mul-delay
     loop-holds
+    sub-q
+    shared-slice-read-q
+    cast-q
     sub-take-place
-    sub-take-place-2
-    shared-slice-read-take-place
-    cast-take-place
     take-place-requires
     same-length
     returns

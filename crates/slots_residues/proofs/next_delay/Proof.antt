@@ -6,8 +6,8 @@ use native.Mathlib.Omega.{arith}
 use native.Mathlib.Nat.{le-refl, mul-le-mul, mul-zero, zero-mul, mod-lt, mod-self, mod-eq-of-lt, mod-add-mod}
 use borrow.Author.Needs.{needs}
 use Rattle.bits.proofs.Laws.Choice.{eq-or-ne}
-use Rattle.slots_places.proofs.next_delay.Statement.{statement}
-use Rattle.slots_places.proofs.next_delay.Tie as tie
+use Rattle.slots_residues.proofs.next_delay.Statement.{statement}
+use Rattle.slots_residues.proofs.next_delay.Tie as tie
 
 module _ (x n back : ℕ) (least : 1 ≤ n) where
   last : x % n + 1 ≡ n → (x + 1) % n ≡ 0
