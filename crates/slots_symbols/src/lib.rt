@@ -1,7 +1,7 @@
 // Symbols, pooled over their copies, and question 11 of the marker symbols. A symbol that is sent once is the only pulse of its group, and there are
 // faster ways to that.
 ghost use mathlib.Core.Path.{_≡_};
-ghost use Prim.Native.Nat.{ℕ, _≤_, _<_, _+_, _*_};
+ghost use Prim.Native.Nat.{_≤_, _<_, _+_, _*_};
 ghost use lib.Dec.{eqb};
 ghost use lib.ListN.{length};
 ghost use Rattle.bits.specs.Basics.{bool, upTo};
@@ -10,52 +10,17 @@ ghost use Rattle.slots.specs.Inner.{RunSlots, decidedIn};
 ghost use Rattle.slots_symbols.specs.Inner.{Decided, Grouped, Row};
 ghost use Rattle.slots.specs.Reading.{pooledIn, firstBadMark};
 
-// Question 10: the first symbol from `from` on that is not decided, or `to`.
-pub fn undecided(p: plan::Plan, b: &[u8], from: usize, to: usize) -> usize
-    requires { ⌜ RunSlots p (now b) × (from ≤ to) × (to ≤ symbolCount (p .layout)) ⌝ }
-    ensures { λ r. ⌜ r ≡ upTo (decidedIn p (now (b .entry))) from to ⌝ }
-{
-    if p.copies == 1 {
-        return pulses::groups::bad_group_among(p.order, p.group, b, from, to);
-    }
-    pool::first_undecided(b, p.copies, p.group, p.order, from, to)
-}
-
-// Symbol s, which is decided.
-pub fn symbol(p: plan::Plan, b: &[u8], s: usize) -> usize
-    requires { ⌜ Decided p (now b) s ⌝ }
-    ensures { λ r. ⌜ r ≡ pooledIn p (now (b .entry)) s ⌝ }
-{
-    if p.copies == 1 {
-        return pulses::numbers::seen(p.order, p.group, b, s);
-    }
-    pool::pooled(b, p.copies, p.group, p.order, s)
-}
-
-// The symbols from `from` on up to `to`, which are decided, to a row of bytes.
-fn lay_row(p: plan::Plan, b: &[u8], from: usize, to: usize, row: &mut [u8])
-    requires { ⌜ RunSlots p (now b) × (from ≤ to) × (to ≤ symbolCount (p .layout)) × (to ≤ from + length (now row)) × ((s : ℕ) → from ≤ s → s < to → pooledIn p (now b) s < p .order) ⌝ }
-    ensures { λ _. ⌜ Row p (now (b .entry)) from to (now (row .exit)) ⌝ }
-{
-    let mut s = from;
-    while s < to {
-        row[s - from] = symbol(p, b, s) as u8;
-        s += 1;
-    }
-}
-
-// Question 10 again, and the symbols where all are decided: each is read once, into a byte of the row.
+// Question 10: the first symbol from `from` on that is not decided, or `to`; and where there is none, the symbols, each read once, into a byte of
+// the row.
 pub fn row_out(p: plan::Plan, b: &[u8], from: usize, to: usize, row: &mut [u8]) -> usize
     requires { ⌜ RunSlots p (now b) × (from ≤ to) × (to ≤ symbolCount (p .layout)) × (to ≤ from + length (now row)) ⌝ }
     ensures { λ r. ⌜ r ≡ upTo (decidedIn p (now (b .entry))) from to ⌝ }
     ensures { λ r. ⌜ (to ≤ r → Row p (now (b .entry)) from to (now (row .exit))) ⌝ }
 {
-    let group = undecided(p, b, from, to);
-    if group < to {
-        return group;
+    if p.copies == 1 {
+        return pulses_rows::row_out(p.order, p.group, b, from, to, row);
     }
-    lay_row(p, b, from, to, row);
-    group
+    pool_rows::row_out(b, p.copies, p.group, p.order, from, to, row)
 }
 
 // 1 where both are the same.

@@ -1,0 +1,84 @@
+// Symbols whose copies have at most forty slots each: the copies are joined as numbers, with the slots in which one has a pulse and those in
+// which several have. If a single slot has several, it has more than any other; and so it has if none has several and a single one has any.
+ghost use mathlib.Core.Path.{_≡_};
+ghost use Prim.Native.Nat.{ℕ, _+_, _-_, _*_, _≤_, _<_};
+ghost use lib.Dec.{eqb};
+ghost use lib.ListN.{length};
+ghost use Rattle.bits.specs.Basics.{pick};
+ghost use Rattle.bits.specs.Pack.{bitAt, bitOf};
+ghost use Rattle.pool.specs.Inner.{Sent};
+ghost use Rattle.pool.specs.Pooled.{peak, pooled};
+ghost use Rattle.pulses_rows.specs.Inner.{Known, Reached};
+ghost use Rattle.pool_rows.specs.Inner.{pulsesAt, Near, worth, Ahead};
+
+// The bits from x on as the first of a number: 57 at the least.
+fn window(b: &[u8], x: usize) -> u64
+    requires { ⌜ x + 64 ≤ 8 * length (now b) ⌝ }
+    ensures { λ r. ⌜ ((i : ℕ) → i < 57 → bitOf r i ≡ bitAt (now (b .entry)) (x + i)) ⌝ }
+{
+    bits::packing::eight(b, x / 8) << (x % 8)
+}
+
+// The second number, unless it is 0.
+fn either(any: u64, several: u64) -> u64
+    ensures { λ r. ⌜ r ≡ pick (eqb several 0) any several ⌝ }
+{
+    if several == 0 { any } else { several }
+}
+
+// Which of the first `group` slots is worth more than each other; or 64, where that is not seen.
+fn settled(any: u64, several: u64, group: usize) -> usize
+    requires { ⌜ (1 ≤ group) × (group ≤ 64) ⌝ }
+    ensures { λ r. ⌜ (r < group → (i : ℕ) → i < group → (i ≡ r → ⊥) → worth any several i < worth any several r) ⌝ }
+{
+    let rest = 64 - group;
+    pulses_rows::forties::single(either((any >> rest) << rest, (several >> rest) << rest))
+}
+
+// The slot with more pulses than each other, of the symbol whose slots begin at y; or 64, where that is not seen.
+fn decisive(b: &[u8], copies: usize, group: usize, y: usize) -> usize
+    requires { ⌜ Near group copies (now b) y ⌝ }
+    ensures { λ r. ⌜ (r < group → peak (pulsesAt (now (b .entry)) group y copies) group ≡ r) ⌝ }
+{
+    let mut any = 0u64;
+    let mut several = 0u64;
+    let mut x = y;
+    let mut c = 0usize;
+    while c < copies {
+        let v = window(b, x);
+        several = several | (any & v);
+        any = any | v;
+        x += group;
+        c += 1;
+    }
+    settled(any, several, group)
+}
+
+// The symbols from s on up to the first of which that is not seen, or `to`, where those from `from` on up to s are in the row already.
+pub fn near_row(
+    b: &[u8],
+    copies: usize,
+    group: usize,
+    order: usize,
+    from: usize,
+    s: usize,
+    to: usize,
+    row: &mut [u8],
+) -> usize
+    requires { ⌜ Sent order group copies to (now b) × Ahead group copies (now b) to × (from ≤ s) × (s ≤ to) × (to ≤ from + length (now row)) × Known order (pooled (now b) copies group order) from (s - from) (now row) ⌝ }
+    ensures { λ r. ⌜ Reached order (pooled (now (b .entry)) copies group order) (now (row .entry)) from to r (now (row .exit)) × (s ≤ r) ⌝ }
+{
+    let size = copies * group;
+    let mut y = s * size;
+    let mut k = s;
+    while k < to {
+        let q = decisive(b, copies, group, y);
+        if q >= order {
+            return k;
+        }
+        row[k - from] = (q & 255) as u8;
+        y += size;
+        k += 1;
+    }
+    k
+}
