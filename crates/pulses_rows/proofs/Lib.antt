@@ -1,2 +1,4 @@
 pub mod Laws
 pub mod Pieces
+pub mod Fifths
+pub mod Eights

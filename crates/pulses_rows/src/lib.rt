@@ -1,4 +1,5 @@
 // Question 10 of a stretch of groups, and the symbols in it, a byte to a symbol: each group is read once.
+mod fives;
 pub mod forties;
 
 ghost use mathlib.Core.Path.{_≡_};
@@ -49,11 +50,41 @@ pub fn clear_end(size: usize, b: &[u8], from: usize, to: usize) -> usize
     to - bits::scan::least(to - from, 16)
 }
 
+// The symbols of groups that all have one.
+fn seen_row(order: usize, group: usize, b: &[u8], from: usize, to: usize, row: &mut [u8]) -> usize
+    requires { ⌜ Slots order group to (now b) × (from ≤ to) × (to ≤ from + length (now row)) × ((s : ℕ) → from ≤ s → s < to → symbolIn order group (now b) s < order) ⌝ }
+    ensures { λ r. ⌜ Reached order (symbolIn order group (now (b .entry))) (now (row .entry)) from to r (now (row .exit)) ⌝ }
+{
+    let mut s = from;
+    while s < to {
+        row[s - from] = (pulses::numbers::seen(order, group, b, s) & 255) as u8;
+        s += 1;
+    }
+    s
+}
+
+// The symbols of the groups from `from` on up to `to`, or none.
+fn good_row(order: usize, group: usize, b: &[u8], from: usize, to: usize, row: &mut [u8]) -> usize
+    requires { ⌜ Slots order group to (now b) × Clear order group (now b) from to × (to ≤ from + length (now row)) ⌝ }
+    ensures { λ r. ⌜ Reached order (symbolIn order group (now (b .entry))) (now (row .entry)) from to r (now (row .exit)) ⌝ }
+{
+    if from >= to {
+        return from;
+    }
+    if pulses::numbers::all_good(order, group, b, from, to) {
+        return seen_row(order, group, b, from, to, row);
+    }
+    from
+}
+
 // The symbols of the groups from `from` on, up to the first that may be bad, or `to`, or before.
 fn ahead(order: usize, group: usize, b: &[u8], from: usize, to: usize, row: &mut [u8]) -> usize
     requires { ⌜ Slots order group to (now b) × Clear order group (now b) from to × (to ≤ from + length (now row)) ⌝ }
     ensures { λ r. ⌜ Reached order (symbolIn order group (now (b .entry))) (now (row .entry)) from to r (now (row .exit)) ⌝ }
 {
+    if group == 5 {
+        return fives::fives(b, from, to, row);
+    }
     if group == 10 {
         return forties::forties(8, 10, 4, b, from, to, row);
     }
@@ -63,7 +94,7 @@ fn ahead(order: usize, group: usize, b: &[u8], from: usize, to: usize, row: &mut
     if group == 40 {
         return forties::forties(32, 40, 1, b, from, to, row);
     }
-    from
+    good_row(order, group, b, from, to, row)
 }
 
 // Question 10: the first bad group from `from` on, or `to`; and where there is none, the symbols.

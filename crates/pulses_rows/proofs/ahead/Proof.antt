@@ -1,17 +1,16 @@
 -- A group's size tells the pulse order.
 use mathlib.Core.Path.{_≡_, refl}
 use native.Mathlib.Omega.{arith}
-use Rattle.pulses_rows.proofs.Laws.Rows.{reach-start}
 use borrow.Author.Needs.{needs}
 use Rattle.pulses_rows.proofs.ahead.Statement.{statement}
 use Rattle.pulses_rows.proofs.ahead.Tie as tie
 
-forties-requires : tie.Need-forties-requires
-forties-requires c κs =
+fives-requires : tie.Need-fives-requires
+fives-requires c κs =
     let s = c .before .before .before .before in
-    let e : s .args .group ≡ 10 = c .before .if1 .taken in
-    let o : s .args .order ≡ 8 = let g = s .pre .0 .shape .group-is in omega arith in
-    (rw (o, e) at (s .pre .1), refl, s .pre .2)
+    let e : s .args .group ≡ 5 = c .before .if1 .taken in
+    let o : s .args .order ≡ 4 = let g = s .pre .0 .shape .group-is in omega arith in
+    (rw (o, e) at (s .pre .1), s .pre .2)
 
 same-length : tie.Need-same-length
 same-length c = search needs
@@ -19,15 +18,15 @@ same-length c = search needs
 returns : tie.Need-returns
 returns c =
     let s = c .before .before .before .before .before .before .before in
-    let e : s .args .group ≡ 10 = c .before .before .before .before .if1 .taken in
-    let o : s .args .order ≡ 8 = let g = s .pre .0 .shape .group-is in omega arith in
-    rw (o, e) (c .before .before .forties .ensures)
+    let e : s .args .group ≡ 5 = c .before .before .before .before .if1 .taken in
+    let o : s .args .order ≡ 4 = let g = s .pre .0 .shape .group-is in omega arith in
+    rw (o, e) (c .before .before .fives .ensures)
 
-forties-requires-2 : tie.Need-forties-requires-2
-forties-requires-2 c κs =
+forties-requires : tie.Need-forties-requires
+forties-requires c κs =
     let s = c .before .before .before .before .before in
-    let e : s .args .group ≡ 20 = c .before .if2 .taken in
-    let o : s .args .order ≡ 16 = let g = s .pre .0 .shape .group-is in omega arith in
+    let e : s .args .group ≡ 10 = c .before .if2 .taken in
+    let o : s .args .order ≡ 8 = let g = s .pre .0 .shape .group-is in omega arith in
     (rw (o, e) at (s .pre .1), refl, s .pre .2)
 
 same-length-2 : tie.Need-same-length-2
@@ -36,15 +35,15 @@ same-length-2 c = search needs
 returns-2 : tie.Need-returns-2
 returns-2 c =
     let s = c .before .before .before .before .before .before .before .before in
-    let e : s .args .group ≡ 20 = c .before .before .before .before .if2 .taken in
-    let o : s .args .order ≡ 16 = let g = s .pre .0 .shape .group-is in omega arith in
-    rw (o, e) (c .before .before .forties2 .ensures)
+    let e : s .args .group ≡ 10 = c .before .before .before .before .if2 .taken in
+    let o : s .args .order ≡ 8 = let g = s .pre .0 .shape .group-is in omega arith in
+    rw (o, e) (c .before .before .forties .ensures)
 
-forties-requires-3 : tie.Need-forties-requires-3
-forties-requires-3 c κs =
+forties-requires-2 : tie.Need-forties-requires-2
+forties-requires-2 c κs =
     let s = c .before .before .before .before .before .before in
-    let e : s .args .group ≡ 40 = c .before .if3 .taken in
-    let o : s .args .order ≡ 32 = let g = s .pre .0 .shape .group-is in omega arith in
+    let e : s .args .group ≡ 20 = c .before .if3 .taken in
+    let o : s .args .order ≡ 16 = let g = s .pre .0 .shape .group-is in omega arith in
     (rw (o, e) at (s .pre .1), refl, s .pre .2)
 
 same-length-3 : tie.Need-same-length-3
@@ -53,24 +52,52 @@ same-length-3 c = search needs
 returns-3 : tie.Need-returns-3
 returns-3 c =
     let s = c .before .before .before .before .before .before .before .before .before in
-    let e : s .args .group ≡ 40 = c .before .before .before .before .if3 .taken in
+    let e : s .args .group ≡ 20 = c .before .before .before .before .if3 .taken in
+    let o : s .args .order ≡ 16 = let g = s .pre .0 .shape .group-is in omega arith in
+    rw (o, e) (c .before .before .forties2 .ensures)
+
+forties-requires-3 : tie.Need-forties-requires-3
+forties-requires-3 c κs =
+    let s = c .before .before .before .before .before .before .before in
+    let e : s .args .group ≡ 40 = c .before .if4 .taken in
+    let o : s .args .order ≡ 32 = let g = s .pre .0 .shape .group-is in omega arith in
+    (rw (o, e) at (s .pre .1), refl, s .pre .2)
+
+same-length-4 : tie.Need-same-length-4
+same-length-4 c = search needs
+
+returns-4 : tie.Need-returns-4
+returns-4 c =
+    let s = c .before .before .before .before .before .before .before .before .before .before in
+    let e : s .args .group ≡ 40 = c .before .before .before .before .if4 .taken in
     let o : s .args .order ≡ 32 = let g = s .pre .0 .shape .group-is in omega arith in
     rw (o, e) (c .before .before .forties3 .ensures)
 
-returns-4 : tie.Need-returns-4
-returns-4 c = reach-start _ _ _ _ _ (c .before .before .before .before .before .pre .1 .turn)
+good-row-requires : tie.Need-good-row-requires
+good-row-requires c κs = search needs
+
+same-length-5 : tie.Need-same-length-5
+same-length-5 c = search needs
+
+returns-5 : tie.Need-returns-5
+returns-5 c = search needs
 
 pub ahead-spec : {M : Type 1} → statement M
 ahead-spec =
     tie.close
     (tie.spec
-    forties-requires
+    fives-requires
     same-length
     returns
-    forties-requires-2
+    forties-requires
     same-length-2
     returns-2
-    forties-requires-3
+    forties-requires-2
     same-length-3
     returns-3
-    returns-4)
+    forties-requires-3
+    same-length-4
+    returns-4
+    good-row-requires
+    same-length-5
+    returns-5)
