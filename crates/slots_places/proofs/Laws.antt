@@ -1,3 +1,5 @@
 -- Laws that other crates or several proofs cite, each after those that it rests on.
 pub mod Taken
+pub mod Full
+pub mod Passing
 pub mod Passing

@@ -1,68 +1,118 @@
-// Question 12, and the words: a place that is hit has a symbol of theirs, and the others hold 0.
+// Question 12, and the words: a place that is hit has a symbol of theirs, and the others hold 0. The symbols are in a row of bytes.
 ghost use mathlib.Core.Path.{_≡_};
-ghost use Prim.Native.Nat.{_+_, _-_, _*_, _%_, _≤_, _<_};
-ghost use Rattle.bits.specs.Basics.{bool, upTo};
-ghost use Rattle.channel.specs.Channel.{unit, restZero};
-ghost use Rattle.slots.specs.Inner.{RunSlots};
-ghost use Rattle.slots_places.specs.Inner.{Stretch, Took, Known};
-ghost use Rattle.slots.specs.Reading.{pooledIn};
+ghost use mathlib.Core.Bool.{true};
+ghost use mathlib.Core.List.{List};
+ghost use Prim.Native.Nat.{ℕ, _+_, _-_, _*_, _≤_, _<_};
+ghost use Rattle.channel.specs.Channel.{unit, total};
+ghost use Rattle.channel.specs.Inner.{Puts, delay};
+ghost use Rattle.plan.specs.Inner.{Fine};
+ghost use Rattle.slots_residues.specs.Inner.{Room};
+ghost use Rattle.slots_symbols.specs.Inner.{Row};
+ghost use Rattle.slots_places.specs.Inner.{Stretch, Placed, Tells, Known};
 
-// Place i of a line, which is c modulo N, of all places.
-fn take_place(p: plan::Plan, b: &[u8], line: usize, i: usize, c: usize, words: &mut [u8]) -> u8
-    requires { ⌜ RunSlots p (now b) × (line < p .layout .lines) × (i < p .layout .symbols) × (c ≡ (line * p .layout .symbols + i) % p .layout .rows) × (pooledIn p (now b) (line * unit (p .layout) + (p .layout .markers + i)) < p .order) × Took p (now b) (line * unit (p .layout) + (p .layout .markers + i)) (now words) ⌝ }
-    ensures { λ r. ⌜ r ≡ bool (restZero (p .layout) (pooledIn p (now (b .entry))) (line * unit (p .layout) + (p .layout .markers + i))) ⌝ }
-    ensures { λ _. ⌜ Took p (now (b .entry)) (line * unit (p .layout) + (p .layout .markers + i) + 1) (now (words .exit)) ⌝ }
+// Symbol q, of m bits, at place x, to which a symbol comes that is delayed so far: to the words, if it is one of theirs; and whether it is right.
+fn take_place(total: usize, m: usize, x: usize, delay: usize, q: usize, words: &mut [u8]) -> u8
+    requires { ⌜ ((t : ℕ) → t < total → Puts t m q (now words)) ⌝ }
+    ensures { λ r. ⌜ Placed total m x delay q (now (words .entry)) r (now (words .exit)) ⌝ }
 {
-    let symbols = p.layout.symbols;
-    let total = p.layout.words * symbols;
-    let s = line * (symbols + p.layout.markers) + (p.layout.markers + i);
-    let t = channel::hit_by(p.layout.rows, p.layout.step, total, line * symbols + i, c);
-    if t < total {
-        let q = slots_symbols::symbol(p, b, s);
-        channel::put_symbol(words, t, p.bits, q);
-        return 1;
+    if x < delay {
+        return slots_symbols::same(0, q);
     }
-    slots_symbols::is_symbol(p, b, s, 0)
+    if total <= x - delay {
+        return slots_symbols::same(0, q);
+    }
+    channel::put_symbol(words, x - delay, m, q);
+    1
 }
 
-// The symbols of a line from `from` on up to `to`: the first that stands at a place that is not hit
-// and is not 0; or `to`.
-fn take_in(p: plan::Plan, b: &[u8], line: usize, from: usize, to: usize, words: &mut [u8]) -> usize
-    requires { ⌜ Stretch p (now b) from to × (line < p .layout .lines) × (line * unit (p .layout) ≤ from) × (to ≤ line * unit (p .layout) + unit (p .layout)) × Took p (now b) from (now words) ⌝ }
-    ensures { λ r. ⌜ r ≡ upTo (restZero (p .layout) (pooledIn p (now (b .entry)))) from to ⌝ }
-    ensures { λ r. ⌜ (to ≤ r → Took p (now (b .entry)) to (now (words .exit))) ⌝ }
+// The symbols of a line from `from` on up to `to`: the first that is at a place that is not hit
+// and is not 0; or `to`. The row has the symbols from `base` on.
+fn take_in(
+    p: plan::Plan,
+    row: &[u8],
+    base: usize,
+    line: usize,
+    from: usize,
+    to: usize,
+    words: &mut [u8],
+) -> usize
+    requires { ⌜ Stretch p base from to (now row) × (line < p .layout .lines) × (line * unit (p .layout) ≤ from) × (to ≤ line * unit (p .layout) + unit (p .layout)) × Room p (now words) ⌝ }
+    ensures { λ r. ⌜ Tells p (now (row .entry)) base from to (now (words .entry)) r (now (words .exit)) ⌝ }
 {
     let symbols = p.layout.symbols;
+    let markers = p.layout.markers;
     let rows = p.layout.rows;
-    let first = line * (symbols + p.layout.markers) + p.layout.markers;
-    let mut s = bits::scan::most(from, first);
-    let mut c = (line * symbols + (s - first)) % rows;
+    let total = p.layout.words * symbols;
+    let back = p.layout.step * rows;
+    let wrap = rows * back;
+    let skip = line * markers + markers;
+    let mut s = bits::scan::most(from, line * symbols + skip);
+    let mut delay = (s - skip) % rows * back;
     while s < to {
-        if take_place(p, b, line, s - first, c, words) == 0 {
+        let q = row[s - base] as usize;
+        if take_place(total, p.bits, s - skip, delay, q, words) == 0 {
             return s;
         }
-        c = channel::next(c, rows);
+        delay = slots_residues::next_delay(delay, back, wrap);
         s += 1;
     }
     to
 }
 
+// All places from x on before y are hit, and there are at least two of each residue.
+fn full(p: plan::Plan, x: usize, y: usize) -> bool
+    requires { ⌜ Fine p × (x ≤ y) ⌝ }
+    ensures { λ r. ⌜ (r ≡ true → (x < y) × (delay (p .layout) (p .layout .rows - 1) ≤ x) × (y ≤ total (p .layout))) ⌝ }
+{
+    let rows = p.layout.rows;
+    if y - x < 2 * rows {
+        return false;
+    }
+    if x < (rows - 1) * (p.layout.step * rows) {
+        return false;
+    }
+    y <= p.layout.words * p.layout.symbols
+}
+
+// As `take_in`; where all places are hit, none is wrong.
+fn take_line(
+    p: plan::Plan,
+    row: &[u8],
+    base: usize,
+    line: usize,
+    from: usize,
+    to: usize,
+    words: &mut [u8],
+) -> usize
+    requires { ⌜ Stretch p base from to (now row) × (line < p .layout .lines) × (line * unit (p .layout) ≤ from) × (to ≤ line * unit (p .layout) + unit (p .layout)) × Room p (now words) ⌝ }
+    ensures { λ r. ⌜ Tells p (now (row .entry)) base from to (now (words .entry)) r (now (words .exit)) ⌝ }
+{
+    let markers = p.layout.markers;
+    let skip = line * markers + markers;
+    let s = bits::scan::most(from, line * p.layout.symbols + skip);
+    let end = bits::scan::most(s, to);
+    if full(p, s - skip, end - skip) {
+        slots_residues::take_full(p, row, s - base, end - base, s - skip, words);
+        return to;
+    }
+    take_in(p, row, base, line, from, to, words)
+}
+
 // The same for symbols of one line or two.
-fn take(p: plan::Plan, b: &[u8], from: usize, to: usize, words: &mut [u8]) -> usize
-    requires { ⌜ Stretch p (now b) from to × (from < to) × Took p (now b) from (now words) ⌝ }
-    ensures { λ r. ⌜ r ≡ upTo (restZero (p .layout) (pooledIn p (now (b .entry)))) from to ⌝ }
-    ensures { λ r. ⌜ (to ≤ r → Took p (now (b .entry)) to (now (words .exit))) ⌝ }
+fn take(p: plan::Plan, row: &[u8], from: usize, to: usize, words: &mut [u8]) -> usize
+    requires { ⌜ Stretch p from from to (now row) × (from < to) × Room p (now words) ⌝ }
+    ensures { λ r. ⌜ Tells p (now (row .entry)) from from to (now (words .entry)) r (now (words .exit)) ⌝ }
 {
     let unit = p.layout.symbols + p.layout.markers;
     let line = from / unit;
     let end = line * unit + unit;
     let mid = bits::scan::least(to, end);
-    let r = take_in(p, b, line, from, mid, words);
+    let r = take_line(p, row, from, line, from, mid, words);
     if r < mid {
         return r;
     }
     if mid < to {
-        return take_in(p, b, line + 1, mid, to, words);
+        return take_line(p, row, from, line + 1, mid, to, words);
     }
     to
 }
@@ -71,20 +121,20 @@ fn take(p: plan::Plan, b: &[u8], from: usize, to: usize, words: &mut [u8]) -> us
 // nobody wants the words.
 pub fn rest_after(
     p: plan::Plan,
-    b: &[u8],
+    row: &[u8],
     from: usize,
     to: usize,
     rest: usize,
     words: &mut [u8],
 ) -> usize
-    requires { ⌜ Stretch p (now b) from to × (from < to) × Known p (now b) from rest (now words) ⌝ }
-    ensures { λ r. ⌜ Known p (now (b .entry)) to r (now (words .exit)) ⌝ }
+    requires { ⌜ Stretch p from from to (now row) × (from < to) × Room p (now words) ⌝ }
+    ensures { λ r. ⌜ ((b : List ℕ) → Row p b from to (now (row .entry)) → Known p b from rest (now (words .entry)) → Known p b to r (now (words .exit))) ⌝ }
 {
     let n = p.layout.lines * (p.layout.symbols + p.layout.markers);
     if rest < n {
         return rest;
     }
-    let r = take(p, b, from, to, words);
+    let r = take(p, row, from, to, words);
     if r < to {
         return r;
     }

@@ -7,6 +7,7 @@ use Rattle.channel.specs.Channel.{unit, layoutSymbols}
 use Rattle.plan.specs.declared.Plan.{Plan}
 use Rattle.slots.specs.Inner.{RunSlots}
 use Rattle.slots_places.specs.Inner.{Known}
+use Rattle.slots_residues.specs.Inner.{Room}
 
 -- the symbols from `from` on up to `to` are asked about
 pub record Seeks (p : Plan) (b : List ℕ) (from to rest : ℕ) (words : List ℕ) : Type 0 where
@@ -14,6 +15,8 @@ pub record Seeks (p : Plan) (b : List ℕ) (from to rest : ℕ) (words : List �
   pub some : from < to
   pub most : to ≤ layoutSymbols (p .layout)
   pub near : to ≤ from + unit (p .layout)
+  pub few : to ≤ from + 1024
+  pub room : Room p words
   pub known : Known p b from rest words
 
 -- of the n parts of b, each of as many forties of bytes as there are copies, those from the c-th on, beside forty bytes given

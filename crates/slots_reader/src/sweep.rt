@@ -24,11 +24,12 @@ fn look(p: plan::Plan, b: &[u8], from: usize, to: usize, rest: usize, words: &mu
     ensures { λ r. ⌜ r .group ≡ upTo (decidedIn p (now (b .entry))) from to ⌝ }
     ensures { λ r. ⌜ (to ≤ r .group → Known p (now (b .entry)) to (r .rest) (now (words .exit))) ⌝ }
 {
-    let group = slots_symbols::undecided(p, b, from, to);
+    let mut row = [0u8; 1024];
+    let group = slots_symbols::row_out(p, b, from, to, &mut row);
     if group < to {
         return Faults { group, rest };
     }
-    let rest = slots_places::rest_after(p, b, from, to, rest, words);
+    let rest = slots_places::rest_after(p, &row, from, to, rest, words);
     Faults { group, rest }
 }
 

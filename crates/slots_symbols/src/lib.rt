@@ -3,35 +3,28 @@
 ghost use mathlib.Core.Path.{_≡_};
 ghost use Prim.Native.Nat.{_≤_, _<_, _+_, _*_};
 ghost use lib.Dec.{eqb};
+ghost use lib.ListN.{length};
 ghost use Rattle.bits.specs.Basics.{bool, upTo};
 ghost use Rattle.channel.specs.Channel.{layoutSymbols, unit, markRight};
 ghost use Rattle.slots.specs.Inner.{RunSlots, decidedIn};
-ghost use Rattle.slots_symbols.specs.Inner.{Decided, Grouped};
+ghost use Rattle.slots_symbols.specs.Inner.{Decided, Grouped, Row};
 ghost use Rattle.slots.specs.Reading.{pooledIn, firstBadMark};
 
-// Question 10: the first symbol from `from` on that is not decided, or `to`.
-pub fn undecided(p: plan::Plan, b: &[u8], from: usize, to: usize) -> usize
-    requires { ⌜ RunSlots p (now b) × (from ≤ to) × (to ≤ layoutSymbols (p .layout)) ⌝ }
+// Question 10: the first symbol from `from` on that is not decided, or `to`; and where there is none, the symbols, each read once, into a byte of
+// the row.
+pub fn row_out(p: plan::Plan, b: &[u8], from: usize, to: usize, row: &mut [u8]) -> usize
+    requires { ⌜ RunSlots p (now b) × (from ≤ to) × (to ≤ symbolCount (p .layout)) × (to ≤ from + length (now row)) ⌝ }
     ensures { λ r. ⌜ r ≡ upTo (decidedIn p (now (b .entry))) from to ⌝ }
+    ensures { λ r. ⌜ (to ≤ r → Row p (now (b .entry)) from to (now (row .exit))) ⌝ }
 {
     if p.copies == 1 {
-        return pulses::groups::bad_group_among(p.order, p.group, b, from, to);
+        return pulses_rows::row_out(p.order, p.group, b, from, to, row);
     }
-    pool::first_undecided(b, p.copies, p.group, p.order, from, to)
+    pool_rows::row_out(b, p.copies, p.group, p.order, from, to, row)
 }
 
-// Symbol s, which is decided.
-pub fn symbol(p: plan::Plan, b: &[u8], s: usize) -> usize
-    requires { ⌜ Decided p (now b) s ⌝ }
-    ensures { λ r. ⌜ r ≡ pooledIn p (now (b .entry)) s ⌝ }
-{
-    if p.copies == 1 {
-        return pulses::numbers::seen(p.order, p.group, b, s);
-    }
-    pool::pooled(b, p.copies, p.group, p.order, s)
-}
-
-fn same(q: usize, r: usize) -> u8
+// 1 where both are the same.
+pub fn same(q: usize, r: usize) -> u8
     ensures { λ v. ⌜ v ≡ bool (eqb q r) ⌝ }
 {
     if q == r { 1 } else { 0 }

@@ -161,14 +161,19 @@ module _ (p : Plan) (fine : Fine p) (b : List ℕ) where
       let all : (c * p .copies * n + 0) * p .group ≤ sentCount p * p .group = mul-le-mul (let m : c * p .copies * n + 0 ≤ sentCount p = omega arith in m) (le-refl (p .group)) in
       omega arith
 
--- the symbols of sixteen parts are no more than a line
-pub few-groups : (p : Plan) → Fine p → 16 * (320 / p .group) ≤ unit (p .layout)
-few-groups p fine =
+-- the symbols of sixteen parts: at most 1,024, and no more than a line
+pub few-symbols : (p : Plan) → Fine p → 16 * (320 / p .group) ≤ 1024
+few-symbols p fine =
     let o = sizes (p .order) (p .group) (shape p fine) .order-least in
     let g = fine .group-is in
     let w : 320 / p .group * p .group ≡ 320 = whole-groups (p .order) (p .group) (shape p fine) in
     let five : 5 ≤ p .group = omega arith in
     let few : 320 / p .group * 5 ≤ 320 / p .group * p .group = mul-le-mul (le-refl (320 / p .group)) five in
+    omega arith
+
+pub few-groups : (p : Plan) → Fine p → 16 * (320 / p .group) ≤ unit (p .layout)
+few-groups p fine =
+    let few = few-symbols p fine in
     let size : p .layout .symbols * p .bits ≡ wordBits = fine .symbols-are in
     let wide : p .layout .symbols * p .bits ≤ p .layout .symbols * 8 = mul-le-mul (le-refl (p .layout .symbols)) (fine .bits-most) in
     omega arith

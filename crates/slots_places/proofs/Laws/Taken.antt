@@ -1,31 +1,57 @@
 -- The words as they fill: zeros leave them as they are, no symbol of theirs stands at a marker or at a place that is not hit, and a hit lays just its own bits.
 use mathlib.Core.Path.{_≡_, refl, sym, ap, ap₂, _∙_}
 use mathlib.Core.List.{List}
-use mathlib.Core.Logic.{⊎-elim}
+use mathlib.Core.Logic.{_⊎_, inl, inr, ⊎-elim}
 use Prim.Native.Nat.{ℕ, _+_, _-_, _*_, _/_, _%_, _^_, _≤_, _<_}
 use native.Mathlib.Omega.{arith}
 use native.Mathlib.Nat.{mul-assoc, mod-lt, zero-div, div-add-mod', div-lt-iff-lt-mul}
 use lib.Arith.{digits-lt, digits-div, digits-mod}
 use lib.Bits.{bitXor, xor-comm, xor-zero-r}
+use lib.Dec.{eqb}
 use lib.ListN.{length, List·getD-eq-default}
 use borrow.Author.Tests.{lt-ltb, le-ltb}
 use Rattle.bits.proofs.Laws.Choice.{lt-or-le, eq-or-ne}
+use Rattle.bits.specs.Basics.{bool}
 use Rattle.bits.specs.Pack.{bitAt, Bytes, piece}
 use Rattle.bits.proofs.Laws.Pack.{bytes-made}
 use Rattle.bits.proofs.Laws.Pieces.{length-piece, piece-at, piece-bit}
 use Rattle.sizes.specs.Sizes.{wordBits, wordBytes}
 use Rattle.channel.specs.Channel as channel
-use Rattle.channel.proofs.Laws.Markers.{sym-mod, place-sym, in-line}
-use Rattle.channel.proofs.Laws.Places.{place-one, place-hit, hit-place}
-use Rattle.channel.specs.Inner.{Puts, Put}
+use Rattle.channel.proofs.Laws.Markers.{sym-mod, place-sym, in-line, rest-hit, rest-unhit}
+use Rattle.channel.proofs.Laws.Places.{place-on, place-back, place-one, place-hit, hit-none, hit-here, hit-place}
+use Rattle.channel.specs.declared.Layout.{Layout}
+use Rattle.channel.specs.Inner.{delay, Put}
 use Rattle.channel.proofs.Laws.Return as returns
-use Rattle.channel.proofs.Laws.Symbols.{data-inside}
 use Rattle.plan.specs.declared.Plan.{Plan}
 use Rattle.plan.specs.Inner.{Fine}
 use Rattle.channel.specs.Channel.{total, unit, layoutSymbols, place, hitBy, symbolOf}
 use Rattle.slots.proofs.Laws.Bounds.{bounds}
 use Rattle.slots.specs.Reading.{pooledIn, dataIn, wordOut}
-use Rattle.slots_places.specs.Inner.{Cleared, takenBit, Took}
+use Rattle.slots_places.specs.Inner.{Cleared, Placed, takenBit, Took}
+
+-- ---- the symbol of a place by its delay
+
+module _ (g : Layout) (x late : ℕ) (e : late ≡ delay g (x % g .rows)) where
+  pub hit-at : late ≤ x → x - late < total g → hitBy g x ≡ x - late
+  hit-at a l = hit-here g x (x - late) l (place-back g x (x - late) (omega arith))
+
+  hit-not : (late ≤ x → x - late < total g → ⊥) → hitBy g x ≡ total g
+  hit-not n =
+      hit-none g x (λ t l q.
+      let on : x ≡ t + delay g (x % g .rows) = sym q ∙ place-on g t ∙ ap (λ (y : ℕ). t + delay g (y % g .rows)) q in
+      n (omega arith) (omega arith))
+
+-- the symbol at place i of a line
+pub symbol-there : (g : Layout) (line i : ℕ) → i < g .symbols → symbolOf g (line * g .symbols + i) ≡ line * unit g + (g .markers + i)
+unfolding channel.symbolOf
+symbol-there g line i inside = ap₂ (λ (u v : ℕ). u * unit g + (g .markers + v)) (digits-div line inside) (digits-mod line inside)
+
+hits : (late x n : ℕ) → ((late ≤ x) × (x - late < n)) ⊎ (late ≤ x → x - late < n → ⊥)
+hits late x n =
+    ⊎-elim
+    (λ (a : x < late). inr (λ b l. omega arith))
+    (λ (a : late ≤ x). ⊎-elim (λ (l : x - late < n). inl (a, l)) (λ (l : n ≤ x - late). inr (λ b m. omega arith)) (lt-or-le (x - late) n))
+    (lt-or-le x late)
 
 module _ (p : Plan) (fine : Fine p) (b : List ℕ) where
   -- where symbol t stands
@@ -99,8 +125,7 @@ module _ (p : Plan) (fine : Fine p) (b : List ℕ) where
       s = line * unit (p .layout) + (p .layout .markers + i)
 
       at : symbolOf (p .layout) x ≡ s
-      unfolding channel.symbolOf
-      at = ap₂ (λ (u v : ℕ). u * unit (p .layout) + (p .layout .markers + v)) (digits-div line inside) (digits-mod line inside)
+      at = symbol-there (p .layout) line i inside
 
       back : (t : ℕ) → stands t ≡ s → place (p .layout) t ≡ x
       back t e =
@@ -114,22 +139,6 @@ module _ (p : Plan) (fine : Fine p) (b : List ℕ) where
           let e : place (p .layout) t ≡ x = back t (omega arith) in
           let h : hitBy (p .layout) x ≡ t = ap (hitBy (p .layout)) (sym e) ∙ hit-place (p .layout) t l in
           absurd (omega arith))
-
-      -- what laying the symbol asks for
-      pub puts : hitBy (p .layout) x < total (p .layout) → pooledIn p b s < p .order → Took p b s words → Puts (hitBy (p .layout) x) (p .bits) (pooledIn p b s) words
-      puts hit small k =
-          let t : ℕ = hitBy (p .layout) x in
-          let d : p .bits * t + p .bits ≤ p .layout .words * wordBits = data-inside (p .bits) (p .layout) (fine .symbols-are) t hit in
-          let room = k .room in
-          let z = bounds p fine in
-          let least = fine .bits-least in
-          record {
-            bits-least = omega arith;
-            bits-most = fine .bits-most;
-            small = let e = fine .order-is in omega arith;
-            bound = omega arith;
-            room = omega arith;
-          }
 
       pub took-hit : (after : List ℕ) → hitBy (p .layout) x < total (p .layout) → Put (hitBy (p .layout) x) (p .bits) (pooledIn p b s) words after → Took p b s words → Took p b (s + 1) after
       unfolding takenBit
@@ -156,7 +165,35 @@ module _ (p : Plan) (fine : Fine p) (b : List ℕ) where
                 (eq-or-ne (y / p .bits) t);
           }
 
-    piece-bytes : Bytes words → (j : ℕ) → j < p .layout .words → Took p b (layoutSymbols (p .layout)) words → Bytes (piece wordBytes words j)
+      -- what `take_place` makes of the symbol there
+      took-placed : (late q r : ℕ) (after : List ℕ) → late ≡ delay (p .layout) (x % p .layout .rows) → q ≡ pooledIn p b s → Placed (total (p .layout)) (p .bits) x late q words r after
+          → Took p b s words → (r ≡ bool (channel.restZero (p .layout) (pooledIn p b) s)) × Took p b (s + 1) after
+      took-placed late q r after e same placed k =
+          let g = p .layout in
+          ⊎-elim
+          (λ (a : late ≤ x × x - late < total g).
+          let t : hitBy g x ≡ x - late = hit-at g x late e (a .0) (a .1) in
+          let hit : hitBy g x < total g = let l = a .1 in omega arith in
+          let o = placed .hit (a .0) (a .1) in
+          (o .0 ∙ ap bool (sym (rest-hit g line (pooledIn p b) i inside hit)), took-hit after hit (rw (← t, same) at (o .1)) k))
+          (λ (n : late ≤ x → x - late < total g → ⊥).
+          let none : total g ≤ hitBy g x = let t = hit-not g x late e n in omega arith in
+          let o = placed .unhit n in
+          (o .0 ∙ ap (λ (v : ℕ). bool (eqb 0 v)) same ∙ ap bool (sym (rest-unhit g line (pooledIn p b) i inside none)), rw (sym (o .1)) at (took-unhit none k)))
+          (hits late x (total g))
+
+    -- the same by the symbol's number: its place is that of the line's first symbol further on, less the markers so far
+    pub took-at : (line at late q r : ℕ) (after : List ℕ) → line * unit (p .layout) + p .layout .markers ≤ at → at < line * unit (p .layout) + unit (p .layout)
+        → late ≡ delay (p .layout) ((at - (line * p .layout .markers + p .layout .markers)) % p .layout .rows) → q ≡ pooledIn p b at
+        → Placed (total (p .layout)) (p .bits) (at - (line * p .layout .markers + p .layout .markers)) late q words r after
+        → Took p b at words → (r ≡ bool (channel.restZero (p .layout) (pooledIn p b) at)) × Took p b (at + 1) after
+    took-at line at late q r after low high e same placed k =
+        let i : ℕ = at - (line * unit (p .layout) + p .layout .markers) in
+        let here : line * unit (p .layout) + (p .layout .markers + i) ≡ at = omega arith in
+        let there : at - (line * p .layout .markers + p .layout .markers) ≡ line * p .layout .symbols + i = omega arith in
+        rw here at (took-placed line i (omega arith) late q r after (rw there at e) (rw here same) (rw there at placed) (rw here k))
+
+    piece-bytes : Bytes words → (j : ℕ) → j < p .layout .words → Took p b (symbolCount (p .layout)) words → Bytes (piece wordBytes words j)
     piece-bytes bytes j h k i =
         let room = k .room in
         ⊎-elim

@@ -9,7 +9,7 @@ use Rattle.slots_places.proofs.rest_after.Statement.{statement}
 use Rattle.slots_places.proofs.rest_after.Tie as tie
 
 add-n : tie.Need-add-n
-add-n c = let k = bounds ((c .before .before .before) .args .p) ((c .before .before .before) .pre .0 .slots .fine) in omega arith
+add-n c = let k = bounds ((c .before .before .before) .args .p) ((c .before .before .before) .pre .0 .fine) in omega arith
 
 mul-n : tie.Need-mul-n
 mul-n c = search needs
@@ -19,15 +19,10 @@ returns c =
     let s = c .before .before .before .before .before in
     let a = s .args in
     let h = s .pre in
-    known-stay (a .p) (h .0 .slots .fine) (a .b .now) (a .from) (a .to) (a .rest) (a .words .now) (h .2) (h .0 .order) (h .0 .most) (c .if1 .taken)
+    λ b row k. known-stay (a .p) (h .0 .fine) b (a .from) (a .to) (a .rest) (a .words .now) k (h .0 .order) (h .0 .most) (c .if1 .taken)
 
 take-requires : tie.Need-take-requires
-take-requires c κs =
-    let s = c .before .before .before .before .before .before in
-    let h = s .pre in
-    let m = h .2 .most in
-    let none : s .args .rest ≡ layoutSymbols (s .args .p .layout) = let l = (c .before) .if1 .left in omega arith in
-    (h .0, h .1, h .2 .took none)
+take-requires c κs = search needs
 
 same-length : tie.Need-same-length
 same-length c = search needs
@@ -37,10 +32,10 @@ returns-2 c =
     let s = c .before .before .before .before .before .before .before .before .before .before in
     let a = s .args in
     let h = s .pre in
-    let m = h .2 .most in
     let o = (c .before .before .before) .take in
-    let none : a .rest ≡ layoutSymbols (a .p .layout) = let l = (c .before .before .before .before .before) .if1 .left in omega arith in
-    known-wrong (a .p) (h .0 .slots .fine) (a .b .now) (a .from) (a .to) (a .rest) (a .words .now) (h .2) (h .0 .order) (h .0 .most) none (o .result) (o .ensures .0) _ (c .if2 .taken)
+    λ b row k.
+    let none : a .rest ≡ symbolCount (a .p .layout) = let l = (c .before .before .before .before .before) .if1 .left in let m = k .most in omega arith in
+    known-wrong (a .p) (h .0 .fine) b (a .from) (a .to) (a .rest) (a .words .now) k (h .0 .order) (h .0 .most) none (o .result) (o .ensures .first b row (k .took none)) _ (c .if2 .taken)
 
 same-length-2 : tie.Need-same-length-2
 same-length-2 c = search needs
@@ -50,10 +45,10 @@ returns-3 c =
     let s = c .before .before .before .before .before .before .before .before .before .before in
     let a = s .args in
     let h = s .pre in
-    let m = h .2 .most in
     let o = (c .before .before .before) .take in
-    let none : a .rest ≡ layoutSymbols (a .p .layout) = let l = (c .before .before .before .before .before) .if1 .left in omega arith in
-    known-right (a .p) (h .0 .slots .fine) (a .b .now) (a .from) (a .to) (a .rest) (a .words .now) (h .2) (h .0 .order) (h .0 .most) none (o .result) (o .ensures .0) _ (c .if2 .left) (o .ensures .1 (c .if2 .left))
+    λ b row k.
+    let none : a .rest ≡ symbolCount (a .p .layout) = let l = (c .before .before .before .before .before) .if1 .left in let m = k .most in omega arith in
+    known-right (a .p) (h .0 .fine) b (a .from) (a .to) (a .rest) (a .words .now) k (h .0 .order) (h .0 .most) none (o .result) (o .ensures .first b row (k .took none)) _ (c .if2 .left) (o .ensures .took b row (k .took none) (c .if2 .left))
 
 pub rest-after-spec : {M : Type 1} → statement M
 rest-after-spec = tie.close (tie.spec add-n mul-n returns take-requires same-length returns-2 same-length-2 returns-3)

@@ -10,7 +10,7 @@ use Rattle.pool.specs.Pooled.{firstUndecided}
 use Rattle.pulses.proofs.Laws.Zeros.{some-groups}
 use Rattle.slots.proofs.Laws.Bounds.{Bounds, bounds, shape}
 use Rattle.slots.specs.Inner.{decidedIn}
-use Rattle.slots_places.proofs.Laws.Passing.{Upto, upto-start, upto-zeros, upto-bad, upto-good, upto-end, parts-zero, parts-in, few-groups}
+use Rattle.slots_places.proofs.Laws.Passing.{Upto, upto-start, upto-zeros, upto-bad, upto-good, upto-end, parts-zero, parts-in, few-groups, few-symbols}
 use Rattle.slots_reader.proofs.sweep.find.Statement.{statement}
 use Rattle.slots_reader.proofs.sweep.find.Tie as tie
 
@@ -21,11 +21,11 @@ abbrev μ-loop : tie.MeasureT-loop
 μ-loop p b words₀ n count whole given rest₀ copies c₀ words rest c = whole - c
 
 -- the sizes that the needs rest on
-known : (s : tie.Start Inv-loop μ-loop) → Bounds (s .args .p) × (1 ≤ 320 / s .args .p .group) × (16 * (320 / s .args .p .group) ≤ unit (s .args .p .layout))
+known : (s : tie.Start Inv-loop μ-loop) → Bounds (s .args .p) × (1 ≤ 320 / s .args .p .group) × (16 * (320 / s .args .p .group) ≤ unit (s .args .p .layout)) × (16 * (320 / s .args .p .group) ≤ 1024)
 known s =
     let p = s .args .p in
     let f = s .pre .0 .fine in
-    (bounds p f, some-groups (p .order) (p .group) (shape p f), few-groups p f)
+    (bounds p f, some-groups (p .order) (p .group) (shape p f), few-groups p f, few-symbols p f)
 
 -- the groups of so many forties are among all
 inside : (s : tie.Start Inv-loop μ-loop) (e : ℕ) → e ≤ layoutSymbols (s .args .p .layout) / (320 / s .args .p .group) → e * (320 / s .args .p .group) ≤ layoutSymbols (s .args .p .layout)
@@ -109,7 +109,7 @@ look-requires c κs =
     let some : l .c + 1 ≤ o .result = let q = o .ensures .0 in omega arith in
     let low : (l .c + 1) * count ≤ o .result * count = apart (l .c + 1) (o .result) count some in
     let high : o .result * count ≤ (l .c + 16) * count = apart (o .result) (l .c + 16) count (o .ensures .2) in
-    record { slots = s .pre .0; some = omega arith; most = inside s (o .result) (o .ensures .1); near = omega arith; known = l .inv .2 .known }
+    record { slots = s .pre .0; some = omega arith; most = inside s (o .result) (o .ensures .1); near = omega arith; few = let k = r .3 in omega arith; room = (let room = s .pre .1 .room in let e = l .inv .1 in omega arith); known = l .inv .2 .known }
 
 mul-if1 : tie.Need-mul-if1 Inv-loop μ-loop
 mul-if1 c =
@@ -189,7 +189,7 @@ look-requires-2 c κs =
     let d = div-add-mod' (layoutSymbols (p .layout)) count in
     let m : layoutSymbols (p .layout) % count < count = mod-lt (layoutSymbols (p .layout)) (r .1) in
     let some = (c .before) .if2 .taken in
-    record { slots = s .pre .0; some = some; most = le-refl (layoutSymbols (p .layout)); near = omega arith; known = rw e at (l .inv .2 .known) }
+    record { slots = s .pre .0; some = some; most = le-refl (symbolCount (p .layout)); near = omega arith; few = let k = r .3 in omega arith; room = (let room = s .pre .1 .room in let e = l .inv .1 in omega arith); known = rw e at (l .inv .2 .known) }
 
 same-length-2 : tie.Need-same-length-2 Inv-loop μ-loop
 same-length-2 c = (c .before .before) .look2 .kept .1 .1 .1 .1 .1 .0 ∙ (c .before .before .before .before .before .before) .loop .inv .1

@@ -1,0 +1,4 @@
+-- Laws that other crates or several proofs cite, each after those that it rests on.
+pub mod Bytes
+pub mod Scatter
+pub mod Residues
