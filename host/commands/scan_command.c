@@ -8,7 +8,7 @@
 #include <sys/stat.h>
 
 #include "commands/captured_run.h"
-#include "commands/command_line.h"
+#include "commands/line.h"
 #include "commands/printed_output.h"
 #include "commands/scan_report.h"
 #include "files/folder.h"
