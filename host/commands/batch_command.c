@@ -15,6 +15,7 @@
 #include "commands/batch_list.h"
 #include "commands/batch_results.h"
 #include "commands/command_line.h"
+#include "commands/line.h"
 #include "commands/number_operands.h"
 #include "files/bytes.h"
 #include "report/messages.h"

@@ -9,21 +9,13 @@
 #include <unistd.h>
 
 #include "commands/help.h"
+#include "commands/line.h"
 #include "commands/printed_output.h"
 #include "report/log.h"
 #include "report/messages.h"
 #include "report/progress.h"
 #include "runs/sigmf.h"
 #include "system/descriptors.h"
-
-int count_names(const char *names) {
-    int count = 0;
-    for (; names != NULL && *names != '\0'; names += strcspn(names, " ")) {
-        names += strspn(names, " ");
-        count++;
-    }
-    return count;
-}
 
 /* ---- taking a line apart */
 
@@ -38,7 +30,7 @@ static enum status misused(const struct command *command, const char *what, cons
     return FAILED;
 }
 
-enum status no_such_command(const char *name) {
+static enum status no_such_command(const char *name) {
     const struct command *const meant = nearest_command(name);
     if (meant == NULL) {
         return misused(NULL, name, "no such command");
@@ -126,20 +118,6 @@ static void take_line(int argc, char *argv[], struct line *line, struct wrong *w
     }
 }
 
-const struct command *command_named(const char *name) {
-    for (const struct command *each = COMMANDS; each->name != NULL; each++) {
-        if (strcmp(name, each->name) == 0) {
-            return each;
-        }
-    }
-    return NULL;
-}
-
-bool by_sigmf(const struct line *line) {
-    return line->options[SIGMF] != NULL && line->command->run != write_command &&
-           (options_of(line->command) & WITH(SIGMF)) != 0;
-}
-
 /* Of operands, HEADER and MARKER, which are not given where metadata has them. */
 enum { DESCRIBED = 2 };
 
@@ -183,26 +161,6 @@ static bool several_dashes(const struct line *line) {
 }
 
 /* ---- running */
-
-/* Nobody is asked where an answer would be taken from the input. */
-static bool may_ask(const struct line *line) {
-    for (int i = 0; i < line->count; i++) {
-        if (is_dash(line->operands[i]) || descriptor_of(line->operands[i]) == STDIN_FILENO) {
-            return false;
-        }
-    }
-    return line->options[QUIET] == NULL;
-}
-
-struct output output_as_told(const struct line *line, const char *name) {
-    struct output output = {
-        .name = name, .force = line->options[FORCE] != NULL, .ask = may_ask(line)};
-    if (line->resumed != NULL) {
-        output.same_will_do = true;
-        output.own = line->resumed->own;
-    }
-    return output;
-}
 
 /* Whether a file, by its name or as a standard file, is this one on the disk. */
 static bool is_file(const char *name, int standard, const struct stat *file) {
@@ -359,6 +317,16 @@ static enum status obey_command(struct line *line) {
     }
     return several_dashes(line) ? misused(line->command, name, "only one input can be -")
                                 : run(line);
+}
+
+enum status help_command(const struct line *line, struct entry *entry) {
+    const char *const name = line->count == 0 ? NULL : line->operands[0];
+    const struct command *const command = name == NULL ? NULL : command_named(name);
+    (void)entry;
+    if (name != NULL && command == NULL) {
+        return no_such_command(name);
+    }
+    return put_printed(NULL, print_help, command) ? DONE : FAILED;
 }
 
 enum status obey(int argc, char *argv[]) {

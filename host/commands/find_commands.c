@@ -3,7 +3,7 @@
 #include <stdio.h>
 
 #include "commands/captured_run.h"
-#include "commands/command_line.h"
+#include "commands/line.h"
 #include "commands/number_operands.h"
 #include "files/inputs.h"
 #include "files/outputs.h"

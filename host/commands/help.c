@@ -2,16 +2,8 @@
 
 #include <string.h>
 
-#include "commands/command_line.h"
-#include "commands/printed_output.h"
+#include "commands/line.h"
 #include "mahyrei_plain.h"
-
-enum { FOR_ALL = WITH(QUIET) | WITH(HELP) | WITH(VERSION) };
-
-/* The options that a command has. */
-unsigned options_of(const struct command *command) {
-    return FOR_ALL | command->options | (command->logged ? WITH(LOG) : 0);
-}
 
 /* ---- all commands */
 
@@ -223,16 +215,4 @@ const struct command *nearest_command(const char *typed) {
         }
     }
     return found;
-}
-
-/* ---- the command */
-
-enum status help_command(const struct line *line, struct entry *entry) {
-    const char *const name = line->count == 0 ? NULL : line->operands[0];
-    const struct command *const command = name == NULL ? NULL : command_named(name);
-    (void)entry;
-    if (name != NULL && command == NULL) {
-        return no_such_command(name);
-    }
-    return put_printed(NULL, print_help, command) ? DONE : FAILED;
 }

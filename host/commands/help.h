@@ -7,9 +7,6 @@
 
 #include "commands/commands.h"
 
-/* The options that a command has. */
-unsigned options_of(const struct command *command);
-
 /* `usage: mahyrei NAME ...`, in one line. */
 void print_usage_of(FILE *to, const char *before, const struct command *command);
 

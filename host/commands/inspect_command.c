@@ -4,8 +4,8 @@
 #include <stdio.h>
 
 #include "commands/captured_run.h"
-#include "commands/command_line.h"
 #include "commands/commands.h"
+#include "commands/line.h"
 #include "commands/printed_output.h"
 #include "files/inputs.h"
 #include "files/outputs.h"

@@ -3,7 +3,7 @@
 #include <errno.h>
 #include <stdlib.h>
 
-#include "commands/command_line.h"
+#include "commands/line.h"
 #include "commands/number_operands.h"
 #include "formats/text.h"
 #include "report/messages.h"

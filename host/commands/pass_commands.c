@@ -1,7 +1,7 @@
 /* pass-write and pass-read: up to 211 blocks of one rate to their words, and back. */
 #include <stdlib.h>
 
-#include "commands/command_line.h"
+#include "commands/line.h"
 #include "commands/number_operands.h"
 #include "files/inputs.h"
 #include "files/outputs.h"

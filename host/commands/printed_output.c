@@ -2,7 +2,7 @@
 
 #include <errno.h>
 
-#include "commands/command_line.h"
+#include "commands/line.h"
 #include "files/inputs.h"
 #include "formats/text.h"
 #include "report/messages.h"

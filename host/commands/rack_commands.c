@@ -7,7 +7,7 @@
 #include <string.h>
 #include <sys/stat.h>
 
-#include "commands/command_line.h"
+#include "commands/line.h"
 #include "commands/number_operands.h"
 #include "commands/printed_output.h"
 #include "files/inputs.h"

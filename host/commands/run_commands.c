@@ -7,7 +7,7 @@
 #include <unistd.h>
 
 #include "commands/captured_run.h"
-#include "commands/command_line.h"
+#include "commands/line.h"
 #include "commands/metadata_output.h"
 #include "files/inputs.h"
 #include "files/outputs.h"

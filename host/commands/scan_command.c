@@ -8,7 +8,7 @@
 #include <sys/stat.h>
 
 #include "commands/captured_run.h"
-#include "commands/command_line.h"
+#include "commands/line.h"
 #include "commands/printed_output.h"
 #include "commands/scan_report.h"
 #include "files/folder.h"
@@ -133,6 +133,18 @@ static void show_progress(const struct scan *scan, uint64_t at) {
     progress_scan((int)(at / hundredth), (int)(scan->counts.count & INT32_MAX));
 }
 
+/* The next slot at which the marker begins, however far that is. */
+static bool find_next(struct tried *tried, uint64_t *found) {
+    bool more = true;
+    while (more) {
+        show_progress(tried->scan, tried->from);
+        if (!search_next(&tried->scan->search, &tried->from, found, &more)) {
+            return false;
+        }
+    }
+    return true;
+}
+
 /* Every slot at which the marker begins, except those in a run that is sound. */
 static bool try_some(void *given) {
     struct tried *const tried = given;
@@ -141,8 +153,7 @@ static bool try_some(void *given) {
     for (tried->count = 0; tried->count < tried->most && tried->count < TRIED_MOST;
          tried->count++) {
         uint64_t found, answer;
-        show_progress(scan, tried->from);
-        if (!search_next(&scan->search, tried->from, &found)) {
+        if (!find_next(tried, &found)) {
             return false;
         }
         const uint64_t slot = mahyrei_answer_place(found);

@@ -1,7 +1,7 @@
 /* uplink-write and uplink-read: up to 64 command frames to their slots, and back. */
 #include <stdlib.h>
 
-#include "commands/command_line.h"
+#include "commands/line.h"
 #include "files/inputs.h"
 #include "files/outputs.h"
 #include "library/library.h"

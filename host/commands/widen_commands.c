@@ -1,7 +1,7 @@
 /* widen and narrow: archived headers of eight bytes to those of ten, and back. */
 #include <stdlib.h>
 
-#include "commands/command_line.h"
+#include "commands/line.h"
 #include "files/inputs.h"
 #include "files/outputs.h"
 #include "library/library.h"

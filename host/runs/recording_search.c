@@ -49,24 +49,22 @@ static void move_to(struct search *search, uint64_t byte) {
     }
 }
 
-bool search_next(struct search *search, uint64_t from, uint64_t *answer) {
-    for (;;) {
-        move_to(search, from / 8);
-        const uint64_t before = 8 * search->first, end = before + 8 * (uint64_t)search->step;
-        if (!library_find(&search->lent, from - before, answer)) {
-            return false;
-        }
-        const unsigned number = mahyrei_answer_number(*answer);
-        const uint64_t slot = before + mahyrei_answer_place(*answer);
-        if (number == MAHYREI_ACCEPTED && (slot < end || is_last(search))) {
-            *answer = slot << 8;
-            return true;
-        }
-        if ((number != MAHYREI_ACCEPTED && number != MAHYREI_NO_MARKER) || is_last(search)) {
-            return true;
-        }
-        from = end;
+bool search_next(struct search *search, uint64_t *from, uint64_t *answer, bool *more) {
+    move_to(search, *from / 8);
+    const uint64_t before = 8 * search->first, end = before + 8 * (uint64_t)search->step;
+    *more = false;
+    if (!library_find(&search->lent, *from - before, answer)) {
+        return false;
     }
+    const unsigned number = mahyrei_answer_number(*answer);
+    const uint64_t slot = before + mahyrei_answer_place(*answer);
+    if (number == MAHYREI_ACCEPTED && (slot < end || is_last(search))) {
+        *answer = slot << 8;
+    } else if (number == MAHYREI_ACCEPTED || number == MAHYREI_NO_MARKER) {
+        *more = !is_last(search);
+        *from = end;
+    }
+    return true;
 }
 
 void copy_run(const struct recording *recording, const struct sheet *run, uint64_t slot,

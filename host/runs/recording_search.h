@@ -27,8 +27,9 @@ bool search_begin(struct search *search, const struct recording *recording,
 void search_free(struct search *search);
 
 /* The answer of mahyrei_run_find from this slot of the recording on, its place a slot of the
- * recording. */
-bool search_next(struct search *search, uint64_t from, uint64_t *answer);
+ * recording. One call searches a stretch: where nothing begins in that, and there is more of the
+ * recording, the answer is none yet, and `from` is where to go on. */
+bool search_next(struct search *search, uint64_t *from, uint64_t *answer, bool *more);
 
 /* Copies the bytes that the run from this slot on lies in, as far as they are there; `at` is its
  * first slot among them. There is room in `to` for the slots of a run and a byte. */

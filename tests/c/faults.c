@@ -5,6 +5,7 @@
  *   FAULT=slow                reads and writes move little at a time, and signals interrupt them
  *   FAULT=hold                fsync waits as long as there is a file `hold` in the folder
  *   FAULT=holdmode            fchmod does
+ *   FAULT=ticking             timers run a hundred times as fast
  *   FAULT=nonblocking         the standard files do not block
  *   FAULT=memory              the machine has four pages of memory
  *
@@ -29,6 +30,7 @@
 #include <string.h>
 #include <sys/stat.h>
 #include <sys/syscall.h>
+#include <sys/time.h>
 #include <sys/types.h>
 #include <unistd.h>
 
@@ -142,6 +144,15 @@ int open(const char *name, int how, ...) {
         swap("folder");
     }
     return (int)syscall(SYS_openat, AT_FDCWD, name, how, mode);
+}
+
+int setitimer(__itimer_which_t which, const struct itimerval *set, struct itimerval *old) {
+    struct itimerval fast = *set;
+    if (is("ticking")) {
+        fast.it_interval.tv_usec /= 100;
+        fast.it_value.tv_usec /= 100;
+    }
+    return (int)syscall(SYS_setitimer, which, &fast, old);
 }
 
 int fchmod(int file, mode_t mode) {

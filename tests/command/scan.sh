@@ -396,6 +396,23 @@ once_scan_dense() {
         "$(sed -n 's/^mahyrei: recording: slot \([0-9]*\): refused, number [0-9]*, .*/\1/p' "$said/err" | cksum)"
 }
 
+# The line on a terminal goes on in a recording in which nothing is found, too.
+once_scan_progress() {
+    begin
+    if ! command -v script >"$said/out"; then
+        echo 'command: no script(1) here; the progress of a scan is not looked at'
+        return
+    fi
+    local shown
+    truncate -s 300M recording
+    script -qec "env LD_PRELOAD=$faults FAULT=ticking $mahyrei scan $header $marker recording" \
+        /dev/null </dev/null >"$said/out"
+    has 'what comes of it' 'refused, number 19, place 0' "$(out)"
+    shown=$(grep -Eo '[0-9]+ % of the recording, runs sound: 0,' "$said/out" | uniq | cut -d ' ' -f 1)
+    same 'it comes to more than a beginning and an end' yes "$([ "$(wc -l <<<"$shown")" -ge 3 ] && echo yes)"
+    same 'it goes up' "$(sort -n <<<"$shown")" "$shown"
+}
+
 # More than there is memory: mapped, not read.
 once_scan_larger_than_memory() {
     begin_recording

@@ -26,3 +26,15 @@ once_include_direction() {
             "$(sed -n '/^- `host\/`/,/^- /p' "$root/docs/ARCHITECTURE.md")"
     done
 }
+
+# Within a folder too, no part includes one that includes it, by way of others or not.
+once_no_circles() {
+    local name part
+    for name in "$root"/host/*/*.[ch]; do
+        part=${name#"$root/host/"}
+        sed -n "s|^#include \"\\([a-z]*/[a-z_0-9]*\\)\\.h\"\$|${part%.*} \\1|p" "$name"
+    done | awk '$1 != $2' | sort -u >pairs
+    same 'pairs of parts' yes "$([ "$(wc -l <pairs)" -gt 200 ] && echo yes)"
+    tsort pairs >"$said/out" 2>"$said/err"
+    same 'parts that include one another' '' "$(<"$said/err")"
+}
