@@ -8,6 +8,7 @@ use native.Mathlib.Omega.{arith}
 use native.Mathlib.Nat.{mul-assoc, add-mul, zero-div}
 use native.Mathlib.Numerals.{add-one}
 use lib.Bits.{bitOr, bitAnd, or-shr, or-mod, and-shr, and-mod, or-zero-l, or-zero-r, and-zero-r}
+use lib.Pow.{field, mod-mod-pow, shr-shr, shl-shr}
 use lib.Dec.{ltb, eqb}
 use borrow.Author.Tests.{lt-ltb, le-ltb, eq-eqb, ne-eqb}
 use Rattle.bits.specs.Basics.{pick, bool}
@@ -33,6 +34,20 @@ window-bit b x i v l e =
     ap (λ (n : ℕ). n / 2 ^ (63 - i) % 2) (ap (λ (n : ℕ). n * 2 ^ (x % 8) % 2 ^ 64) e ∙ window-is b x)
     ∙ bit-val (cut w (bitsFrom b x)) (cut-bits w (bitsFrom b x) (λ k. bit-lt b (x + k))) (63 - i) i 64 (omega arith)
     ∙ cut-in w (bitsFrom b x) i (omega arith)
+
+-- of a shifted number
+pub shl-bit : (v g i : ℕ) → g + i < 64 → bitOf (v * 2 ^ g % 2 ^ 64) i ≡ bitOf v (g + i)
+shl-bit v g i l =
+    let k : ℕ = 63 - i in
+    let d : ℕ = 63 - (g + i) in
+    let n : ℕ = v * 2 ^ g in
+    let whole : 64 ≡ i + 1 + k = omega arith in
+    let parts : k ≡ g + d = omega arith in
+    ap (λ (w : ℕ). n % 2 ^ w / 2 ^ k % 2) whole
+    ∙ ap (λ (w : ℕ). w % 2) (field n (i + 1) k)
+    ∙ mod-mod-pow (n / 2 ^ k) i 1
+    ∙ ap (λ (w : ℕ). n / 2 ^ w % 2) parts
+    ∙ ap (λ (w : ℕ). w % 2) (sym (shr-shr n g d) ∙ ap (λ (w : ℕ). w / 2 ^ d) (shl-shr v g))
 
 -- of what shifts leave of a number's first bits: a single one, or none
 module _ (v group : ℕ) (fits : v < 2 ^ 64) (most : group ≤ 64) where

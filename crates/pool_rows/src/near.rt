@@ -54,6 +54,35 @@ fn decisive(b: &[u8], copies: usize, group: usize, y: usize) -> usize
     settled(any, several, group)
 }
 
+// The same where the copies are within one number.
+fn decisive_short(b: &[u8], copies: usize, group: usize, y: usize) -> usize
+    requires { ⌜ Near group copies (now b) y × (copies * group ≤ 57) ⌝ }
+    ensures { λ r. ⌜ (r < group → peak (pulsesAt (now (b .entry)) group y copies) group ≡ r) ⌝ }
+{
+    let mut any = 0u64;
+    let mut several = 0u64;
+    let mut v = window(b, y);
+    let mut k = 0usize;
+    while k < copies {
+        several = several | (v & any);
+        any = any | v;
+        v = v << group;
+        k += 1;
+    }
+    settled(any, several, group)
+}
+
+// The one or the other.
+fn slot_of(b: &[u8], copies: usize, group: usize, y: usize) -> usize
+    requires { ⌜ Near group copies (now b) y ⌝ }
+    ensures { λ r. ⌜ (r < group → peak (pulsesAt (now (b .entry)) group y copies) group ≡ r) ⌝ }
+{
+    if copies * group <= 57 {
+        return decisive_short(b, copies, group, y);
+    }
+    decisive(b, copies, group, y)
+}
+
 // The symbols from s on up to the first of which that is not seen, or `to`, where those from `from` on up to s are in the row already.
 pub fn near_row(
     b: &[u8],
@@ -72,7 +101,7 @@ pub fn near_row(
     let mut y = s * size;
     let mut k = s;
     while k < to {
-        let q = decisive(b, copies, group, y);
+        let q = slot_of(b, copies, group, y);
         if q >= order {
             return k;
         }

@@ -1,4 +1,5 @@
 // Question 10 of a stretch of groups, and the symbols in it, a byte to a symbol: each group is read once.
+mod eighties;
 mod fives;
 pub mod forties;
 
@@ -93,6 +94,9 @@ fn ahead(order: usize, group: usize, b: &[u8], from: usize, to: usize, row: &mut
     }
     if group == 40 {
         return forties::forties(32, 40, 1, b, from, to, row);
+    }
+    if group == 80 {
+        return eighties::eighties(b, from, to, row);
     }
     good_row(order, group, b, from, to, row)
 }

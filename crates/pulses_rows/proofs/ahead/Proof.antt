@@ -73,14 +73,31 @@ returns-4 c =
     let o : s .args .order ≡ 32 = let g = s .pre .0 .shape .group-is in omega arith in
     rw (o, e) (c .before .before .forties3 .ensures)
 
-good-row-requires : tie.Need-good-row-requires
-good-row-requires c κs = search needs
+eighties-requires : tie.Need-eighties-requires
+eighties-requires c κs =
+    let s = c .before .before .before .before .before .before .before .before in
+    let e : s .args .group ≡ 80 = c .before .if5 .taken in
+    let o : s .args .order ≡ 64 = let g = s .pre .0 .shape .group-is in omega arith in
+    (rw (o, e) at (s .pre .1), s .pre .2)
 
 same-length-5 : tie.Need-same-length-5
 same-length-5 c = search needs
 
 returns-5 : tie.Need-returns-5
-returns-5 c = search needs
+returns-5 c =
+    let s = c .before .before .before .before .before .before .before .before .before .before .before in
+    let e : s .args .group ≡ 80 = c .before .before .before .before .if5 .taken in
+    let o : s .args .order ≡ 64 = let g = s .pre .0 .shape .group-is in omega arith in
+    rw (o, e) (c .before .before .eighties .ensures)
+
+good-row-requires : tie.Need-good-row-requires
+good-row-requires c κs = search needs
+
+same-length-6 : tie.Need-same-length-6
+same-length-6 c = search needs
+
+returns-6 : tie.Need-returns-6
+returns-6 c = search needs
 
 pub ahead-spec : {M : Type 1} → statement M
 ahead-spec =
@@ -98,6 +115,9 @@ ahead-spec =
     forties-requires-3
     same-length-4
     returns-4
-    good-row-requires
+    eighties-requires
     same-length-5
-    returns-5)
+    returns-5
+    good-row-requires
+    same-length-6
+    returns-6)

@@ -49,8 +49,8 @@ loop-holds c =
     let s = c .before .before in
     (record { least = s .pre .2; most = s .pre .3; long = refl; known = s .pre .5 }, le-refl (s .args .s), refl)
 
-decisive-requires : tie.Need-decisive-requires Inv-loop μ-loop
-decisive-requires c κs =
+slot-of-requires : tie.Need-slot-of-requires Inv-loop μ-loop
+slot-of-requires c κs =
     let s = c .before .before .before .before in
     let a = s .args in
     let l = c .before .loop in
@@ -69,7 +69,7 @@ returns : tie.Need-returns Inv-loop μ-loop
 returns c = (c .before .before .before .loop .inv .0, c .before .before .before .loop .inv .1)
 
 cast-row : tie.Need-cast-row Inv-loop μ-loop
-cast-row c = omega (arith, mask-lt (c .before .decisive .result) 8)
+cast-row c = omega (arith, mask-lt (c .before .slot-of .result) 8)
 
 sub-row : tie.Need-sub-row Inv-loop μ-loop
 sub-row c = let l = c .before .before .before .loop .inv .0 .least in omega arith
@@ -105,7 +105,7 @@ loop-again c =
     let s = c .before .before .before .before .before .before in
     let a = s .args in
     let l = c .before .before .before .loop in
-    let o = c .before .decisive in
+    let o = c .before .slot-of in
     let z = s .pre .0 .of-group in
     let least = l .inv .0 .least in
     let long = l .inv .0 .long in
@@ -132,7 +132,7 @@ near-row-spec =
     mul-size
     mul-y
     loop-holds
-    decisive-requires
+    slot-of-requires
     same-length
     returns
     cast-row
