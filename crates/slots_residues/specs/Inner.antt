@@ -27,6 +27,8 @@ pub record Scatters (row : List ℕ) (from to n m t : ℕ) (words : List ℕ) : 
   pub room : to ≤ length row
   pub bound : to < 2 ^ 32
   pub bits-least : 1 ≤ m
+  pub bits-most : m ≤ 8
+  pub start : t < 2 ^ 32
   pub puts : (j : ℕ) → from + j < to → Puts (t + j) m (getD row (from + j) 0) words
 
 -- every n-th of d symbols was added to the words

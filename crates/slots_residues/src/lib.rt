@@ -1,6 +1,9 @@
 // Places that are all hit, residue by residue modulo N: places N apart have one delay, so that their symbols are N apart too.
 ghost use mathlib.Core.Path.{_≡_};
+ghost use mathlib.Core.Bool.{true};
 ghost use Prim.Native.Nat.{ℕ, _+_, _-_, _*_, _%_, _^_, _≤_, _<_};
+ghost use lib.Bits.{bitXor};
+ghost use lib.ListN.{length, getD, set};
 ghost use Rattle.channel.specs.Inner.{Puts, Put};
 ghost use Rattle.slots_residues.specs.Inner.{Room, Scatters, Scattered, Hit, Shown, Laid, before};
 
@@ -16,6 +19,14 @@ pub fn next_delay(delay: usize, back: usize, wrap: usize) -> usize
     next
 }
 
+// Adds the bits of q, shifted up by k, to a byte.
+fn add_at(words: &mut [u8], at: usize, q: usize, k: usize)
+    requires { ⌜ (at < length (now words)) × (k < 8) × (q * 2 ^ k < 256) ⌝ }
+    ensures { λ _. ⌜ now (words .exit) ≡ set (now (words .entry)) at (bitXor (getD (now (words .entry)) at 0) (q * 2 ^ k)) ⌝ }
+{
+    words[at] = words[at] ^ ((q << k) as u8);
+}
+
 // Step 8 undone as by `channel::put_symbol`, where m divides 8: the symbol's bits are in one byte. `y % 8` is a multiple of m
 // then, and to add it to the bits of `last` is to subtract it.
 fn put_in_byte(words: &mut [u8], t: usize, m: usize, q: usize)
@@ -24,7 +35,7 @@ fn put_in_byte(words: &mut [u8], t: usize, m: usize, q: usize)
 {
     let y = m * t;
     let last = 8 - m;
-    words[y / 8] = words[y / 8] ^ ((q << (last ^ (y % 8))) as u8);
+    add_at(words, y / 8, q, last ^ (y % 8));
 }
 
 // Every n-th symbol of a row, from `from` on before `to`, to every n-th of the words, from symbol t on. Each is in one byte.
@@ -71,10 +82,50 @@ fn scatter_in_two(
     }
 }
 
+// n symbols are whole bytes, and symbol t is in one: then so is every n-th after it, at the same bits.
+fn steady(n: usize, m: usize, t: usize) -> bool
+    requires { ⌜ (n ≤ 128) × (m ≤ 8) × (t < 2 ^ 32) ⌝ }
+    ensures { λ r. ⌜ (r ≡ true → (m * n % 8 ≡ 0) × (m + m * t % 8 ≤ 8)) ⌝ }
+{
+    if m * n % 8 != 0 {
+        return false;
+    }
+    m + m * t % 8 <= 8
+}
+
+// The same there: byte after byte, without a product.
+fn scatter_steady(
+    row: &[u8],
+    from: usize,
+    to: usize,
+    n: usize,
+    m: usize,
+    t: usize,
+    words: &mut [u8],
+)
+    requires { ⌜ Scatters (now row) from to n m t (now words) × (m * n % 8 ≡ 0) × (m + m * t % 8 ≤ 8) ⌝ }
+    ensures { λ _. ⌜ Scattered (now (row .entry)) from (to - from) n m t (now (words .entry)) (now (words .exit)) ⌝ }
+{
+    let y = m * t;
+    let k = 8 - m - y % 8;
+    let turn = m * n / 8;
+    let mut at = y / 8;
+    let mut i = from;
+    while i < to {
+        add_at(words, at, row[i] as usize, k);
+        at += turn;
+        i += n;
+    }
+}
+
 fn scatter(row: &[u8], from: usize, to: usize, n: usize, m: usize, t: usize, words: &mut [u8])
     requires { ⌜ Scatters (now row) from to n m t (now words) ⌝ }
     ensures { λ _. ⌜ Scattered (now (row .entry)) from (to - from) n m t (now (words .entry)) (now (words .exit)) ⌝ }
 {
+    if steady(n, m, t) {
+        scatter_steady(row, from, to, n, m, t, words);
+        return;
+    }
     if 8 % m == 0 {
         scatter_in_bytes(row, from, to, n, m, t, words);
         return;

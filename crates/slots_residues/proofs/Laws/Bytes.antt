@@ -4,7 +4,7 @@ use mathlib.Core.Bool.{true}
 use mathlib.Core.List.{List}
 use Prim.Native.Nat.{ℕ, _+_, _-_, _*_, _/_, _%_, _^_, _≤_, _<_}
 use native.Mathlib.Omega.{arith}
-use native.Mathlib.Nat.{mul-assoc, mul-mod-left, mul-mod-right, mod-eq-of-lt, div-add-mod', add-mul-mod-self-right}
+use native.Mathlib.Nat.{mul-assoc, mul-mod-left, mul-mod-right, div-add-mod', add-mul-mod-self-right}
 use lib.Bits.{bitXor, bitAnd, and-mask, xor-zero-r}
 use lib.Dec.{eqb, eqb→eq}
 use lib.ListN.{length, getD, set}
@@ -33,41 +33,39 @@ xor-last m r hm hr a b =
     (rw (eq-eqb (8 % m) 0 a, eq-eqb (r % m) 0 b) at (below-all 8 (λ r. pick (eqb (8 % m) 0) (pick (eqb (r % m) 0) (eqb (bitXor (8 - m) r) (8 - m - r)) true) true)
     (below-all 9 (λ m. allBelow 8 (λ r. pick (eqb (8 % m) 0) (pick (eqb (r % m) 0) (eqb (bitXor (8 - m) r) (8 - m - r)) true) true)) tt m (omega arith)) r hr))
 
-module _ (t m q : ℕ) (words : List ℕ) (puts : Puts t m q words) (whole : 8 % m ≡ 0) where
+module _ (t m q : ℕ) (words : List ℕ) (puts : Puts t m q words) where
   abbrev r : ℕ
   r = m * t % 8
 
-  even : r % m ≡ 0
-  even = mod-part 8 m (m * t) whole ∙ mul-mod-right m t
+  -- where m divides 8 they are in one byte, and this is what the code shifts by
+  module _ (whole : 8 % m ≡ 0) where
+    even : r % m ≡ 0
+    even = mod-part 8 m (m * t) whole ∙ mul-mod-right m t
 
-  pub within : m + r ≤ 8
-  within = let l : r < 8 = omega arith in let k : r + m ≤ 8 = same-apart m r 8 (even ∙ sym whole) l in omega arith
+    pub whole-within : m + r ≤ 8
+    whole-within = let l : r < 8 = omega arith in let k : r + m ≤ 8 = same-apart m r 8 (even ∙ sym whole) l in omega arith
 
-  -- what the code shifts by
-  pub shift : bitXor (8 - m) r ≡ 8 - m - r
-  shift = xor-last m r (puts .bits-most) (omega arith) whole even
+    pub shift : bitXor (8 - m) r ≡ 8 - m - r
+    shift = xor-last m r (puts .bits-most) (omega arith) whole even
 
-  part : moved t m q words puts ≡ q * 2 ^ (8 - m - r) * 2 ^ 8
-  part =
-      let k = within in
-      let e : 16 - m - r ≡ 8 - m - r + 8 = omega arith in
-      shifted m q r (puts .small) (omega arith) ∙ ap (λ (v : ℕ). q * 2 ^ v) e ∙ ap (λ (v : ℕ). q * v) (pow-add 2 (8 - m - r) 8) ∙ sym (mul-assoc q (2 ^ (8 - m - r)) (2 ^ 8))
+  module _ (within : m + r ≤ 8) where
+    part : moved t m q words puts ≡ q * 2 ^ (8 - m - r) * 2 ^ 8
+    part =
+        let e : 16 - m - r ≡ 8 - m - r + 8 = omega arith in
+        shifted m q r (puts .small) (omega arith) ∙ ap (λ (v : ℕ). q * 2 ^ v) e ∙ ap (λ (v : ℕ). q * v) (pow-add 2 (8 - m - r) 8) ∙ sym (mul-assoc q (2 ^ (8 - m - r)) (2 ^ 8))
 
-  first : moved t m q words puts / 2 ^ 8 ≡ q * 2 ^ (8 - m - r)
-  first = ap (λ (v : ℕ). v / 2 ^ 8) part ∙ shl-shr (q * 2 ^ (8 - m - r)) 8
+    first : moved t m q words puts / 2 ^ 8 ≡ q * 2 ^ (8 - m - r)
+    first = ap (λ (v : ℕ). v / 2 ^ 8) part ∙ shl-shr (q * 2 ^ (8 - m - r)) 8
 
-  second : bitAnd (moved t m q words puts) 255 ≡ 0
-  second = and-mask (moved t m q words puts) 8 ∙ ap (λ (v : ℕ). v % 2 ^ 8) part ∙ mul-mod-left (q * 2 ^ (8 - m - r)) (2 ^ 8)
+    second : bitAnd (moved t m q words puts) 255 ≡ 0
+    second = and-mask (moved t m q words puts) 8 ∙ ap (λ (v : ℕ). v % 2 ^ 8) part ∙ mul-mod-left (q * 2 ^ (8 - m - r)) (2 ^ 8)
 
-  pub byte-small : q * 2 ^ (8 - m - r) < 256
-  byte-small = let e = first in let l = moved-small t m q words puts in omega arith
+    pub byte-small : q * 2 ^ (8 - m - r) < 256
+    byte-small = let e = first in let l = moved-small t m q words puts in omega arith
 
-  pub byte-whole : q * 2 ^ (8 - m - r) % 2 ^ 64 ≡ q * 2 ^ (8 - m - r)
-  byte-whole = let l = byte-small in mod-eq-of-lt (omega arith)
-
-  pub put-one : Put t m q words (set words (m * t / 8) (bitXor (getD words (m * t / 8) 0) (q * 2 ^ (8 - m - r))))
-  put-one =
-      let one : List ℕ = set words (m * t / 8) (bitXor (getD words (m * t / 8) 0) (q * 2 ^ (8 - m - r))) in
-      let same : set one (m * t / 8 + 1) (bitXor (getD one (m * t / 8 + 1) 0) 0) ≡ one =
-      ap (set one (m * t / 8 + 1)) (xor-zero-r (getD one (m * t / 8 + 1) 0)) ∙ set-getD one (m * t / 8 + 1) 0 in
-      rw same at (rw (first, second) at (put-moved t m q words puts))
+    pub put-one : Put t m q words (set words (m * t / 8) (bitXor (getD words (m * t / 8) 0) (q * 2 ^ (8 - m - r))))
+    put-one =
+        let one : List ℕ = set words (m * t / 8) (bitXor (getD words (m * t / 8) 0) (q * 2 ^ (8 - m - r))) in
+        let same : set one (m * t / 8 + 1) (bitXor (getD one (m * t / 8 + 1) 0) 0) ≡ one =
+        ap (set one (m * t / 8 + 1)) (xor-zero-r (getD one (m * t / 8 + 1) 0)) ∙ set-getD one (m * t / 8 + 1) 0 in
+        rw same at (rw (first, second) at (put-moved t m q words puts))

@@ -4,7 +4,7 @@ use mathlib.Core.List.{List}
 use mathlib.Core.Logic.{⊎-elim}
 use Prim.Native.Nat.{ℕ, _+_, _-_, _*_, _/_, _%_, _^_, _≤_, _<_}
 use native.Mathlib.Omega.{arith}
-use native.Mathlib.Nat.{add-mod-right}
+use native.Mathlib.Nat.{add-mod-right, mul-add}
 use lib.Bits.{bitXor}
 use lib.ListN.{length, getD}
 use Rattle.bits.proofs.Laws.Choice.{lt-or-le}
@@ -52,3 +52,7 @@ module _ (row : List ℕ) (from n m t : ℕ) (words : List ℕ) where
 -- n further on the remainder is the same
 pub residue-on : (n d : ℕ) → d % n ≡ 0 → (d + n) % n ≡ 0
 residue-on n d e = add-mod-right d n ∙ e
+
+-- n symbols of m bits that are whole bytes: as many bytes on, and the bit in the byte is the same
+pub steady-on : (m u n : ℕ) → m * n % 8 ≡ 0 → (m * (u + n) / 8 ≡ m * u / 8 + m * n / 8) × (m * (u + n) % 8 ≡ m * u % 8)
+steady-on m u n e = let s : m * (u + n) ≡ m * u + m * n = mul-add m u n in (omega arith, omega arith)

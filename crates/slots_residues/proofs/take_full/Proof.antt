@@ -95,6 +95,8 @@ scatter-requires c κs =
       room = h .room;
       bound = h .bound;
       bits-least = omega arith;
+      bits-most = h .fine .bits-most;
+      start = let near = o .ensures .2 in let few = n .ensures .1 in let k = known s .0 in omega arith;
       puts = λ j k. puts (a .p) (h .fine) (l .words) (o .result - l .delay + j) (getD (a .row .now) (a .from + (o .result - a .x) + j) 0) (omega arith)
           (h .small (a .from + (o .result - a .x) + j) (omega arith) k) (let room = s .pre .1 in let long = l .inv .2 in omega arith);
     }

@@ -1,0 +1,36 @@
+-- The shift loses no bit.
+use mathlib.Core.Path.{_≡_, ap}
+use Prim.Native.Nat.{ℕ, _*_, _^_, _<_}
+use native.Mathlib.Omega.{arith}
+use native.Mathlib.Nat.{mod-eq-of-lt}
+use lib.Bits.{bitXor}
+use lib.ListN.{getD, set}
+use borrow.Author.Needs.{needs}
+use Rattle.slots_residues.proofs.add_at.Statement.{statement}
+use Rattle.slots_residues.proofs.add_at.Tie as tie
+
+slice-read-words : tie.Need-slice-read-words
+slice-read-words c = search needs
+
+shl-words : tie.Need-shl-words
+shl-words c = search needs
+
+cast-words : tie.Need-cast-words
+cast-words c = search needs
+
+slice-write-words : tie.Need-slice-write-words
+slice-write-words c = search needs
+
+same-length : tie.Need-same-length
+same-length c = search needs
+
+returns : tie.Need-returns
+returns c =
+    let a = c .before .args in
+    let h = c .before .pre .2 in
+    ap (λ (v : ℕ). set (a .words .now) (a .at) (bitXor (getD (a .words .now) (a .at) 0) v)) (mod-eq-of-lt (omega arith))
+
+pub add-at-spec : {M : Type 1} → statement M
+add-at-spec =
+    tie.close
+    (tie.spec slice-read-words shl-words cast-words slice-write-words same-length returns)
