@@ -17,7 +17,15 @@ pub fn places(x: usize, end: usize, n: usize) -> usize
 }
 
 // `count` symbols of m bits from symbol t on, n apart, to a row, n apart from byte `from` on: each from one byte or two.
-fn gather_fields(words: &[u8], t: usize, m: usize, row: &mut [u8], from: usize, n: usize, count: usize)
+fn gather_fields(
+    words: &[u8],
+    t: usize,
+    m: usize,
+    row: &mut [u8],
+    from: usize,
+    n: usize,
+    count: usize,
+)
     requires { ⌜ Gather m t n count (now words) from (now row) ⌝ }
     ensures { λ _. ⌜ Column (now (row .entry)) from n count (λ j. symbolIn m (now (words .entry)) (t + j * n)) (now (row .exit)) ⌝ }
 {
@@ -67,14 +75,44 @@ fn gather_bytes(
 {
     let mut j = 0usize;
     while count - j >= 4 {
-        gather_some(words, at + j * step, step, shift, mask, row, from + j * n, n, 4);
+        gather_some(
+            words,
+            at + j * step,
+            step,
+            shift,
+            mask,
+            row,
+            from + j * n,
+            n,
+            4,
+        );
         j += 4;
     }
-    gather_some(words, at + j * step, step, shift, mask, row, from + j * n, n, count - j);
+    gather_some(
+        words,
+        at + j * step,
+        step,
+        shift,
+        mask,
+        row,
+        from + j * n,
+        n,
+        count - j,
+    );
 }
 
 // Where `turn` symbols make a byte, every symbol `turn` · n further on has its bits at the same place of a byte, n bytes further on.
-fn gather_turns(words: &[u8], t: usize, m: usize, turn: usize, mask: usize, row: &mut [u8], from: usize, n: usize, count: usize)
+fn gather_turns(
+    words: &[u8],
+    t: usize,
+    m: usize,
+    turn: usize,
+    mask: usize,
+    row: &mut [u8],
+    from: usize,
+    n: usize,
+    count: usize,
+)
     requires { ⌜ Gather m t n count (now words) from (now row) × Bytewise m turn mask ⌝ }
     ensures { λ _. ⌜ Column (now (row .entry)) from n count (λ j. symbolIn m (now (words .entry)) (t + j * n)) (now (row .exit)) ⌝ }
 {
@@ -82,13 +120,31 @@ fn gather_turns(words: &[u8], t: usize, m: usize, turn: usize, mask: usize, row:
     while u < turn {
         let y = m * (t + u * n);
         let few = places(u, count, turn);
-        gather_bytes(words, y / 8, n, 8 - m - y % 8, mask, row, from + u * n, turn * n, few);
+        gather_bytes(
+            words,
+            y / 8,
+            n,
+            8 - m - y % 8,
+            mask,
+            row,
+            from + u * n,
+            turn * n,
+            few,
+        );
         u += 1;
     }
 }
 
 // The symbols of one byte.
-fn unpack_byte(words: &[u8], b: usize, m: usize, turn: usize, mask: usize, row: &mut [u8], at: usize)
+fn unpack_byte(
+    words: &[u8],
+    b: usize,
+    m: usize,
+    turn: usize,
+    mask: usize,
+    row: &mut [u8],
+    at: usize,
+)
     requires { ⌜ Bytewise m turn mask × (b < length (now words)) × (at + turn ≤ length (now row)) ⌝ }
     ensures { λ _. ⌜ Column (now (row .entry)) at 1 turn (λ q. symbolIn m (now (words .entry)) (b * turn + q)) (now (row .exit)) ⌝ }
 {
@@ -101,7 +157,16 @@ fn unpack_byte(words: &[u8], b: usize, m: usize, turn: usize, mask: usize, row: 
 }
 
 // The symbols of n bytes from byte b on, one after the other.
-fn unpack(words: &[u8], b: usize, m: usize, turn: usize, mask: usize, row: &mut [u8], at: usize, n: usize)
+fn unpack(
+    words: &[u8],
+    b: usize,
+    m: usize,
+    turn: usize,
+    mask: usize,
+    row: &mut [u8],
+    at: usize,
+    n: usize,
+)
     requires { ⌜ Bytewise m turn mask × (b + n ≤ length (now words)) × (at + turn * n ≤ length (now row)) ⌝ }
     ensures { λ _. ⌜ Column (now (row .entry)) at 1 (turn * n) (λ j. symbolIn m (now (words .entry)) (b * turn + j)) (now (row .exit)) ⌝ }
 {

@@ -44,7 +44,15 @@ fn row_residues(p: Plan, words: &[u8], line: usize, from: usize, to: usize, row:
 }
 
 // The slots of a line, of whose residues those from `from` on up to `to` have places in it, by a row of zeros.
-fn put_gathered(p: Plan, words: &[u8], line: usize, from: usize, to: usize, row: &mut [u8], slots: &mut [u8])
+fn put_gathered(
+    p: Plan,
+    words: &[u8],
+    line: usize,
+    from: usize,
+    to: usize,
+    row: &mut [u8],
+    slots: &mut [u8],
+)
     requires { ⌜ Lent p (now words) (now slots) × (line < p .layout .lines) × (from ≤ to) × (to ≤ p .layout .rows) × RowTo p (piece wordBytes (now words)) line from (now row) × ((r : ℕ) → to ≤ r → r < p .layout .rows → line * p .layout .symbols + p .layout .symbols ≤ delay (p .layout) (r % p .layout .rows)) × (1 ≤ perForty (p .copies * p .group)) ⌝ }
     ensures { λ _. ⌜ ((end : ℕ) → Holds p (front p (piece wordBytes (now (words .entry))) (line * unit (p .layout) + p .layout .markers)) end (now (slots .entry)) → Holds p (front p (piece wordBytes (now (words .entry))) ((line + 1) * unit (p .layout))) end (now (slots .exit))) ⌝ }
 {

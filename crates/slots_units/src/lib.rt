@@ -70,19 +70,40 @@ fn put_forty(slots: &mut [u8], at: usize, v: u64)
 }
 
 // Forty slots after forty: n times `per` symbols of the row from symbol `from` on, in the bytes from `at` on.
-fn lay(per: usize, width: usize, zero: u64, row: &[u8], from: usize, n: usize, slots: &mut [u8], at: usize)
+fn lay(
+    per: usize,
+    width: usize,
+    zero: u64,
+    row: &[u8],
+    from: usize,
+    n: usize,
+    slots: &mut [u8],
+    at: usize,
+)
     requires { ⌜ (from + per * n ≤ length (now row)) × (width ≤ 40) × Below 64 (now row) × (at + 5 * n ≤ length (now slots)) ⌝ }
     ensures { λ _. ⌜ ((copies group : ℕ) → Zero copies group width zero → Below group (now (row .entry)) → per * width ≡ 40 → Laid (now (slots .entry)) at (5 * n) (rowSlot group width (now (row .entry)) from) (now (slots .exit))) ⌝ }
 {
     let mut u = 0usize;
     while u < n {
-        put_forty(slots, at + 5 * u, unit(per, width, zero, row, from + per * u));
+        put_forty(
+            slots,
+            at + 5 * u,
+            unit(per, width, zero, row, from + per * u),
+        );
         u += 1;
     }
 }
 
 // The same for each width, so that the compiler knows it.
-fn lay_units(width: usize, zero: u64, row: &[u8], from: usize, n: usize, slots: &mut [u8], at: usize)
+fn lay_units(
+    width: usize,
+    zero: u64,
+    row: &[u8],
+    from: usize,
+    n: usize,
+    slots: &mut [u8],
+    at: usize,
+)
     requires { ⌜ (from + perForty width * n ≤ length (now row)) × (1 ≤ perForty width) × Below 64 (now row) × (at + 5 * n ≤ length (now slots)) ⌝ }
     ensures { λ _. ⌜ ((copies group : ℕ) → Zero copies group width zero → Below group (now (row .entry)) → Laid (now (slots .entry)) at (5 * n) (rowSlot group width (now (row .entry)) from) (now (slots .exit))) ⌝ }
 {
@@ -149,5 +170,15 @@ pub fn lay_row(p: Plan, row: &[u8], n: usize, first: usize, slots: &mut [u8])
     let units = (first + per - 1) / per;
     let head = units * per - first;
     let whole = (n - head) / per;
-    lay_split(p, row, n, first, units, head, whole, head + whole * per, slots);
+    lay_split(
+        p,
+        row,
+        n,
+        first,
+        units,
+        head,
+        whole,
+        head + whole * per,
+        slots,
+    );
 }

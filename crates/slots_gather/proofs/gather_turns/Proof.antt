@@ -71,10 +71,12 @@ loop-again c =
     let a = s .args in
     let l = c .before .before .before .before .before .before .loop in
     let few = c .before .before .before .before .places in
-    let k = whole (a .m) (a .turn) (a .mask) (s .pre .1) in
-    (omega arith, turned-on (a .row .now) (l .row) _ (a .from) (a .n) (a .count) (a .turn) (l .u) (few .result) (λ j. symbolIn (a .m) (a .words .now) (a .t + j * a .n)) _ (s .pre .0 .step-least) (omega arith)
-    (few .ensures) (l .inv .1) (c .before .before .gather-bytes .ensures)
-    (λ i h. turned-value (a .m) (a .turn) (a .mask) (s .pre .1) (k .bits-least) (k .turn-least) (a .words .now) (a .t) (a .n) (l .u) i))
+    let k = whole (a .m) (a .turn) (a .mask) (s .pre .1) in (
+      omega arith,
+      turned-on (a .row .now) (l .row) _ (a .from) (a .n) (a .count) (a .turn) (l .u) (few .result) (λ j. symbolIn (a .m) (a .words .now) (a .t + j * a .n)) _ (s .pre .0 .step-least) (omega arith)
+          (few .ensures) (l .inv .1) (c .before .before .gather-bytes .ensures)
+          (λ i h. turned-value (a .m) (a .turn) (a .mask) (s .pre .1) (k .bits-least) (k .turn-least) (a .words .now) (a .t) (a .n) (l .u) i),
+    )
 
 same-length : tie.Need-same-length Inv-loop μ-loop
 same-length c = c .before .loop .inv .1 .long

@@ -70,9 +70,11 @@ loop-again c =
     let f : ℕ → ℕ = λ j. symbolIn (a .m) (a .words .now) (a .b * a .turn + j) in
     let g : ℕ → ℕ = λ q. symbolIn (a .m) (a .words .now) ((a .b + l .i) * a .turn + q) in
     let on : a .turn * l .i + a .turn ≡ a .turn * (l .i + 1) = omega arith in
-    let next = column-at (l .row) _ (a .at + a .turn * l .i) (a .at + a .turn * l .i * 1) 1 (a .turn) g (omega arith) (c .before .before .unpack-byte .ensures) in
-    (omega arith, rw (sym on) (column-on (a .row .now) (l .row) _ (a .at) 1 (a .turn * l .i) (a .turn) f g (omega arith) (l .inv .1) next
-    (λ q h. ap (symbolIn (a .m) (a .words .now)) (let z : (a .b + l .i) * a .turn + q ≡ a .b * a .turn + (a .turn * l .i + q) = omega (arith, add-mul (a .b) (l .i) (a .turn), mul-comm (l .i) (a .turn)) in z))))
+    let next = column-at (l .row) _ (a .at + a .turn * l .i) (a .at + a .turn * l .i * 1) 1 (a .turn) g (omega arith) (c .before .before .unpack-byte .ensures) in (
+      omega arith,
+      rw (sym on) (column-on (a .row .now) (l .row) _ (a .at) 1 (a .turn * l .i) (a .turn) f g (omega arith) (l .inv .1) next
+          (λ q h. ap (symbolIn (a .m) (a .words .now)) (let z : (a .b + l .i) * a .turn + q ≡ a .b * a .turn + (a .turn * l .i + q) = omega (arith, add-mul (a .b) (l .i) (a .turn), mul-comm (l .i) (a .turn)) in z))),
+    )
 
 same-length : tie.Need-same-length Inv-loop μ-loop
 same-length c = c .before .loop .inv .1 .long
