@@ -3,8 +3,6 @@ use plan::Plan;
 ghost use mathlib.Core.Path.{_≡_};
 ghost use mathlib.Core.Bool.{true};
 ghost use Prim.Native.Nat.{ℕ, _+_, _-_, _*_, _%_, _≤_, _<_};
-ghost use mathlib.Core.List.{List};
-ghost use lib.ListN.{length, getD};
 ghost use Rattle.plan.specs.Inner.{Fine};
 ghost use Rattle.bits.specs.Pack.{piece};
 ghost use Rattle.channel.specs.Channel.{unit};
@@ -13,30 +11,7 @@ ghost use Rattle.sizes.specs.Sizes.{wordBytes};
 ghost use Rattle.slots.specs.Inner.{Given, Lent};
 ghost use Rattle.slots_moves.specs.Inner.{Holds, front};
 ghost use Rattle.slots_units.specs.Inner.{perForty};
-ghost use Rattle.slots_rows.specs.Inner.{rowBytes, symbolIn, Column, Gather, Places, RowTo};
-
-// How many of the places from x on, n apart, are before `end`.
-fn places(x: usize, end: usize, n: usize) -> usize
-    requires { ⌜ 1 ≤ n ⌝ }
-    ensures { λ count. ⌜ Places x end n count ⌝ }
-{
-    if end <= x {
-        return 0;
-    }
-    (end - x - 1) / n + 1
-}
-
-// `count` symbols of m bits from symbol t on, n apart, to a row, n apart from byte `from` on.
-fn gather(words: &[u8], t: usize, m: usize, row: &mut [u8], from: usize, n: usize, count: usize)
-    requires { ⌜ Gather m t n count (now words) from (now row) ⌝ }
-    ensures { λ _. ⌜ Column (now (row .entry)) from n count (λ j. symbolIn m (now (words .entry)) (t + j * n)) (now (row .exit)) ⌝ }
-{
-    let mut j = 0;
-    while j < count {
-        row[from + j * n] = (bits::packing::field(words, m * (t + j * n), m) & 255) as u8;
-        j += 1;
-    }
-}
+ghost use Rattle.slots_rows.specs.Inner.{RowTo};
 
 // Step 9, the places of a line that are r modulo N: from the first that is hit, symbol after symbol.
 fn row_residue(p: Plan, words: &[u8], line: usize, c: usize, r: usize, row: &mut [u8])
@@ -51,8 +26,8 @@ fn row_residue(p: Plan, words: &[u8], line: usize, c: usize, r: usize, row: &mut
     let delay = r * (p.layout.step * rows);
     let end = bits::scan::least(start + symbols, delay + all);
     let x = bits::scan::most(channel::first_place(start, c, r, rows), delay + r);
-    let count = places(x, end, rows);
-    gather(words, x - delay, m, row, x - start, rows, count);
+    let count = slots_gather::places(x, end, rows);
+    slots_gather::gather(words, x - delay, m, row, x - start, rows, count);
 }
 
 // The residues from `from` on up to `to`.

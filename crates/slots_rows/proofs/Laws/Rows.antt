@@ -5,7 +5,7 @@ use mathlib.Core.List.{List}
 use mathlib.Core.Logic.{⊎-elim}
 use Prim.Native.Nat.{ℕ, _+_, _-_, _*_, _/_, _%_, _^_, _≤_, _<_, min, max}
 use native.Mathlib.Omega.{arith}
-use native.Mathlib.Nat.{le-refl, mul-le-mul, mul-assoc, mod-lt, mod-eq-of-lt, add-mul-mod-self-right, le-div-iff-mul-le}
+use native.Mathlib.Nat.{le-refl, mul-le-mul, mul-assoc, mod-lt, mod-eq-of-lt, add-mul-mod-self-right}
 use lib.Dec.{ltb}
 use lib.ListN.{length, getD}
 use borrow.Author.Tests.{lt-ltb, le-ltb}
@@ -23,28 +23,11 @@ use Rattle.plan.specs.Inner.{Fine}
 use Rattle.sizes.specs.Sizes.{wordBytes}
 use Rattle.slots.proofs.Laws.Bounds.{bounds}
 use Rattle.slots.proofs.Laws.Slots.{placed-below}
-use Rattle.slots.specs.Writing.{dataSymbol, placedSymbol, symbolAt}
+use Rattle.slots.specs.Writing.{dataAt, placed, symbolAt}
+use Rattle.slots_gather.specs.Inner.{symbolIn, Column, Places}
+use Rattle.slots_gather.proofs.Laws.Columns.{apart}
 use Rattle.slots_units.specs.Inner.{Below, Row, Symbols}
-use Rattle.slots_rows.specs.Inner.{rowBytes, symbolIn, Column, Places, RowTo}
-use Rattle.slots_rows.proofs.Laws.Columns.{apart}
-
--- ---- places, n apart
-
-pub places-none : (x end n : ℕ) → end ≤ x → Places x end n 0
-places-none x end n l = record { before = λ j h. absurd (omega arith); all = λ j h. absurd (omega arith) }
-
-pub places-some : (x end n : ℕ) → 1 ≤ n → x < end → Places x end n ((end - x - 1) / n + 1)
-places-some x end n pos l =
-    record {
-      before = λ j h.
-          let k : j ≤ (end - x - 1) / n = omega arith in
-          let m : j * n ≤ end - x - 1 = le-div-iff-mul-le pos .0 k in
-          omega arith;
-      all = λ j h.
-          let m : j * n ≤ end - x - 1 = omega arith in
-          let k : j ≤ (end - x - 1) / n = le-div-iff-mul-le pos .1 m in
-          omega arith;
-    }
+use Rattle.slots_rows.specs.Inner.{rowBytes, RowTo}
 
 -- ---- what is at a place, by the delay of its residue
 
@@ -229,3 +212,15 @@ many p fine =
     absurd (omega arith))
     (λ (l : 8 ≤ p .layout .symbols). l)
     (lt-or-le (p .layout .symbols) 8)
+
+-- and a line fewer places than a number of sixteen bits
+pub places-few : (x end n count start : ℕ) → 1 ≤ n → start ≤ x → Places x end n count → end ≤ start + 7560 → count ≤ 2 ^ 16
+places-few x end n count start pos from p l =
+    ⊎-elim
+    (λ (a : count < 1). omega arith)
+    (λ (a : 1 ≤ count).
+    let last : count - 1 < count = omega arith in
+    let b = p .before (count - 1) last in
+    let m : (count - 1) * 1 ≤ (count - 1) * n = mul-le-mul (le-refl (count - 1)) pos in
+    omega arith)
+    (lt-or-le count 1)

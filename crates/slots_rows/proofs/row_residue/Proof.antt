@@ -11,8 +11,8 @@ use Rattle.channel.proofs.Laws.Symbols.{data-inside}
 use Rattle.sizes.specs.Sizes.{wordBytes}
 use Rattle.slots.proofs.Laws.Bounds.{Bounds, bounds}
 use Rattle.slots_lines.proofs.Laws.Lines as lines
-use Rattle.slots_rows.specs.Inner.{Gather, Places}
-use Rattle.slots_rows.proofs.Laws.Rows.{First, first-hit, row-more}
+use Rattle.slots_gather.specs.Inner.{Gather, Places}
+use Rattle.slots_rows.proofs.Laws.Rows.{First, first-hit, row-more, places-few}
 use borrow.Author.Needs.{needs}
 use Rattle.slots_rows.proofs.row_residue.Statement.{statement}
 use Rattle.slots_rows.proofs.row_residue.Tie as tie
@@ -103,11 +103,22 @@ gather-requires c κs =
     let row = s .pre .4 .long in
     let most = k .of-plan .symbols-most in
     let some = c .before .places .ensures .before in
+    let near = place .2 in
+    let top = c .before .before .most .ensures in
+    let delay = k .late in
+    let places = k .places in
+    let small = k .small in
+    let rows = f .rows-most in
+    let many : c .before .places .result ≤ 2 ^ 16 = places-few x end (p .layout .rows) (c .before .places .result) start (f .rows-least) here (c .before .places .ensures) (omega arith) in
     let below : (j : ℕ) → j < c .before .places .result → x - d + j * p .layout .rows < total (p .layout) = λ j l. let b = some j l in omega arith in
     record {
       bits-least = omega arith;
       bits-most = f .bits-most;
       step-least = f .rows-least;
+      step-most = f .rows-most;
+      count-most = many;
+      t-most = omega arith;
+      from-most = omega arith;
       few = λ j l. let b = below j l in omega arith;
       inside = λ j l. let i = data-inside (p .bits) (p .layout) (f .symbols-are) (x - d + j * p .layout .rows) (below j l) in omega arith;
       room = λ j l. let b = some j l in omega arith;

@@ -8,11 +8,11 @@ use lib.ListN.{length}
 use lib.Pow.{pow-mono}
 use Rattle.bits.specs.Pack.{bitAt}
 use Rattle.bits.proofs.Laws.Pack.{val-lt, bit-lt}
-use Rattle.slots_rows.specs.Inner.{symbolIn, Column}
-use Rattle.slots_rows.proofs.Laws.Columns.{column-none, column-one, column-on}
+use Rattle.slots_gather.specs.Inner.{symbolIn, Column}
+use Rattle.slots_gather.proofs.Laws.Columns.{column-none, column-one, column-on}
 use borrow.Author.Needs.{needs}
-use Rattle.slots_rows.proofs.gather.Statement.{statement}
-use Rattle.slots_rows.proofs.gather.Tie as tie
+use Rattle.slots_gather.proofs.gather_fields.Statement.{statement}
+use Rattle.slots_gather.proofs.gather_fields.Tie as tie
 
 abbrev Inv-loop : tie.InvT-loop
 Inv-loop words t m row₀ from n count j₀ row j = (j ≤ count) × Column row₀ from n j (λ i. symbolIn m words (t + i * n)) row
@@ -104,8 +104,8 @@ returns c =
     let e : l .j ≡ c .before .before .before .before .args .count = let m = l .inv .0 in omega arith in
     rw e at (l .inv .1)
 
-pub gather-spec : {M : Type 1} → statement M
-gather-spec =
+pub gather-fields-spec : {M : Type 1} → statement M
+gather-fields-spec =
     tie.close
     (tie.spec
     Inv-loop

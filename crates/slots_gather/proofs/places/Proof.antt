@@ -2,10 +2,10 @@
 use Prim.Native.Nat.{ℕ, _+_, _-_, _*_, _/_, _≤_, _<_}
 use native.Mathlib.Omega.{arith}
 use native.Mathlib.Nat.{le-refl, mul-le-mul, div-add-mod'}
-use Rattle.slots_rows.proofs.Laws.Rows.{places-none, places-some}
+use Rattle.slots_gather.proofs.Laws.Columns.{places-none, places-some}
 use borrow.Author.Needs.{needs}
-use Rattle.slots_rows.proofs.places.Statement.{statement}
-use Rattle.slots_rows.proofs.places.Tie as tie
+use Rattle.slots_gather.proofs.places.Statement.{statement}
+use Rattle.slots_gather.proofs.places.Tie as tie
 
 returns : tie.Need-returns
 returns c = places-none _ _ _ (omega arith)

@@ -1,0 +1,59 @@
+-- Symbols that follow one another and fill whole bytes are unpacked; others are gathered turn by turn.
+use mathlib.Core.Path.{_≡_, refl, ap, _∙_}
+use Prim.Native.Nat.{ℕ, _+_, _-_, _*_, _/_, _%_, _≤_, _<_}
+use native.Mathlib.Omega.{arith}
+use borrow.Author.Needs.{needs}
+use Rattle.slots_gather.proofs.Laws.Turns.{unpacked-column}
+use Rattle.slots_gather.proofs.gather_twos.Statement.{statement}
+use Rattle.slots_gather.proofs.gather_twos.Tie as tie
+
+packed-requires : tie.Need-packed-requires
+packed-requires c κs = search needs
+
+unpack-requires : tie.Need-unpack-requires
+unpack-requires c κs =
+    let s = c .before .before .before .before .before in
+    let h = s .pre in
+    let is = c .before .before .packed .ensures (c .before .if1 .taken) in
+    let one = is .0 in
+    let some = is .1 in
+    let low : s .args .count - 1 < s .args .count = omega arith in
+    let last : (s .args .count - 1) * s .args .n ≡ s .args .count - 1 = ap (λ (x : ℕ). (s .args .count - 1) * x) one ∙ (let z : (s .args .count - 1) * 1 ≡ s .args .count - 1 = omega arith in z) in
+    let inside = h .inside (s .args .count - 1) low in
+    let room = h .room (s .args .count - 1) low in
+    let t4 = is .2 in
+    let c4 = is .3 in
+    (record { whole = refl; mask-is = refl }, omega arith, omega arith)
+
+gather-turns-requires : tie.Need-gather-turns-requires
+gather-turns-requires c κs = search needs
+
+same-length : tie.Need-same-length
+same-length c = search needs
+
+returns : tie.Need-returns
+returns c =
+    let s = c .before .before .before .before .before .before .before .before in
+    let a = s .args in
+    let is = c .before .before .before .before .before .packed .ensures (c .before .before .before .before .if1 .taken) in
+    let t4 = is .2 in
+    let c4 = is .3 in
+    unpacked-column 2 (a .words .now) (a .row .now) _ (a .from) (a .n) (a .count) (a .t) (a .t / 4) 4 (a .count / 4) (is .0) (omega arith) (omega arith) (c .before .before .unpack .ensures)
+
+same-length-2 : tie.Need-same-length-2
+same-length-2 c = search needs
+
+returns-2 : tie.Need-returns-2
+returns-2 c = search needs
+
+pub gather-twos-spec : {M : Type 1} → statement M
+gather-twos-spec =
+    tie.close
+    (tie.spec
+    packed-requires
+    unpack-requires
+    gather-turns-requires
+    same-length
+    returns
+    same-length-2
+    returns-2)
