@@ -23,7 +23,7 @@ use Rattle.plan.specs.Inner.{Fine}
 use Rattle.sizes.specs.Sizes.{wordBytes}
 use Rattle.slots.proofs.Laws.Bounds.{bounds}
 use Rattle.slots.proofs.Laws.Slots.{placed-below}
-use Rattle.slots.specs.Writing.{dataAt, placed, symbolAt}
+use Rattle.slots.specs.Writing.{dataSymbol, placedSymbol, symbolAt}
 use Rattle.slots_gather.specs.Inner.{symbolIn, Column, Places}
 use Rattle.slots_gather.proofs.Laws.Columns.{apart}
 use Rattle.slots_units.specs.Inner.{Below, Row, Symbols}
