@@ -384,14 +384,9 @@ peers: $(LIBS)
 CRATES ?= bits answers sizes crc convolution transpose word_columns decoder interleaver \
     accumulator randomizer word_writer word_reader pass pass_writer pass_reader spread header \
     header_sizes header_questions header_convert parameters plan stream_writer stream_reader \
-<<<<<<< HEAD
-    pulses pool pulses_rows pool_rows channel fades delay slots_moves slots_lines slots_writer \
-    slots_symbols slots_residues slots_places slots_reader pattern_search capture_search capture_cut \
-    run_writer run_reader \
-=======
-    pulses pool channel fades delay slots_moves slots_lines slots_gather slots_units slots_rows \
-    slots_writer slots_symbols slots_places slots_reader pattern_search capture_search capture_cut run_writer run_reader \
->>>>>>> 0049c6db8a887c5883419ba05b2d2b02766c37a5
+    pulses pool pulses_rows pool_rows channel fades delay slots_moves slots_lines slots_gather \
+    slots_units slots_rows slots_writer slots_symbols slots_residues slots_places slots_reader \
+    pattern_search capture_search capture_cut run_writer run_reader \
     rack_entries rack_asked rack_calls ldpc uplink uplink_writer uplink_reader c_calls sheet \
     runsheet
 COUNT ?= 60
