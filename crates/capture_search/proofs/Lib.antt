@@ -1,2 +1,1 @@
-pub mod Pulses
 pub mod Laws

@@ -1,5 +1,1 @@
-pub mod Sixes
-pub mod Ahead
-pub mod Entries
-pub mod ByBytes
 pub mod Laws

@@ -1,8 +1,2 @@
-pub mod Columns
-pub mod Transposing
-pub mod Joining
-pub mod Outputs
-pub mod Reading
-pub mod Decoding
 pub mod Rates
 pub mod Agreeing

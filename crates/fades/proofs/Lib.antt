@@ -1,3 +1,1 @@
-pub mod Listed
-pub mod Walked
 pub mod Laws

@@ -1,2 +1,3 @@
 pub mod Interleaver
 pub mod Squares
+pub mod Rows

@@ -1,5 +1,1 @@
-pub mod Rows
-pub mod Numbers
-pub mod Writing
-pub mod Reading
 pub mod Laws

@@ -1,2 +1,1 @@
 pub mod Interleaver
-pub mod Inner

@@ -1,4 +1,2 @@
-pub mod Sight
-pub mod Blank
 pub mod Passing
 pub mod Laws

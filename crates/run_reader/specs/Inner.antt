@@ -1,7 +1,7 @@
 -- What the functions inside the reader ask of what they are handed.
 use mathlib.Core.Path.{_≡_}
 use mathlib.Core.List.{List}
-use Prim.Native.Nat.{ℕ, _+_, _*_, _≤_, _<_}
+use Prim.Native.Nat.{ℕ, _*_, _≤_, _<_}
 use lib.ListN.{length, getD}
 use Rattle.sizes.specs.Sizes.{blockBytes, wordBytes}
 use Rattle.header_sizes.specs.Quantities.{blockCount, frameBytes}
@@ -10,13 +10,7 @@ use Rattle.header.specs.declared.Fields.{Fields}
 use Rattle.parameters.specs.declared.Parameters.{Parameters}
 use Rattle.plan.specs.Inner.{Entered}
 
--- reading word j of words back to back
-pub record ReadsWord (f : Fields) (words : List ℕ) (j : ℕ) (block : List ℕ) : Type 0 where
-  pub valid : Valid f
-  pub inside : j * wordBytes + wordBytes ≤ length words
-  pub block-is : length block ≡ blockBytes (f .rate)
-
--- and all of them
+-- reading all words, back to back
 pub record ReadsWords (f : Fields) (words blocks : List ℕ) : Type 0 where
   pub valid : Valid f
   pub words-fit : blockCount f * wordBytes ≤ length words

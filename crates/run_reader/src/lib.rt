@@ -16,20 +16,8 @@ ghost use Rattle.plan.specs.Plan.{planOf};
 ghost use Rattle.stream_reader.specs.Frames.{joined, framesIn, framesSay};
 ghost use Rattle.slots.specs.Reading.{wordOut};
 ghost use Rattle.bits.specs.Pack.{piece};
-ghost use Rattle.run.specs.Run.{wordSays, wordsSay, framesOf, framesRead, bufferSays, readSays};
-ghost use Rattle.run_reader.specs.Inner.{ReadsWord, ReadsWords, Reads, Finishes};
-
-// Questions 13 to 15 of word j of those back to back, and its block.
-fn read_word(f: Fields, words: &[u8], j: usize, block: &mut [u8]) -> Answer
-    requires { ⌜ ReadsWord f (now words) j (now block) ⌝ }
-    ensures { λ r. ⌜ r ≡ wordSays f (piece wordBytes (now (words .entry))) j ⌝ }
-    ensures { λ r. ⌜ now (block .exit) ≡ after r (blockIn (f .rate) (piece wordBytes (now (words .entry)) j)) (now (block .entry)) ⌝ }
-{
-    let rate = f.rate;
-    let at = j * sizes::WORD_BYTES;
-    let end = at + sizes::WORD_BYTES;
-    word_reader::read(rate, &words[at..end], block)
-}
+ghost use Rattle.run.specs.Run.{wordsSay, framesOf, framesRead, bufferSays, readSays};
+ghost use Rattle.run_reader.specs.Inner.{ReadsWords, Reads, Finishes};
 
 // Questions 13 to 15 of one word after another, and the blocks.
 fn read_words(f: Fields, words: &[u8], blocks: &mut [u8]) -> Answer
@@ -38,18 +26,7 @@ fn read_words(f: Fields, words: &[u8], blocks: &mut [u8]) -> Answer
     ensures { λ r. ⌜ (r ≡ Done → (j : ℕ) → j < blockCount f → piece (blockBytes (f .rate)) (now (blocks .exit)) j ≡ blockIn (f .rate) (piece wordBytes (now (words .entry)) j)) ⌝ }
 {
     let n = header_sizes::block_count(f);
-    let h = sizes::block_bytes(f.rate);
-    let mut j = 0;
-    while j < n {
-        let at = j * h;
-        let end = at + h;
-        let answer = read_word(f, words, j, &mut blocks[at..end]);
-        let Answer::Done = answer else {
-            return answers::moved_to(answer, j);
-        };
-        j += 1;
-    }
-    Answer::Done
+    pass_words::read_words(f.rate, n, words, blocks)
 }
 
 // Questions 16 and 18, and the frames. Nothing is written before they are answered yes.
@@ -62,11 +39,11 @@ fn finish(f: Fields, blocks: &[u8], frames: &mut [u8]) -> Answer
     let size = f.size;
     let count = f.frames;
     let pieces = header_sizes::block_count(f);
-    let answer = stream_reader::questions::frames_say(rate, blocks, pieces, size, count);
+    let answer = stream_questions::frames_say(rate, blocks, pieces, size, count);
     let Answer::Done = answer else {
         return answer;
     };
-    stream_reader::back::frames_out(rate, blocks, pieces, size, count, frames);
+    stream_frames::frames_out(rate, blocks, pieces, size, count, frames);
     answer
 }
 

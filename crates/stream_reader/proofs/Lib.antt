@@ -1,5 +1,1 @@
-pub mod Rooms
-pub mod Bytes
-pub mod Fill
-pub mod Answers
 pub mod Laws

@@ -1,4 +1,1 @@
-pub mod Rooms
-pub mod Bytes
-pub mod Spare
 pub mod Laws

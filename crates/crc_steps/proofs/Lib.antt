@@ -1,0 +1,3 @@
+pub mod Sixes
+pub mod Ahead
+pub mod ByBytes

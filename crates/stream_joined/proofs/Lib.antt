@@ -1,0 +1,3 @@
+pub mod Rooms
+pub mod Bytes
+pub mod Fill
