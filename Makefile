@@ -381,14 +381,17 @@ peers: $(LIBS)
 	@CXX='$(CXX)' tests/peers/run '$(LIBS)' $(if $(SEED),--seed $(SEED))
 
 # The crates of the product that have code.
-CRATES ?= bits answers sizes crc convolution transpose word_columns decoder interleaver \
-    accumulator randomizer word_writer word_reader pass pass_writer pass_reader spread header \
-    header_sizes header_questions header_convert parameters plan stream_writer stream_reader \
-    pulses pool pulses_rows pool_rows channel fades delay slots_moves slots_lines slots_gather \
-    slots_units slots_rows slots_writer slots_symbols slots_residues slots_places slots_reader \
-    pattern_search capture_search capture_cut run_writer run_reader \
-    rack_entries rack_asked rack_calls ldpc uplink uplink_writer uplink_reader c_calls sheet \
-    runsheet
+CRATES ?= bits answers sizes crc_steps crc_check convolution encoder_turns encoder transpose \
+    word_columns decoder_columns decoder_bytes decoder_fast decoder_bits decoder interleaver_line \
+    interleaver_columns interleaver_writer interleaver_reader accumulator randomizer word_writer \
+    word_judge word_reader pass pass_writer pass_words pass_reader spread header header_sizes \
+    header_tests header_marks header_answers header_convert parameters plan stream_bits \
+    stream_blocks stream_joined stream_questions stream_frames pulses pool pulses_rows pool_rows \
+    channel fades_list fades_walk fades_count delay_rows delay_step slots_moves slots_lines \
+    slots_gather slots_units slots_rows slots_writer slots_symbols slots_residues slots_places \
+    slots_reader pattern_empty pattern_look pattern_search capture_marker capture_find capture_cut \
+    run_writer run_reader rack_entries rack_asked rack_calls ldpc uplink uplink_writer uplink_heard \
+    uplink_reader c_calls sheet runsheet
 COUNT ?= 60
 .PHONY: mutants
 mutants:

@@ -119,7 +119,7 @@ pub extern "C" fn mahyrei_header_narrow(ten: &[u8], eight: &mut [u8]) -> u64
 pub extern "C" fn mahyrei_run_find(header: &[u8], marker: &[u8], capture: &[u8]) -> u64
     ensures { λ r. ⌜ r ≡ searches.findCode (now (header .entry)) (now (marker .entry)) (now (capture .entry)) ⌝ }
 {
-    let start = capture_search::find(header, marker, capture, 0);
+    let start = capture_find::find(header, marker, capture, 0);
     let answer = start.answer;
     answers::code_with(answer, start.slot)
 }
@@ -134,7 +134,7 @@ pub extern "C" fn mahyrei_run_find_from(
 ) -> u64
     ensures { λ r. ⌜ r ≡ searches.findFromCode (now (header .entry)) (now (marker .entry)) (now (capture .entry)) from ⌝ }
 {
-    let start = capture_search::find(header, marker, capture, from);
+    let start = capture_find::find(header, marker, capture, from);
     let answer = start.answer;
     answers::code_with(answer, start.slot)
 }
@@ -154,7 +154,7 @@ pub extern "C" fn mahyrei_fades_count(header: &[u8], fades: &[u32], counts: &mut
     ensures { λ r. ⌜ r ≡ codeOf (fadings.fadesSay (now (header .entry)) (now (fades .entry)) (length (now (counts .entry)))) ⌝ }
     ensures { λ _. ⌜ now (counts .exit) ≡ fadings.countsAfter (now (header .entry)) (now (fades .entry)) (now (counts .entry)) ⌝ }
 {
-    answers::code(fades::count(header, fades, counts))
+    answers::code(fades_count::count(header, fades, counts))
 }
 
 // Step 9 a symbol at a time: takes a symbol, and gives the one whose turn it is, in the position of a refusal's place.
@@ -163,7 +163,7 @@ pub extern "C" fn mahyrei_delay_write(header: &[u8], step: u64, symbol: u64, are
     ensures { λ r. ⌜ r ≡ delays.stepCode Writing (now (header .entry)) step symbol (now (area .entry)) ⌝ }
     ensures { λ _. ⌜ now (area .exit) ≡ delays.areaAfter Writing (now (header .entry)) step symbol (now (area .entry)) ⌝ }
 {
-    let given = delay::step(Side::Writing, header, step, symbol, area);
+    let given = delay_step::step(Side::Writing, header, step, symbol, area);
     let answer = given.answer;
     answers::code_with(answer, given.symbol as usize)
 }
@@ -174,7 +174,7 @@ pub extern "C" fn mahyrei_delay_read(header: &[u8], step: u64, symbol: u64, area
     ensures { λ r. ⌜ r ≡ delays.stepCode Reading (now (header .entry)) step symbol (now (area .entry)) ⌝ }
     ensures { λ _. ⌜ now (area .exit) ≡ delays.areaAfter Reading (now (header .entry)) step symbol (now (area .entry)) ⌝ }
 {
-    let given = delay::step(Side::Reading, header, step, symbol, area);
+    let given = delay_step::step(Side::Reading, header, step, symbol, area);
     let answer = given.answer;
     answers::code_with(answer, given.symbol as usize)
 }

@@ -39,7 +39,7 @@ fn cut_lengths_right(f: Fields, capture_length: usize, s: usize, slots_length: u
     requires { ⌜ Valid f × (f .copies ≤ 32) ⌝ }
     ensures { λ r. ⌜ r ≡ cutLengthsRight f «capture_length» s «slots_length» ⌝ }
 {
-    if capture_length > capture_search::MOST {
+    if capture_length > capture_find::MOST {
         return false;
     }
     if slots_length != header_sizes::slot_bytes(f) {
@@ -57,7 +57,7 @@ pub fn cut_out(header: &[u8], capture: &[u8], slot: u64, slots: &mut [u8]) -> An
     ensures { λ r. ⌜ r ≡ cutSays (now (header .entry)) (length (now (capture .entry))) slot (length (now (slots .entry))) ⌝ }
     ensures { λ r. ⌜ now (slots .exit) ≡ after r (cutOf (fieldsOf (now (header .entry))) (now (capture .entry)) slot) (now (slots .entry)) ⌝ }
 {
-    let answer = header_questions::header_says(header);
+    let answer = header_answers::header_says(header);
     let Answer::Done = answer else {
         return answer;
     };

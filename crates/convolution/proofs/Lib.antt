@@ -1,6 +1,4 @@
 -- What the proofs of this crate share; Laws are for other crates too.
 pub mod Filling
-pub mod Turning
-pub mod Rates
 pub mod Ending
 pub mod Laws

@@ -1,6 +1,2 @@
--- What the proofs of this crate share; Laws are for other crates too.
-pub mod Sixes
-pub mod Ahead
-pub mod Entries
-pub mod ByBytes
+-- Laws, for other crates too.
 pub mod Laws

@@ -1,9 +1,6 @@
--- The check some bits at a time: the register moved on by several zeros, what a byte or six bits change, and the tables of that.
-use Prim.Native.Nat.{ℕ, zero, suc, _-_, _/_, _%_, _^_, _+_, _*_, _<_}
+-- The check register after several bits, and what a change of the bits changes.
+use Prim.Native.Nat.{ℕ, zero, suc, _-_}
 use lib.Dec.{ltb}
-use mathlib.Core.Path.{_≡_}
-use mathlib.Core.List.{List}
-use lib.ListN.{length, getD}
 use Rattle.bits.specs.Basics.{pick}
 use Rattle.crc.specs.Check.{advance, checkBit}
 
@@ -12,33 +9,6 @@ unfoldable pub advances : ℕ → (ℕ → ℕ) → ℕ → ℕ
 advances r x zero = r
 advances r x (suc n) = advance (advances r x n) (x n)
 
--- bit t of a byte, the highest first
-abbrev pub byteBit : ℕ → ℕ → ℕ
-byteBit v t = v / 2 ^ (7 - t) % 2
-
--- what the bits of a byte make of a register of zeros
-unfoldable pub change : ℕ → ℕ
-change v = advances 0 (byteBit v) 8
-
 -- what is added to k bits and to the check field after them, where d is added to the bits
 unfoldable pub checkedChange : ℕ → (ℕ → ℕ) → ℕ → ℕ
 checkedChange k d i = pick (ltb i k) (d i) (checkBit (advances 0 d k) (i - k))
-
--- What six bits, and zeros after them, make of a register of zeros, which tables say.
-
--- no ones
-abbrev pub none : ℕ → ℕ
-none i = 0
-
--- what six bits make of a register of zeros
-abbrev pub sixBits : ℕ → ℕ
-sixBits n = advances 0 (λ t. n / 2 ^ (5 - t) % 2) 6
-
--- and 6 k zero bits after them
-unfoldable pub changeOf : ℕ → ℕ → ℕ
-changeOf k n = advances (sixBits n) none (6 * k)
-
--- the tables' rule: eleven of 64 entries, one after the other
-pub record Tables (table : List ℕ) : Type 0 where
-  pub size : length table ≡ 704
-  pub entry : (k n : ℕ) → k < 11 → n < 64 → getD table (64 * k + n) 0 ≡ changeOf k n

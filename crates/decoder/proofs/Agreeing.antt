@@ -13,7 +13,8 @@ use Rattle.sizes.specs.Inner.{inputBits}
 use Rattle.sizes.specs.Sizes.{wordBits}
 use Rattle.convolution.specs.Code.{encode, decode}
 use Rattle.convolution.proofs.Laws.Code.{encode-same, decode-same, decode-encode}
-use Rattle.decoder.specs.Inner.{sameAt, Made}
+use Rattle.decoder_bits.specs.Inner.{sameAt}
+use Rattle.convolution.specs.Inner.{Made}
 
 -- where one list is made by a function, the comparison is with its values
 pub same-made : (f : ℕ → ℕ) (made coded : List ℕ) → made ≡ tab wordBits f → upTo (sameAt made coded) 0 wordBits ≡ upTo (λ j. eqb (getD coded j 0) (f j)) 0 wordBits

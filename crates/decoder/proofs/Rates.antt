@@ -5,7 +5,8 @@ use Prim.Native.Nat.{ℕ}
 use native.Mathlib.Omega.{arith}
 use Rattle.sizes.specs.Sizes.{infoBits}
 use Rattle.sizes.specs.Inner.{inputBits}
-use Rattle.decoder.specs.Inner.{Unpacks, Steps, Pairs}
+use Rattle.decoder.specs.Inner.{Unpacks}
+use Rattle.decoder_bits.specs.Inner.{Steps, Pairs}
 
 module _ (rate : ℕ) (coded bits : List ℕ) (h : Unpacks rate coded bits) where
   pub unpacks-third : rate ≡ 0 → Steps 3 5040 coded bits

@@ -1,16 +1,11 @@
 // Step 4 undone, and question 13. In go 15,120 coded bits, one to a place; out come the input bits, packed, and the first coded bit that
-// they do not make, or 15,120. The fast way (`quick`) says of a word that nothing is wrong with it; of any other the slow one says what.
+// they do not make, or 15,120. The fast way (`decoder_fast`) says of a word that nothing is wrong with it; of any other the slow one says what.
 //
-//     coded  --quick-->  input, and nothing wrong
+//     coded  --fast-->  input, and nothing wrong
 //        |
 //        +--back-->  input  --encode-->  made  --compare with coded-->  the first that differs
-mod apart;
-mod back;
-mod compare;
-mod quick;
-mod rows;
-mod turned;
-
+use decoder_bits::back;
+use decoder_bits::compare;
 ghost use mathlib.Core.Path.{_≡_};
 ghost use Prim.Native.Nat.{ℕ, _<_};
 ghost use lib.Dec.{eqb};
@@ -20,8 +15,8 @@ ghost use Rattle.bits.specs.Pack.{bitAt};
 ghost use Rattle.sizes.specs.Inner.{inputBits};
 ghost use Rattle.sizes.specs.Sizes.{wordBits};
 ghost use Rattle.convolution.specs.Code.{encode as encoded, decode as decoded};
-ghost use Rattle.convolution.specs.Inner.{Encodes};
-ghost use Rattle.decoder.specs.Inner.{Decodes, Unpacks, Packs};
+ghost use Rattle.convolution.specs.Inner.{Encodes, Decodes};
+ghost use Rattle.decoder.specs.Inner.{Unpacks, Packs};
 
 // The input bits of a word at each rate.
 const THIRD: usize = sizes::WORD_BITS / 3;
@@ -76,7 +71,7 @@ fn remade(rate: u64, input: &[u8], coded: &[u8], made: &mut [u8]) -> usize
     requires { ⌜ length (now made) ≡ wordBits ⌝ }
     ensures { λ r. ⌜ r ≡ upTo (λ j. eqb (getD (now (coded .entry)) j 0) (encoded rate (bitAt (now (input .entry))) j)) 0 wordBits ⌝ }
 {
-    convolution::encode(rate, input, made);
+    encoder::encode(rate, input, made);
     compare::first_apart(made, coded)
 }
 
@@ -86,7 +81,7 @@ pub fn read(rate: u64, coded: &[u8], input: &mut [u8]) -> usize
     ensures { λ r. ⌜ r ≡ upTo (λ j. eqb (getD (now (coded .entry)) j 0) (encoded rate (decoded rate (λ j. getD (now (coded .entry)) j 0)) j)) 0 wordBits ⌝ }
     ensures { λ _. ⌜ ((i : ℕ) → i < inputBits rate → bitAt (now (input .exit)) i ≡ decoded rate (λ j. getD (now (coded .entry)) j 0) i) ⌝ }
 {
-    if quick::quick(rate, coded, input) == 0 {
+    if decoder_fast::quick(rate, coded, input) == 0 {
         return sizes::WORD_BITS;
     }
     decode(rate, coded, input);

@@ -1,4 +1,2 @@
--- What the proofs of this crate share; Laws are for other crates too.
-pub mod Listed
-pub mod Walked
+-- Laws, for other crates too.
 pub mod Laws

@@ -1,15 +1,7 @@
--- What the functions of the walk ask, keep and say.
-use mathlib.Core.Path.{_≡_}
-use mathlib.Core.Bool.{true}
-use mathlib.Core.List.{List}
-use Prim.Native.Nat.{ℕ, _+_, _*_, _/_, _%_, _^_, _≤_, _<_}
-use lib.Dec.{eqb}
-use lib.ListN.{length, getD, drop}
-use Rattle.bits.specs.Basics.{pick, bool}
-use Rattle.channel.specs.Channel.{total, unit, layoutSymbols, placeAt}
+-- What the walk over a run asks of its numbers.
+use Prim.Native.Nat.{_^_, _≤_, _<_}
+use Rattle.channel.specs.Channel.{total, layoutSymbols}
 use Rattle.channel.specs.declared.Layout.{Layout}
-use Rattle.fades.specs.declared.walk.Spot.{Spot}
-use Rattle.fades.specs.Fades.{covered, fadesGood, listGood, sourceOf, carries, isHit}
 
 -- the numbers of a run that a header describes are not large
 pub record Small (g : Layout) : Type 0 where
@@ -21,43 +13,3 @@ pub record Small (g : Layout) : Type 0 where
   pub markers-most : g .markers ≤ 32
   pub total-most : total g < 2 ^ 31
   pub count-most : layoutSymbols g < 2 ^ 23
-
--- where a symbol stands: in its line, at which place of step 9, and that modulo N
-pub record Stands (g : Layout) (a : Spot) : Type 0 where
-  pub column-is : a .column ≡ a .symbol % unit g
-  pub place-is : a .place ≡ placeAt g (a .symbol)
-  pub residue-is : a .residue ≡ a .place % g .rows
-
--- from number i of a list on stand the fades that are not over at symbol s; they are in order in a run of some size, after some end
-pub record Left (fades : List ℕ) (i s : ℕ) : Type 0 where
-  pub inside : i ≤ length fades
-  pub run : ℕ
-  pub end : ℕ
-  pub good : fadesGood run end (drop i fades) ≡ true
-  pub same : (u : ℕ) → s ≤ u → covered (drop i fades) u ≡ covered fades u
-  pub lasts : i < length fades → s < getD fades i 0 + getD fades (i + 1) 0
-
--- the word that symbol s is one of; C where it is none's
-unfoldable pub wordAt : Layout → ℕ → ℕ
-wordAt g s = pick (carries g s) (sourceOf g s / g .symbols) (g .words)
-
--- a number for each word, with room for one more
-pub record Open (g : Layout) (counts : List ℕ) : Type 0 where
-  pub long : length counts ≡ g .words
-  pub room : (j : ℕ) → getD counts j 0 < 2 ^ 31
-
--- one more for word j, if there is such a word
-pub record Plus (j : ℕ) (before after : List ℕ) : Type 0 where
-  pub long : length after ≡ length before
-  pub each : (k : ℕ) → k < length before → getD after k 0 ≡ getD before k 0 + bool (eqb j k)
-
--- one more for the word whose symbol s is, if it is covered
-pub record Added (g : Layout) (fades : List ℕ) (s : ℕ) (before after : List ℕ) : Type 0 where
-  pub long : length after ≡ length before
-  pub each : (j : ℕ) → j < g .words → getD after j 0 ≡ getD before j 0 + bool (isHit g fades j s)
-
-pub record Walks (g : Layout) (fades counts : List ℕ) : Type 0 where
-  pub small : Small g
-  pub list : listGood (layoutSymbols g) fades ≡ true
-  pub long : length counts ≡ g .words
-  pub zeros : (j : ℕ) → j < g .words → getD counts j 0 ≡ 0

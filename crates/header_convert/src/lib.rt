@@ -38,7 +38,7 @@ pub fn widen(old: &[u8], ten: &mut [u8]) -> Answer
     ensures { λ r. ⌜ r ≡ widenSays (now (old .entry)) (length (now (ten .entry))) ⌝ }
     ensures { λ r. ⌜ now (ten .exit) ≡ after r (widened (now (old .entry))) (now (ten .entry)) ⌝ }
 {
-    let answer = header_questions::old_says(old);
+    let answer = header_answers::old_says(old);
     let Answer::Done = answer else {
         return answer;
     };
@@ -54,7 +54,7 @@ pub fn narrow(header: &[u8], eight: &mut [u8]) -> Answer
     ensures { λ r. ⌜ r ≡ narrowSays (now (header .entry)) (length (now (eight .entry))) ⌝ }
     ensures { λ r. ⌜ now (eight .exit) ≡ after r (narrowed (now (header .entry))) (now (eight .entry)) ⌝ }
 {
-    let answer = header_questions::header_says(header);
+    let answer = header_answers::header_says(header);
     let Answer::Done = answer else {
         return answer;
     };

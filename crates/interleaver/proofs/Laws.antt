@@ -1,3 +1,4 @@
 -- Laws that other crates or several proofs cite, each after those that it rests on.
 pub mod Interleaver
 pub mod Squares
+pub mod Rows

@@ -1,6 +1,2 @@
--- What the proofs of this crate share; Laws are for other crates too.
-pub mod Rows
-pub mod Numbers
-pub mod Writing
-pub mod Reading
+-- Laws, for other crates too.
 pub mod Laws

@@ -25,7 +25,7 @@ fn carry(f: Fields, marker: &[u8]) -> Parameters
     requires { ⌜ Valid f ⌝ }
     ensures { λ r. ⌜ r ≡ parametersOf f (now (marker .entry)) ⌝ }
 {
-    let markers = header_questions::lent_marks(f, marker);
+    let markers = header_marks::lent_marks(f, marker);
     let mut marks = [0u8; 32];
     let mut i = 0usize;
     while i < markers {
@@ -65,7 +65,7 @@ fn nothing() -> Parameters
 pub fn check(header: &[u8], marker: &[u8]) -> Checked
     ensures { λ r. ⌜ r ≡ Inner·checked (now (header .entry)) (now (marker .entry)) ⌝ }
 {
-    let answer = header_questions::run_says(header, marker);
+    let answer = header_answers::run_says(header, marker);
     let Answer::Done = answer else {
         let parameters = nothing();
         return Checked { answer, parameters };

@@ -3,45 +3,11 @@ use answers::Answer;
 ghost use mathlib.Core.Path.{_≡_};
 ghost use Prim.Native.Nat.{_≤_};
 ghost use lib.ListN.{length};
-ghost use Rattle.bits.specs.Pack.{piece};
 ghost use Rattle.answers.specs.declared.Answer.the-variants.{Done};
 ghost use Rattle.answers.specs.Answer.{after, inOrder};
-ghost use Rattle.sizes.specs.Sizes.{wordBytes};
-ghost use Rattle.word.specs.Word.{blockIn};
 ghost use Rattle.pass.specs.Pass.{blocksOf, passWordSays, passReadSays};
 ghost use Rattle.pass.specs.Inner.{Lent};
-ghost use Rattle.pass_reader.specs.Inner.{Decodes, Aside, Roomy};
-
-// The word reader's answer to word j of n, and its block.
-fn read_word(rate: u64, n: usize, words: &[u8], j: usize, block: &mut [u8]) -> Answer
-    requires { ⌜ Decodes rate n j (now words) (now block) ⌝ }
-    ensures { λ r. ⌜ r ≡ passWordSays rate (now (words .entry)) j ⌝ }
-    ensures { λ r. ⌜ now (block .exit) ≡ after r (blockIn rate (piece wordBytes (now (words .entry)) j)) (now (block .entry)) ⌝ }
-{
-    let at = j * sizes::WORD_BYTES;
-    let end = at + sizes::WORD_BYTES;
-    word_reader::read(rate, &words[at..end], block)
-}
-
-// The same of one word after another, up to the first that is refused.
-fn read_all(rate: u64, n: usize, words: &[u8], room: &mut [u8]) -> Answer
-    requires { ⌜ Lent rate n (now room) (now words) ⌝ }
-    ensures { λ r. ⌜ r ≡ inOrder n (passWordSays rate (now (words .entry))) ⌝ }
-    ensures { λ r. ⌜ (r ≡ Done → now (room .exit) ≡ blocksOf rate (now (words .entry))) ⌝ }
-{
-    let size = sizes::block_bytes(rate);
-    let mut j = 0;
-    while j < n {
-        let at = j * size;
-        let end = at + size;
-        let answer = read_word(rate, n, words, j, &mut room[at..end]);
-        let Answer::Done = answer else {
-            return answers::moved_to(answer, j);
-        };
-        j += 1;
-    }
-    Answer::Done
-}
+ghost use Rattle.pass_reader.specs.Inner.{Aside, Roomy};
 
 // The blocks, copied once all words have given theirs.
 fn settle(rate: u64, n: usize, words: &[u8], room: &mut [u8], blocks: &mut [u8]) -> Answer
@@ -49,7 +15,7 @@ fn settle(rate: u64, n: usize, words: &[u8], room: &mut [u8], blocks: &mut [u8])
     ensures { λ r. ⌜ r ≡ inOrder n (passWordSays rate (now (words .entry))) ⌝ }
     ensures { λ r. ⌜ now (blocks .exit) ≡ after r (blocksOf rate (now (words .entry))) (now (blocks .entry)) ⌝ }
 {
-    let answer = read_all(rate, n, words, room);
+    let answer = pass_words::read_words(rate, n, words, room);
     let Answer::Done = answer else {
         return answer;
     };

@@ -14,7 +14,8 @@ use Rattle.bits.specs.Basics.{upTo}
 use Rattle.bits.proofs.Laws.First.{first-on, first-here, first-skip, first-same, same-from, found}
 use Rattle.bits.specs.Pack.{bitAt, clearAt, firstOne}
 use Rattle.pattern_search.proofs.Laws.Starts.{stands-all, all-stands}
-use Rattle.pattern_search.specs.Inner.{Candidates, Passes, Next, Agrees}
+use Rattle.pattern_search.specs.Inner.{Candidates, Passes, Next}
+use Rattle.pattern_look.specs.Inner.{Agrees}
 use Rattle.pattern_search.specs.Starts.{right, firstMismatch, stands, missed}
 
 -- ---- the next start

@@ -1,6 +1,4 @@
 // A marker looked for among packed bits: one starting slot after another.
-mod look;
-
 ghost use mathlib.Core.Path.{_≡_};
 ghost use Rattle.bits.specs.Basics.{upTo};
 ghost use Rattle.bits.specs.Pack.{bitAt};
@@ -12,12 +10,12 @@ fn next_start(b: &[u8], x: usize, first: usize, last: usize, end: usize) -> usiz
     requires { ⌜ Passes (now b) x first last end ⌝ }
     ensures { λ r. ⌜ Next (now (b .entry)) first last x end r ⌝ }
 {
-    let mut at = look::pulse_from(b, x + first, end + first) - first;
+    let mut at = pattern_look::pulse_from(b, x + first, end + first) - first;
     while at < end {
         if bits::packing::bit_at(b, at + last) != 0 {
             return at;
         }
-        at = look::pulse_from(b, at + 1 + first, end + first) - first;
+        at = pattern_look::pulse_from(b, at + 1 + first, end + first) - first;
     }
     at
 }
@@ -39,7 +37,7 @@ fn first_start(
     'start: while x < end {
         let mut i = 0usize;
         while i < n {
-            let right = look::right_from(b, x + i, marker, i, n);
+            let right = pattern_look::right_from(b, x + i, marker, i, n);
             if right == 0 {
                 x = next_start(b, x + 1, first, last, end);
                 continue 'start;

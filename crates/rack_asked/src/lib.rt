@@ -71,7 +71,7 @@ pub fn load_says(area: &[u8], caller: u64, owner: u64, place: u64, header: &[u8]
     if caller != owner {
         return Answer::No(25, 0);
     }
-    let answer = header_questions::header_says(header);
+    let answer = header_answers::header_says(header);
     let Answer::Done = answer else {
         return answer;
     };

@@ -62,11 +62,11 @@ fn finish(f: Fields, blocks: &[u8], frames: &mut [u8]) -> Answer
     let size = f.size;
     let count = f.frames;
     let pieces = header_sizes::block_count(f);
-    let answer = stream_reader::questions::frames_say(rate, blocks, pieces, size, count);
+    let answer = stream_questions::frames_say(rate, blocks, pieces, size, count);
     let Answer::Done = answer else {
         return answer;
     };
-    stream_reader::back::frames_out(rate, blocks, pieces, size, count, frames);
+    stream_frames::frames_out(rate, blocks, pieces, size, count, frames);
     answer
 }
 

@@ -24,7 +24,7 @@ fn code_word(f: Fields, frames: &[u8], j: usize, space: &mut [u8], word: &mut [u
     let size = f.size;
     let count = f.frames;
     let h = sizes::block_bytes(rate);
-    stream_writer::blocks::fill_block(rate, frames, size, count, j, &mut space[..h]);
+    stream_blocks::fill_block(rate, frames, size, count, j, &mut space[..h]);
     word_writer::write(rate, &space[..h], word);
 }
 

@@ -75,7 +75,7 @@ pub fn line(header: &[u8], out: &mut [u8]) -> usize
     ensures { λ r. ⌜ Printed (now (header .entry)) (now (out .exit)) r ⌝ }
     ensures { λ r. ⌜ Counts r (now (out .exit)) ⌝ }
 {
-    let answer = header_questions::header_says(header);
+    let answer = header_answers::header_says(header);
     let Answer::Done = answer else {
         return put_no(answers::number(answer), out);
     };

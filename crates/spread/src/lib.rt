@@ -36,9 +36,9 @@ fn change_input(rate: u64, bit: usize, block: &mut [u8], input: &mut [u8])
     ensures { λ _. ⌜ ((i : ℕ) → i < inputBits rate → bitAt (now (input .exit)) i ≡ inputChange rate bit i) ⌝ }
 {
     let k = sizes::info_bits(rate);
-    let before = crc::check(block, k);
+    let before = crc_check::check(block, k);
     bits::change::flip(block, bit);
-    let after = crc::check(block, k);
+    let after = crc_check::check(block, k);
     bits::change::flip(input, bit);
     convolution::ends::put_end(input, before ^ after);
 }
@@ -49,7 +49,7 @@ fn change_coded(rate: u64, bit: usize, block: &mut [u8], input: &mut [u8], coded
     ensures { λ _. ⌜ now (coded .exit) ≡ tab wordBits (code.encode rate (inputChange rate bit)) ⌝ }
 {
     change_input(rate, bit, block, input);
-    convolution::encode(rate, input, coded);
+    encoder::encode(rate, input, coded);
 }
 
 // The places, packed, for a rate, a bit and a length that are right.

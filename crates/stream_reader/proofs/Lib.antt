@@ -1,6 +1,2 @@
--- What the proofs of this crate share; Laws are for other crates too.
-pub mod Rooms
-pub mod Bytes
-pub mod Fill
-pub mod Answers
+-- Laws, for other crates too.
 pub mod Laws

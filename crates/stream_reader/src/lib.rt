@@ -1,4 +1,2 @@
-// Step 1 undone: the frames from packed blocks, and questions 16 and 18, which are asked of the stream that the blocks hold.
-pub mod back;
-mod joined;
-pub mod questions;
+// Step 1 undone: what the frames are in packed blocks, and what questions 16 and 18 ask of the stream that the blocks hold. Definitions and
+// laws; there is no code here.

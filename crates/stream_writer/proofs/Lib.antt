@@ -1,5 +1,2 @@
--- What the proofs of this crate share; Laws are for other crates too.
-pub mod Rooms
-pub mod Bytes
-pub mod Spare
+-- Laws, for other crates too.
 pub mod Laws

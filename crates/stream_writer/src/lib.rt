@@ -1,4 +1,1 @@
-// Step 1: the frames, passed back to back, each after its frame marker, as one stream of bits, cut into blocks.
-pub mod blocks;
-pub mod marked;
-pub mod reader;
+// Step 1: what the stream of the marked frames is, and its blocks. Definitions and laws; there is no code here.

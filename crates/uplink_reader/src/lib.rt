@@ -1,24 +1,15 @@
 // The uplink's reader: slots to frames. Question 8, then 28 and 29, and the frames once all are answered yes.
 use answers::Answer;
 use bits::packing;
-use uplink::sequence;
+use uplink_heard::frame_in;
+use uplink_heard::is_bit;
+use uplink_heard::passes;
 ghost use mathlib.Core.Path.{_≡_};
-ghost use Prim.Native.Nat.{_+_, _-_, _*_, _/_, _%_, _^_, _≤_, _<_};
+ghost use Prim.Native.Nat.{_+_, _*_, _/_, _<_};
 ghost use lib.ListN.{length};
-ghost use Rattle.bits.specs.Pack.{val, bitAt};
 ghost use Rattle.answers.specs.Answer.{after};
-ghost use Rattle.ldpc.specs.Code.{isCodeword};
-ghost use Rattle.uplink.specs.Uplink.{isBit, received, uplinkFramesOf, firstNoBit, firstBadBlock, uplinkSlotsSay, uplinkReadSays};
+ghost use Rattle.uplink.specs.Uplink.{uplinkFramesOf, firstNoBit, firstBadBlock, uplinkSlotsSay, uplinkReadSays};
 ghost use Rattle.uplink.specs.Inner.{Framed, Slotted};
-
-// Whether the four slots of group g are a bit: 1000 or 0100, which are 8 and 4. 272 has its ones at exactly these places.
-fn is_bit(slots: &[u8], g: usize) -> bool
-    requires { ⌜ g < 2 * length (now slots) ⌝ }
-    ensures { λ r. ⌜ r ≡ isBit (now (slots .entry)) g ⌝ }
-{
-    let group = (slots[g / 2] >> (4 - 4 * (g % 2))) & 15;
-    (272u16 >> group) & 1 == 1
-}
 
 // Question 28: the first group that is not a bit, or the number of groups.
 fn first_bad_group(slots: &[u8], count: usize) -> usize
@@ -34,45 +25,6 @@ fn first_bad_group(slots: &[u8], count: usize) -> usize
         g += 1;
     }
     g
-}
-
-// The bits of a byte of slots: the second slot of each group.
-fn two_bits(b: u8) -> u64
-    ensures { λ r. ⌜ r ≡ val (λ t. b / 2 ^ (7 - (4 * t + 1)) % 2) 2 ⌝ }
-{
-    let v = b as u64;
-    ((v >> 5) & 2) | ((v >> 2) & 1)
-}
-
-// The 64 bits of the 32 bytes of slots from `at` on.
-fn heard(slots: &[u8], at: usize) -> u64
-    requires { ⌜ at + 32 ≤ length (now slots) ⌝ }
-    ensures { λ r. ⌜ r ≡ val (λ j. bitAt (now (slots .entry)) (8 * at + (4 * j + 1))) 64 ⌝ }
-{
-    let mut v = 0u64;
-    let mut q = 0usize;
-    while q < 32 {
-        v = (v << 2) | two_bits(slots[at + q]);
-        q += 1;
-    }
-    v
-}
-
-// The frame of codeblock i.
-fn frame_in(slots: &[u8], i: usize) -> u64
-    requires { ⌜ (i < 64) × (64 * i + 64 ≤ length (now slots)) ⌝ }
-    ensures { λ r. ⌜ r ≡ val (received (now (slots .entry)) i) 64 ⌝ }
-{
-    heard(slots, 64 * i) ^ sequence::FIRST
-}
-
-// Whether codeblock i passes the parity checks: its parity bits are those of its frame.
-fn passes(slots: &[u8], i: usize) -> bool
-    requires { ⌜ (i < 64) × (64 * i + 64 ≤ length (now slots)) ⌝ }
-    ensures { λ r. ⌜ r ≡ isCodeword (received (now (slots .entry)) i) ⌝ }
-{
-    let parity = heard(slots, 64 * i + 32) ^ sequence::SECOND;
-    ldpc::parity(frame_in(slots, i)) == parity
 }
 
 // Question 29: the first codeblock that fails, or their number.

@@ -5,7 +5,7 @@ use Prim.Native.Nat.{ℕ, _*_, _<_}
 use lib.ListN.{length}
 use Rattle.sizes.specs.Inner.{inputBits}
 use Rattle.sizes.specs.Sizes.{blockBytes, wordBits, wordBytes}
-use Rattle.decoder.specs.Inner.{Decodes}
+use Rattle.convolution.specs.Inner.{Decodes}
 
 -- steps 6 and 5 undone: a word, room for it with step 6 undone, and the coded bits
 pub record Undoes (word work coded : List ℕ) : Type 0 where

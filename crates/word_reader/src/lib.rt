@@ -1,14 +1,12 @@
 // The word reader: a word to its packed information block, by steps 6 to 2 and then step 7 undone, and the questions on the way.
 use answers::Answer;
 ghost use mathlib.Core.Path.{_≡_};
-ghost use Prim.Native.Nat.{ℕ, _<_};
+ghost use Prim.Native.Nat.{_<_};
 ghost use lib.ListN.{length, getD};
 ghost use Rattle.bits.specs.Pack.{bitAt};
 ghost use Rattle.bits.specs.Basics.{tab};
-ghost use Rattle.sizes.specs.Inner.{inputBits};
 ghost use Rattle.sizes.specs.Sizes.{wordBits};
 ghost use Rattle.convolution.specs.Code as code;
-ghost use Rattle.decoder.specs.Inner.{Decodes};
 ghost use Rattle.randomizer.specs.Randomizer.{randomize};
 ghost use Rattle.answers.specs.Answer.{after};
 ghost use Rattle.word.specs.Word.{codedIn, inputIn, blockIn, packedBlock, judged, wordReadSays};
@@ -20,28 +18,7 @@ fn take_out(word: &[u8], work: &mut [u8], coded: &mut [u8])
     ensures { λ _. ⌜ now (coded .exit) ≡ tab wordBits (codedIn (now (word .entry))) ⌝ }
 {
     accumulator::differentiate(word, work);
-    interleaver::deinterleave(work, coded);
-}
-
-// Step 4 undone, and questions 13, 14 and 15.
-fn judge(rate: u64, coded: &[u8], input: &mut [u8]) -> Answer
-    requires { ⌜ Decodes rate (now coded) (now input) ⌝ }
-    ensures { λ r. ⌜ r ≡ judged rate (λ j. getD (now (coded .entry)) j 0) (code.decode rate (λ j. getD (now (coded .entry)) j 0)) ⌝ }
-    ensures { λ _. ⌜ ((i : ℕ) → i < inputBits rate → bitAt (now (input .exit)) i ≡ code.decode rate (λ j. getD (now (coded .entry)) j 0) i) ⌝ }
-{
-    let at = decoder::read(rate, coded, input);
-    if at != sizes::WORD_BITS {
-        return Answer::No(13, at);
-    }
-    let end = convolution::ends::end_of(input);
-    if end & 3 != 0 {
-        return Answer::No(14, 0);
-    }
-    let check = crc::check(input, sizes::info_bits(rate)) as u64;
-    if end >> 2 != check {
-        return Answer::No(15, 0);
-    }
-    Answer::Done
+    interleaver_reader::deinterleave(work, coded);
 }
 
 // Step 7 undone: the block of the k bits that step 2 took in, and spare bits of 0.
@@ -60,7 +37,7 @@ fn read_coded(rate: u64, coded: &[u8], input: &mut [u8], block: &mut [u8]) -> An
     ensures { λ r. ⌜ r ≡ judged rate (λ j. getD (now (coded .entry)) j 0) (code.decode rate (λ j. getD (now (coded .entry)) j 0)) ⌝ }
     ensures { λ r. ⌜ now (block .exit) ≡ after r (packedBlock rate (randomize (code.decode rate (λ j. getD (now (coded .entry)) j 0)))) (now (block .entry)) ⌝ }
 {
-    let answer = judge(rate, coded, input);
+    let answer = word_judge::judge(rate, coded, input);
     let Answer::Done = answer else {
         return answer;
     };

@@ -36,7 +36,7 @@ fn add_check(rate: u64, input: &mut [u8])
     requires { ⌜ Checks rate (now input) ⌝ }
     ensures { λ _. ⌜ ((i : ℕ) → i < inputBits rate → bitAt (now (input .exit)) i ≡ terminated (infoBits rate + 32) (checked (infoBits rate) (bitAt (now (input .entry)))) i) ⌝ }
 {
-    let check = crc::check(input, sizes::info_bits(rate));
+    let check = crc_check::check(input, sizes::info_bits(rate));
     convolution::ends::put_end(input, check);
 }
 
@@ -56,7 +56,7 @@ fn encode(rate: u64, block: &[u8], input: &mut [u8], coded: &mut [u8])
     ensures { λ _. ⌜ now (coded .exit) ≡ tab wordBits (codedOf rate (now (block .entry))) ⌝ }
 {
     take_in(rate, block, input);
-    convolution::encode(rate, input, coded);
+    encoder::encode(rate, input, coded);
 }
 
 // Steps 5 and 6.
@@ -64,7 +64,7 @@ fn shuffle(coded: &[u8], word: &mut [u8])
     requires { ⌜ Shuffles (now coded) (now word) ⌝ }
     ensures { λ _. ⌜ now (word .exit) ≡ bytesOf wordBytes (shuffled (λ j. getD (now (coded .entry)) j 0)) ⌝ }
 {
-    interleaver::interleave(coded, word);
+    interleaver_writer::interleave(coded, word);
     accumulator::accumulate(word);
 }
 

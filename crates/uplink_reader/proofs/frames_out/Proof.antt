@@ -6,7 +6,7 @@ use Rattle.bits.specs.Pack.{bytesOf}
 use Rattle.bits.specs.Inner.{Laid}
 use Rattle.bits.proofs.Laws.Stretch.{laid-none, laid-all}
 use Rattle.uplink.specs.Uplink.{received, codeblockCount, uplinkFramesOf}
-use Rattle.uplink_reader.proofs.Reading.{frames-more}
+use Rattle.uplink_heard.proofs.Reading.{frames-more}
 use borrow.Author.Needs.{needs}
 use Rattle.uplink_reader.proofs.frames_out.Statement.{statement}
 use Rattle.uplink_reader.proofs.frames_out.Tie as tie

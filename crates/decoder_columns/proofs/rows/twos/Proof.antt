@@ -1,0 +1,67 @@
+-- Each turn fills a place more.
+use mathlib.Core.Path.{_≡_, refl, sym, _∙_}
+use Prim.Native.Nat.{_-_, _≤_}
+use native.Mathlib.Omega.{arith}
+use Rattle.decoder_columns.specs.Inner.{Held, sumTwo}
+use Rattle.decoder_columns.proofs.Columns.{held-none, held-more}
+use borrow.Author.Needs.{needs}
+use Rattle.decoder_columns.proofs.rows.twos.Statement.{statement}
+use Rattle.decoder_columns.proofs.rows.twos.Tie as tie
+
+abbrev Inv-loop : tie.InvT-loop
+Inv-loop v out₀ x₀ out x = (x ≤ 2167) × Held (sumTwo v) out x
+
+abbrev μ-loop : tie.MeasureT-loop
+μ-loop v out₀ x₀ out x = 2167 - x
+
+loop-holds : tie.Need-loop-holds Inv-loop μ-loop
+loop-holds c = (search needs, held-none _ _ (c .pre .1))
+
+shared-slice-read-out : tie.Need-shared-slice-read-out Inv-loop μ-loop
+shared-slice-read-out c = search needs
+
+add-out : tie.Need-add-out Inv-loop μ-loop
+add-out c = search needs
+
+shared-slice-read-out-2 : tie.Need-shared-slice-read-out-2 Inv-loop μ-loop
+shared-slice-read-out-2 c = search needs
+
+slice-write-out : tie.Need-slice-write-out Inv-loop μ-loop
+slice-write-out c = search needs
+
+add-x : tie.Need-add-x Inv-loop μ-loop
+add-x c = search needs
+
+loop-less : tie.Need-loop-less Inv-loop μ-loop
+loop-less c = search needs
+
+loop-again : tie.Need-loop-again Inv-loop μ-loop
+loop-again c =
+    let l = c .before .before .before .loop in
+    (search needs, held-more _ _ (l .x) _ (omega arith) refl (l .inv .1))
+
+same-length : tie.Need-same-length Inv-loop μ-loop
+same-length c = c .before .loop .inv .1 .size ∙ sym (c .before .before .pre .1)
+
+returns : tie.Need-returns Inv-loop μ-loop
+returns c =
+    let l = c .before .loop in
+    let e : l .x ≡ 2167 = omega arith in
+    rw e at (l .inv .1)
+
+pub twos-spec : {M : Type 1} → statement M
+twos-spec =
+    tie.close
+    (tie.spec
+    Inv-loop
+    μ-loop
+    loop-holds
+    shared-slice-read-out
+    add-out
+    shared-slice-read-out-2
+    slice-write-out
+    add-x
+    loop-less
+    loop-again
+    same-length
+    returns)

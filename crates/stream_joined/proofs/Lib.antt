@@ -1,0 +1,4 @@
+-- What the proofs of this crate share.
+pub mod Rooms
+pub mod Bytes
+pub mod Fill
