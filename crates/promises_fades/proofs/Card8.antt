@@ -1,10 +1,12 @@
 -- The proofs of card 8.
 use mathlib.Core.Path.{_≡_, refl, sym, ap, _∙_}
 use mathlib.Core.List.{List, []}
-use Prim.Native.Nat.{ℕ}
+use mathlib.Core.Logic.{inl, inr, ⊎-elim}
+use Prim.Native.Nat.{ℕ, _-_, _*_, _≤_, _<_}
 use native.Mathlib.Omega.{arith}
 use lib.ListN.{length, getD}
 use borrow.Author.Tests.{eq-eqb}
+use Rattle.bits.proofs.Laws.Choice.{lt-or-le}
 use Rattle.bits.proofs.Laws.Table.{length-tab, getD-tab}
 use Rattle.bits.specs.Count.{weight}
 use Rattle.answers.specs.Answer.{after}
@@ -114,9 +116,16 @@ factor-disregarded header other fades old copies e done also = (rw (done, also, 
 
 pub apart : Apart
 unfolding layoutOf
-apart header e n b x y t u en eb ex ey =
-    let s = header-good header e .valid .shaped in
-    rw (ex, ey, en, eb) (spacing.far-apart (layoutOf (fieldsOf header)) (s .rows-least) (s .step-least) t u)
+apart header n b x y t u en eb ex ey ne a c =
+    let g = layoutOf (fieldsOf header) in
+    let one : 1 ≤ fieldsOf header .rows = omega arith in
+    ⊎-elim
+    (λ (s : 0 < fieldsOf header .step). rw (en, eb) (spacing.far-apart g one s t u (rw (← ex, ← ey) ne) (rw (← ex, ← ey, ← en) a) (rw (← ex, ← ey, ← en) c)))
+    (λ (s : fieldsOf header .step ≤ 0).
+    let z : b ≡ 0 = omega arith in
+    let none : b * n - 1 ≡ 0 = rw z (omega arith) in
+    ⊎-elim (λ (l : t < u). inl (omega arith)) (λ (l : u ≤ t). inr (omega arith)) (lt-or-le t u))
+    (lt-or-le 0 (fieldsOf header .step))
 
 pub neighbours : Neighbours
 neighbours = spacing.side-by-side

@@ -156,7 +156,7 @@ FactorDisregarded =
 
 abbrev pub Apart : Type 0
 Apart =
-    (header : List ℕ) → headerSays header ≡ Done → (n b x y t u : ℕ) → n ≡ fieldsOf header .rows → b ≡ fieldsOf header .step
+    (header : List ℕ) (n b x y t u : ℕ) → n ≡ fieldsOf header .rows → b ≡ fieldsOf header .step
     → x ≡ place (layoutOf (fieldsOf header)) t → y ≡ place (layoutOf (fieldsOf header)) u → (x ≡ y → ⊥) → x < y + n → y < x + n
     → (t + (b * n - 1) ≤ u) ⊎ (u + (b * n - 1) ≤ t)
 

@@ -2,18 +2,19 @@
 use mathlib.Core.Path.{_≡_, refl, sym, ap, _∙_}
 use mathlib.Core.List.{List}
 use mathlib.Core.Logic.{⊎-elim}
-use Prim.Native.Nat.{ℕ, _+_, _*_, _/_, _≤_, _<_}
+use Prim.Native.Nat.{ℕ, zero, suc, _+_, _*_, _/_, _^_, _≤_, _<_}
 use native.Mathlib.Omega.{arith}
-use native.Mathlib.Nat.{div-lt-iff-lt-mul}
+use native.Mathlib.Nat.{div-lt-iff-lt-mul, one-le-pow}
+use native.Mathlib.Numerals.{add-one}
 use lib.Arith.{digits-lt}
 use lib.Dec.{eqb}
 use lib.ListN.{length}
 use Rattle.bits.specs.Basics.{bool}
 use Rattle.bits.proofs.Laws.Choice.{lt-or-le}
-use Rattle.bits.specs.Pack.{Bits, bitAt}
-use Rattle.bits.proofs.Laws.Pack.{length-bytes, bit-bytes, bit-bytes-past, bytes-are as packed-bytes}
+use Rattle.bits.specs.Pack.{Bits, val, bitAt, cut}
+use Rattle.bits.proofs.Laws.Pack.{length-bytes, bit-bytes, bit-bytes-past, cut-in, cut-bits, bytes-are as packed-bytes}
 use Rattle.answers.specs.Answer.{after}
-use Rattle.sizes.specs.Sizes.{wordBytes, infoBits}
+use Rattle.sizes.specs.Sizes.{wordBytes, infoBits, blockBytes}
 use Rattle.answers.specs.declared.Answer.{Answer}
 use Rattle.answers.specs.declared.Answer.the-variants.{Done}
 use Rattle.word.specs.Word as words
@@ -28,9 +29,7 @@ use Rattle.parameters.specs.Parameters.{parametersOf}
 use Rattle.plan.specs.declared.Plan.{Plan}
 use Rattle.plan.specs.Plan.{planOf, planIn, sentCount}
 use Rattle.plan.specs.Inner.{slotBytes}
-use Rattle.plan.specs.Lengths.{callSays}
-use Rattle.plan.proofs.Laws.Accepted.{ready}
-use Rattle.stream_writer.specs.Stream.{markerBit}
+use Rattle.stream_writer.specs.Stream.{markerBit, blockAt}
 use Rattle.stream_writer.proofs.Laws.Stream as streams
 use Rattle.stream_reader.specs.Frames.{joined}
 use Rattle.stream_reader.proofs.Laws.Blocks.{joined-bits}
@@ -39,7 +38,6 @@ use Rattle.channel.specs.Channel as channel
 use Rattle.channel.specs.Channel.{layoutSymbols}
 use Rattle.pulses.proofs.Laws.Pulses as pulses
 use Rattle.slots.specs.Writing.{sentAt}
-use Rattle.slots.proofs.Laws.Bounds.{bounds}
 use Rattle.slots.specs.Reading.{wordOut}
 use Rattle.run.specs.Run as runs
 use Rattle.run.specs.Steps as steps
@@ -58,8 +56,16 @@ stream-is header marker frames F A eF eA = (
   λ x h. streams.stream-fill (fieldsOf header .size) (fieldsOf header .frames) frames x (rw (← eF, ← eA) h),
 )
 
+-- the bits of block j of any stream, whatever the rate
+block-bit : (rate : ℕ) (stream : ℕ → ℕ) → Bits stream → (j i : ℕ) → i < infoBits rate → bitAt (blockAt rate stream j) i ≡ stream (j * infoBits rate + i)
+unfolding blockAt blockBytes
+block-bit rate stream b j i l =
+    let f : ℕ → ℕ = λ i. stream (j * infoBits rate + i) in
+    bit-bytes (blockBytes rate) (cut (infoBits rate) f) (cut-bits (infoBits rate) f (λ i. b (j * infoBits rate + i))) i (omega arith) ∙ cut-in (infoBits rate) f i l
+
 pub block-is : BlockIs
-block-is header marker frames h k e j i l = rw e (step-laws.block-is header marker frames h j i (let t : i < infoBits (fieldsOf header .rate) = omega arith in t))
+block-is header marker frames k e j i l =
+    rw e (block-bit (fieldsOf header .rate) (steps.step1 header marker frames) (streams.stream-bits (fieldsOf header .size) (fieldsOf header .frames) frames) j i (rw (← e) l))
 
 pub word-is : WordIs
 word-is header marker frames j = refl
@@ -117,15 +123,13 @@ module _ (header marker frames : List ℕ) where
 
 pub slot-is : SlotIs
 unfolding planOf parametersOf
-slot-is header marker frames n e M G K symbols eM eG eK es =
-    let let-in : callSays header marker (length frames) n ≡ Done = asked header marker frames n e in
+slot-is header marker frames M G K symbols eM eG eK es =
     let g : G ≡ planIn header marker .group = group-is header marker M G eM eG in
     let c : symbols ≡ layoutSymbols (planIn header marker .layout) = es ∙ sym (count-is header marker) in
     let k : K ≡ planIn header marker .copies = eK in
-    let fine = ready header marker (length frames) n let-in .fine in
-    let some = bounds (planIn header marker) fine .group-two in (
+    let some : 0 < planIn header marker .group = let o : 1 ≤ 2 ^ fieldsOf header .bits = one-le-pow (fieldsOf header .bits) 2 (omega arith) in omega arith in (
       λ s i r ls li lr. rw (g, k) (slot-here header marker frames s i r (rw (← c) ls) (rw (← k) li) (rw (← g) lr)),
-      λ x h. slot-behind header marker frames (omega arith) x (rw (← g, ← c, ← k) h),
+      λ x h. slot-behind header marker frames some x (rw (← g, ← c, ← k) h),
       slots-long header marker frames ∙ rw (g, c, k) refl,
     )
 
@@ -176,8 +180,10 @@ pub word-read-written : WordReadWritten
 word-read-written = word-laws.read-written
 
 pub word-one : WordOne
-word-one rate a b wa wb e i l =
-    sym (word-written-read rate a wa .1 i l) ∙ ap (λ (w : List ℕ). bitAt (words.blockIn rate w) i) e ∙ word-written-read rate b wb .1 i l
+unfolding infoBits
+word-one zero a b e i l = exports.same-word 0 a b (omega arith) e i l
+word-one (suc zero) a b e i l = exports.same-word 1 a b (omega arith) e i l
+word-one (suc (suc r)) a b e i l = exports.same-word 2 a b (omega arith) (sym (exports.past-rates r a .0) ∙ e ∙ exports.past-rates r b .0) i l
 
 pub word-there-and-back : WordThereAndBack
 word-there-and-back rate block word back w e =

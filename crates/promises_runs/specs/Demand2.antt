@@ -38,7 +38,7 @@ StreamIs =
 
 abbrev pub BlockIs : Type 0
 BlockIs =
-    (header marker frames : List ℕ) → fieldsOf header .rate < 3 → (k : ℕ) → k ≡ infoBits (fieldsOf header .rate)
+    (header marker frames : List ℕ) (k : ℕ) → k ≡ infoBits (fieldsOf header .rate)
     → (j i : ℕ) → i < k → bitAt (steps.block header marker frames j) i ≡ steps.step1 header marker frames (j * k + i)
 
 abbrev pub WordIs : Type 0
@@ -70,8 +70,7 @@ LineIs =
 -- Symbol q becomes M slots with one pulse at slot q, then M/4 empty guard slots; each is sent as often as the factor says. Spare bits are 0.
 abbrev pub SlotIs : Type 0
 SlotIs =
-    (header marker frames : List ℕ) (n : ℕ) → runWriteSays header marker frames n ≡ Done
-    → (M G K symbols : ℕ) → M ≡ 2 ^ fieldsOf header .bits → G ≡ M + M / 4 → K ≡ fieldsOf header .copies → symbols ≡ symbolCount (fieldsOf header)
+    (header marker frames : List ℕ) (M G K symbols : ℕ) → M ≡ 2 ^ fieldsOf header .bits → G ≡ M + M / 4 → K ≡ fieldsOf header .copies → symbols ≡ symbolCount (fieldsOf header)
     → ((s c r : ℕ) → s < symbols → c < K → r < G
     → bitAt (runs.runOf header marker frames) ((s * K + c) * G + r) ≡ bool (eqb r (steps.step10 header marker frames s)))
     × ((x : ℕ) → symbols * K * G ≤ x → bitAt (runs.runOf header marker frames) x ≡ 0)
@@ -152,8 +151,7 @@ WordReadWritten =
 -- So two blocks of one rate that differ in one of the k bits never give one word.
 abbrev pub WordOne : Type 0
 WordOne =
-    (rate : ℕ) (a b : List ℕ) → wordWriteSays rate a wordBytes ≡ Done → wordWriteSays rate b wordBytes ≡ Done
-    → words.wordOf rate a ≡ words.wordOf rate b → words.SameBits rate a b
+    (rate : ℕ) (a b : List ℕ) → words.wordOf rate a ≡ words.wordOf rate b → words.SameBits rate a b
 
 -- The same of the lent slices.
 abbrev pub WordThereAndBack : Type 0

@@ -1,18 +1,21 @@
 -- The proofs of card 13.
-use mathlib.Core.Path.{_≡_, refl, sym, ap, _∙_}
+use mathlib.Core.Path.{_≡_, refl, sym, ap, ap₂, _∙_}
+use mathlib.Core.List.{List}
 use mathlib.Core.Logic.{⊎-elim}
-use Prim.Native.Nat.{ℕ, _≤_, _<_}
+use Prim.Native.Nat.{ℕ, zero, suc, _≤_, _<_}
 use native.Mathlib.Omega.{arith}
 use lib.Bits.{bitXor}
+use lib.ListN.{length}
 use Rattle.bits.proofs.Laws.Choice.{bit-cases}
 use Rattle.bits.proofs.Laws.Sum.{xor-same, same-xor}
-use Rattle.bits.specs.Pack.{bitAt, flipBit}
+use Rattle.bits.specs.Pack.{bitAt, bytesOf, flipBit}
 use Rattle.bits.proofs.Laws.Pack.{bit-lt, length-bytes}
 use Rattle.bits.proofs.Laws.Change.{flip-bit}
 use Rattle.answers.specs.Answer.{after}
 use Rattle.answers.specs.declared.Answer.{Answer}
-use Rattle.sizes.proofs.Laws.Rate.{block-size}
+use Rattle.sizes.specs.Sizes.{infoBits, blockBytes}
 use Rattle.word.specs.Word.{codedOf, wordOf, codedIn}
+use Rattle.word.proofs.Laws.Exports.{past-rates}
 use Rattle.spread.specs.Spread.{changes, zeroBlock, spreadOf, spreadSays}
 use Rattle.spread.proofs.Laws.Few.{limit}
 use Rattle.spread.proofs.Laws.Spread as law-of-spread
@@ -26,27 +29,52 @@ one-where-apart m x y h e = (
 )
 
 pub bit-changed : BitChanged
-bit-changed rate block bit h size l i = flip-bit block bit i (omega (arith, block-size rate h))
+unfolding blockBytes
+bit-changed rate block bit size l i = flip-bit block bit i (omega arith)
 
 pub few : Few
 unfolding limit
-few rate block bit h size l =
-    let d : apartCoded rate block (flipBit block bit) ≤ limit rate = law-of-spread.few-coded rate bit h l block size in
-    (λ e. omega (arith, d, ap limit e), λ e. omega (arith, d, ap limit e), λ e. omega (arith, d, ap limit e))
+few rate block bit size l =
+    let d : rate < 3 → apartCoded rate block (flipBit block bit) ≤ limit rate = λ h. law-of-spread.few-coded rate bit h l block size in
+    (λ e. omega (arith, d (omega arith), ap limit e), λ e. omega (arith, d (omega arith), ap limit e), λ e. omega (arith, d (omega arith), ap limit e))
 
 pub few-taken-out : FewTakenOut
 unfolding limit
-few-taken-out rate block bit h size l =
-    let d : apartOut rate block (flipBit block bit) ≤ limit rate = law-of-spread.few-taken-out rate bit h l block size in
-    (λ e. omega (arith, d, ap limit e), λ e. omega (arith, d, ap limit e), λ e. omega (arith, d, ap limit e))
+few-taken-out rate block bit size l =
+    let d : rate < 3 → apartOut rate block (flipBit block bit) ≤ limit rate = λ h. law-of-spread.few-taken-out rate bit h l block size in
+    (λ e. omega (arith, d (omega arith), ap limit e), λ e. omega (arith, d (omega arith), ap limit e), λ e. omega (arith, d (omega arith), ap limit e))
+
+-- a number above 2 is no rate, but the steps take it as 2
+spread-past : (r bit : ℕ) → spreadOf (suc (suc r)) bit ≡ spreadOf 2 bit
+unfolding spreadOf changes zeroBlock blockBytes infoBits
+spread-past r bit =
+    let zeros : List ℕ = zeroBlock 2 in
+    ap₂ (λ (f g : ℕ → ℕ). bytesOf 1890 (λ j. bitXor (f j) (g j))) (past-rates r zeros .1) (past-rates r (flipBit zeros bit) .1)
+
+-- so the marks are where the coded bits differ, whatever the rate
+every-block : (rate : ℕ) (block : List ℕ) (bit : ℕ) → length block ≡ blockBytes rate → bit < infoBits rate → (j : ℕ) → j < 15120
+    → bitAt (spreadOf rate bit) j ≡ bitXor (codedOf rate block j) (codedOf rate (flipBit block bit) j)
+unfolding changes infoBits blockBytes
+every-block zero block bit size l j u = law-of-spread.every-block 0 bit (omega arith) l block size j u
+every-block (suc zero) block bit size l j u = law-of-spread.every-block 1 bit (omega arith) l block size j u
+every-block (suc (suc r)) block bit size l j u =
+    rw (spread-past r bit, past-rates r block .1, past-rates r (flipBit block bit) .1) (law-of-spread.every-block 2 bit (omega arith) l block size j u)
+
+every-word : (rate : ℕ) (block : List ℕ) (bit : ℕ) → length block ≡ blockBytes rate → bit < infoBits rate → (j : ℕ) → j < 15120
+    → bitAt (spreadOf rate bit) j ≡ bitXor (codedIn (wordOf rate block) j) (codedIn (wordOf rate (flipBit block bit)) j)
+unfolding infoBits blockBytes
+every-word zero block bit size l j u = law-of-spread.every-word 0 bit (omega arith) l block size j u
+every-word (suc zero) block bit size l j u = law-of-spread.every-word 1 bit (omega arith) l block size j u
+every-word (suc (suc r)) block bit size l j u =
+    rw (spread-past r bit, past-rates r block .0, past-rates r (flipBit block bit) .0) (law-of-spread.every-word 2 bit (omega arith) l block size j u)
 
 pub places-marked : PlacesMarked
-unfolding changes
-places-marked rate block bit h size l j u = one-where-apart (bitAt (spreadOf rate bit) j) (codedOf rate block j) (codedOf rate (flipBit block bit) j) (bit-lt (spreadOf rate bit) j) (law-of-spread.every-block rate bit h l block size j u)
+places-marked rate block bit size l j u =
+    one-where-apart (bitAt (spreadOf rate bit) j) (codedOf rate block j) (codedOf rate (flipBit block bit) j) (bit-lt (spreadOf rate bit) j) (every-block rate block bit size l j u)
 
 pub marked-taken-out : MarkedTakenOut
-marked-taken-out rate block bit h size l j u =
-    one-where-apart (bitAt (spreadOf rate bit) j) (codedIn (wordOf rate block) j) (codedIn (wordOf rate (flipBit block bit)) j) (bit-lt (spreadOf rate bit) j) (law-of-spread.every-word rate bit h l block size j u)
+marked-taken-out rate block bit size l j u =
+    one-where-apart (bitAt (spreadOf rate bit) j) (codedIn (wordOf rate block) j) (codedIn (wordOf rate (flipBit block bit)) j) (bit-lt (spreadOf rate bit) j) (every-word rate block bit size l j u)
 
 pub spread-asks : SpreadAsks
 unfolding spreadSays

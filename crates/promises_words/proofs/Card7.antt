@@ -1,4 +1,8 @@
 -- The proofs of card 7.
+use mathlib.Core.Path.{sym, _∙_}
+use Prim.Native.Nat.{zero, suc}
+use native.Mathlib.Omega.{arith}
+use Rattle.sizes.specs.Sizes.{infoBits}
 use Rattle.word.proofs.Laws.Exports as word-laws
 use Rattle.promises_words.specs.Card7.{Card7, Disregarded, OneWord, WordWriterNumbers, WordReaderNumbers, ReaderZeros}
 
@@ -6,7 +10,10 @@ pub disregarded : Disregarded
 disregarded = word-laws.always-written
 
 pub one-word : OneWord
-one-word = word-laws.word-same
+unfolding infoBits
+one-word zero a b h = word-laws.word-same 0 a b (omega arith) h
+one-word (suc zero) a b h = word-laws.word-same 1 a b (omega arith) h
+one-word (suc (suc r)) a b h = word-laws.past-rates r a .0 ∙ word-laws.word-same 2 a b (omega arith) h ∙ sym (word-laws.past-rates r b .0)
 
 pub word-writer-numbers : WordWriterNumbers
 word-writer-numbers = word-laws.write-numbers

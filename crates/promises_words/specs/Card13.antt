@@ -28,13 +28,13 @@ apartOut rate a b = differences (codedIn (wordOf rate a)) (codedIn (wordOf rate 
 -- "Changing one block bit": it, and no other bit
 abbrev pub BitChanged : Type 0
 BitChanged =
-    (rate : ℕ) (block : List ℕ) (bit : ℕ) → rate < 3 → length block ≡ blockBytes rate → bit < infoBits rate
+    (rate : ℕ) (block : List ℕ) (bit : ℕ) → length block ≡ blockBytes rate → bit < infoBits rate
     → (i : ℕ) → bitAt (flipBit block bit) i ≡ bitXor (bitAt block i) (bool (eqb i bit))
 
 -- "changes at most 110 coded bits at rate 1/3, 73 at 1/2 and 56 at 2/3, counted after step 4."
 abbrev pub Few : Type 0
 Few =
-    (rate : ℕ) (block : List ℕ) (bit : ℕ) → rate < 3 → length block ≡ blockBytes rate → bit < infoBits rate
+    (rate : ℕ) (block : List ℕ) (bit : ℕ) → length block ≡ blockBytes rate → bit < infoBits rate
     → (rate ≡ 0 → apartCoded rate block (flipBit block bit) ≤ 110)
     × (rate ≡ 1 → apartCoded rate block (flipBit block bit) ≤ 73)
     × (rate ≡ 2 → apartCoded rate block (flipBit block bit) ≤ 56)
@@ -42,7 +42,7 @@ Few =
 -- the same of the coded bits taken back out of the two words
 abbrev pub FewTakenOut : Type 0
 FewTakenOut =
-    (rate : ℕ) (block : List ℕ) (bit : ℕ) → rate < 3 → length block ≡ blockBytes rate → bit < infoBits rate
+    (rate : ℕ) (block : List ℕ) (bit : ℕ) → length block ≡ blockBytes rate → bit < infoBits rate
     → (rate ≡ 0 → apartOut rate block (flipBit block bit) ≤ 110)
     × (rate ≡ 1 → apartOut rate block (flipBit block bit) ≤ 73)
     × (rate ≡ 2 → apartOut rate block (flipBit block bit) ≤ 56)
@@ -51,14 +51,14 @@ FewTakenOut =
 -- sum rule the other bits don't matter." So of every block:
 abbrev pub PlacesMarked : Type 0
 PlacesMarked =
-    (rate : ℕ) (block : List ℕ) (bit : ℕ) → rate < 3 → length block ≡ blockBytes rate → bit < infoBits rate
+    (rate : ℕ) (block : List ℕ) (bit : ℕ) → length block ≡ blockBytes rate → bit < infoBits rate
     → (j : ℕ) → j < 15120
     → (bitAt (spreadOf rate bit) j ≡ 1 → codedOf rate block j ≡ codedOf rate (flipBit block bit) j → ⊥)
     × ((codedOf rate block j ≡ codedOf rate (flipBit block bit) j → ⊥) → bitAt (spreadOf rate bit) j ≡ 1)
 
 abbrev pub MarkedTakenOut : Type 0
 MarkedTakenOut =
-    (rate : ℕ) (block : List ℕ) (bit : ℕ) → rate < 3 → length block ≡ blockBytes rate → bit < infoBits rate
+    (rate : ℕ) (block : List ℕ) (bit : ℕ) → length block ≡ blockBytes rate → bit < infoBits rate
     → (j : ℕ) → j < 15120
     → (bitAt (spreadOf rate bit) j ≡ 1 → codedIn (wordOf rate block) j ≡ codedIn (wordOf rate (flipBit block bit)) j → ⊥)
     × ((codedIn (wordOf rate block) j ≡ codedIn (wordOf rate (flipBit block bit)) j → ⊥) → bitAt (spreadOf rate bit) j ≡ 1)

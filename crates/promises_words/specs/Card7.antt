@@ -22,7 +22,7 @@ Disregarded = (rate : ℕ) (block : List ℕ) → rate < 3 → length block ≡ 
 
 -- and "two packings of the same k bits give one word".
 abbrev pub OneWord : Type 0
-OneWord = (rate : ℕ) (a b : List ℕ) → rate < 3 → ((i : ℕ) → i < infoBits rate → bitAt a i ≡ bitAt b i) → wordOf rate a ≡ wordOf rate b
+OneWord = (rate : ℕ) (a b : List ℕ) → ((i : ℕ) → i < infoBits rate → bitAt a i ≡ bitAt b i) → wordOf rate a ≡ wordOf rate b
 
 -- "Question 9 then covers slot buffers only": no word call answers 9.
 abbrev pub WordWriterNumbers : Type 0

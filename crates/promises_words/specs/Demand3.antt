@@ -1,4 +1,4 @@
--- Demand 3: sums, distances and flips, of any blocks that the word writer accepts.
+-- Demand 3: sums, distances and flips, of any blocks, and so of those that the word writer accepts.
 --
 -- An information block is the k bits of a packed block (`infoBits`); bit i of packed bytes is `bitAt`, the first bit of a byte highest. The coded
 -- bits taken back out of a word are `codedIn`. The numbers stand in the statements themselves.
@@ -21,7 +21,7 @@ use Rattle.word.specs.Word.{wordOf, codedIn, wordWriteSays, wordReadSays}
 -- of bytes bit by bit.
 abbrev pub Sums : Type 0
 Sums =
-    (rate : ℕ) (a b c d : List ℕ) → rate < 3
+    (rate : ℕ) (a b c d : List ℕ)
     → ((i : ℕ) → i < infoBits rate → bitAt d i ≡ bitXor (bitXor (bitAt a i) (bitAt b i)) (bitAt c i))
     → wordOf rate d ≡ plus (plus (wordOf rate a) (wordOf rate b)) (wordOf rate c)
 
@@ -40,16 +40,14 @@ apart rate a b = differences (codedIn (wordOf rate a)) (codedIn (wordOf rate b))
 -- 1/3, 5 at 1/2 and 3 at 2/3." They differ in bit i of the k.
 abbrev pub Distances : Type 0
 Distances =
-    (rate : ℕ) (a b : List ℕ) → wordWriteSays rate a wordBytes ≡ Done → wordWriteSays rate b wordBytes ≡ Done
-    → (i : ℕ) → i < infoBits rate → (bitAt a i ≡ bitAt b i → ⊥)
+    (rate : ℕ) (a b : List ℕ) (i : ℕ) → i < infoBits rate → (bitAt a i ≡ bitAt b i → ⊥)
     → (rate ≡ 0 → 8 ≤ apart rate a b) × (rate ≡ 1 → 5 ≤ apart rate a b) × (rate ≡ 2 → 3 ≤ apart rate a b)
 
 -- More than was asked: the customer's figures are not the limits. Of the same blocks, the coded bits differ in at least twice as many of the 15,120
 -- places: 16 at rate 1/3, 10 at 1/2 and 6 at 2/3.
 abbrev pub DistancesTwice : Type 0
 DistancesTwice =
-    (rate : ℕ) (a b : List ℕ) → wordWriteSays rate a wordBytes ≡ Done → wordWriteSays rate b wordBytes ≡ Done
-    → (i : ℕ) → i < infoBits rate → (bitAt a i ≡ bitAt b i → ⊥)
+    (rate : ℕ) (a b : List ℕ) (i : ℕ) → i < infoBits rate → (bitAt a i ≡ bitAt b i → ⊥)
     → (rate ≡ 0 → 16 ≤ apart rate a b) × (rate ≡ 1 → 10 ≤ apart rate a b) × (rate ≡ 2 → 6 ≤ apart rate a b)
 
 -- a word with the bits of a set flipped
@@ -61,7 +59,7 @@ flipped flips word = bytesOf wordBytes (λ j. bitXor (bitAt word j) (bool (flips
 -- that is flipped, and the 18 begin with bit `start`.
 abbrev pub FlipsFound : Type 0
 FlipsFound =
-    (rate : ℕ) (block : List ℕ) → wordWriteSays rate block wordBytes ≡ Done
+    (rate : ℕ) (block : List ℕ) → rate < 3
     → (flips : ℕ → Bool) (start : ℕ) → ((j : ℕ) → j < 15120 → flips j ≡ true → (start ≤ j) × (j < start + 18))
     → (i : ℕ) → i < 15120 → flips i ≡ true
     → (n : ℕ)

@@ -14,7 +14,7 @@ use Rattle.bits.proofs.Laws.Sum.{xor-bit, same-xor}
 use Rattle.bits.specs.Pack.{bitAt, Bits}
 use Rattle.bits.specs.Count.{differences, weight}
 use Rattle.bits.proofs.Laws.Weight.{differences-weight, differences-same, weight-same}
-use Rattle.sizes.specs.Sizes.{infoBits, wordBits, wordBytes}
+use Rattle.sizes.specs.Sizes.{infoBits, wordBits}
 use Rattle.crc.specs.Check.{register}
 use Rattle.crc.proofs.Laws.Check.{register-same}
 use Rattle.crc.proofs.Laws.Difference.{registers-plus}
@@ -22,11 +22,9 @@ use Rattle.crc.proofs.Laws.Found.{spans}
 use Rattle.convolution.specs.Code.{encode}
 use Rattle.convolution.proofs.Laws.Code.{encode-bits, encode-plus}
 use Rattle.convolution.proofs.Laws.Distance.{distance, weight-twice}
-use Rattle.answers.specs.declared.Answer.the-variants.{Done}
-use Rattle.word.specs.Word.{checkedBlock, inputOf, wordOf, codedIn, wordWriteSays}
+use Rattle.word.specs.Word.{checkedBlock, inputOf, wordOf, codedIn}
 use Rattle.word.proofs.Laws.Word as Laws
 use Rattle.word.proofs.Laws.Checks.{zero-behind}
-use Rattle.word.proofs.Laws.Answers as Answers
 
 -- the input bits of a block leave a register of zeros
 input-zero : (rate : ℕ) (block : List ℕ) → register (inputOf rate block) (infoBits rate + 32) ≡ 0
@@ -35,11 +33,9 @@ input-zero rate block =
     let n : ℕ = infoBits rate + 32 in
     register-same (inputOf rate block) (checkedBlock rate block) n (cut-in n (checkedBlock rate block)) ∙ zero-behind rate block
 
-pub distances : (rate : ℕ) (a b : List ℕ) → wordWriteSays rate a wordBytes ≡ Done → wordWriteSays rate b wordBytes ≡ Done
-    → (i : ℕ) → i < infoBits rate → (bitAt a i ≡ bitAt b i → ⊥)
+pub distances : (rate : ℕ) (a b : List ℕ) → rate < 3 → (i : ℕ) → i < infoBits rate → (bitAt a i ≡ bitAt b i → ⊥)
     → 2 * distance rate ≤ differences (codedIn (wordOf rate a)) (codedIn (wordOf rate b)) wordBits
-distances rate a b ea eb i l ne =
-    let h : rate < 3 = Answers.write-accepted rate a wordBytes ea .rate-is in
+distances rate a b h i l ne =
     let x : ℕ → ℕ = inputOf rate a in
     let y : ℕ → ℕ = inputOf rate b in
     let bx : Bits x = Laws.input-bits rate a in

@@ -1,18 +1,18 @@
 -- What the crates above may use of words. They cite the names of `Word` and never open them.
-use mathlib.Core.Path.{_≡_, sym, ap, _∙_}
+use mathlib.Core.Path.{_≡_, refl, sym, ap, _∙_}
 use mathlib.Core.Bool.{true}
 use mathlib.Core.List.{List, [], _∷_}
-use Prim.Native.Nat.{ℕ, _+_, _<_}
+use Prim.Native.Nat.{ℕ, suc, _+_, _<_}
 use lib.Bits.{bitXor}
 use lib.ListN.{length}
 use Rattle.bits.specs.Pack.{Bytes, Bits, bitAt}
 use Rattle.answers.specs.Answer.{numberOf, among}
 use Rattle.answers.specs.Inner.{Fits}
 use Rattle.answers.specs.declared.Answer.the-variants.{Done}
-use Rattle.sizes.specs.Sizes.{infoBits, blockBytes, wordBits, wordBytes}
+use Rattle.sizes.specs.Sizes.{infoBits, blockBytes, wordBits, wordBytes, inputsPer, codedPer}
 use Rattle.crc.specs.Inner.{checkedChange}
-use Rattle.convolution.specs.Code.{terminated, encode}
-use Rattle.word.specs.Word.{SameBits, checkedBlock, codedOf, wordOf, carriedOn, codedIn, blockIn, wordWriteSays, wordReadSays}
+use Rattle.convolution.specs.Code.{terminated, inputPlace, encode}
+use Rattle.word.specs.Word.{SameBits, checkedBlock, inputOf, codedOf, wordOf, carriedOn, codedIn, blockIn, wordWriteSays, wordReadSays}
 use Rattle.word.proofs.Laws.Word.{Packed}
 use Rattle.word.proofs.Laws.Word as Laws
 use Rattle.word.proofs.Laws.Answers as Answers
@@ -44,6 +44,15 @@ coded-change = Laws.coded-change
 -- two packings of the same k bits give one word
 pub word-same : (rate : ℕ) (a b : List ℕ) → rate < 3 → SameBits rate a b → wordOf rate a ≡ wordOf rate b
 word-same = Laws.word-same
+
+-- a number above 2 is no rate and is turned away, but the steps take it as 2
+pub past-rates : (r : ℕ) (block : List ℕ) → (wordOf (suc (suc r)) block ≡ wordOf 2 block) × (codedOf (suc (suc r)) block ≡ codedOf 2 block)
+unfolding wordOf codedOf inputOf checkedBlock infoBits encode inputPlace inputsPer codedPer
+past-rates r block = (refl, refl)
+
+-- and two words that are the same have the same k bits
+pub same-word : (rate : ℕ) (a b : List ℕ) → rate < 3 → wordOf rate a ≡ wordOf rate b → SameBits rate a b
+same-word rate a b h e i l = sym (Laws.bits-back rate a h i l) ∙ ap (λ (w : List ℕ). bitAt (blockIn rate w) i) e ∙ Laws.bits-back rate b h i l
 
 -- a block of the right length is written, whatever its spare bits
 pub always-written : (rate : ℕ) (block : List ℕ) → rate < 3 → length block ≡ blockBytes rate → wordWriteSays rate block wordBytes ≡ Done

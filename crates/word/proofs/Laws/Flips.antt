@@ -16,9 +16,8 @@ use Rattle.convolution.proofs.Laws.Code.{encode-plus}
 use Rattle.interleaver.specs.Interleaver.{deinterleave}
 use Rattle.accumulator.specs.Accumulator.{differentiate}
 use Rattle.answers.specs.Answer.{numberOf}
-use Rattle.answers.specs.declared.Answer.the-variants.{Done}
 use Rattle.word.proofs.Laws.Bursts.{burst, no-code}
-use Rattle.word.specs.Word.{inputOf, wordOf, codedIn, inputIn, wordWriteSays, wordReadSays, firstWrong, endsInZeros}
+use Rattle.word.specs.Word.{inputOf, wordOf, codedIn, inputIn, wordReadSays, firstWrong, endsInZeros}
 use Rattle.word.proofs.Laws.Word as Laws
 use Rattle.word.proofs.Laws.Answers as Answers
 
@@ -27,20 +26,17 @@ abbrev pub WithinBurst : (ℕ → Bool) → ℕ → Type 0
 WithinBurst flips start = (j : ℕ) → j < wordBits → flips j ≡ true → (start ≤ j) × (j < start + burst)
 
 -- One or more flipped bits within a burst: the reader says 13 or 14, or 8 where the slice for the block has another length.
-pub flips-found : (rate : ℕ) (block : List ℕ) → wordWriteSays rate block wordBytes ≡ Done
+pub flips-found : (rate : ℕ) (block : List ℕ) → rate < 3
     → (flips : ℕ → Bool) (start : ℕ) → WithinBurst flips start → (i : ℕ) → i < wordBits → flips i ≡ true
     → (other : List ℕ) → length other ≡ wordBytes → ((j : ℕ) → j < wordBits → bitAt other j ≡ bitXor (bitAt (wordOf rate block) j) (bool (flips j)))
     → (n : ℕ)
     → (n ≡ blockBytes rate → (numberOf (wordReadSays rate other n) ≡ 13) ⊎ (numberOf (wordReadSays rate other n) ≡ 14))
     × ((n ≡ blockBytes rate → ⊥) → numberOf (wordReadSays rate other n) ≡ 8)
-flips-found rate block e flips start within i l f other size differ n = (
+flips-found rate block h flips start within i l f other size differ n = (
   λ q. cases (eq-or-ne (firstWrong rate (codedIn other) (inputIn rate other)) wordBits) q,
   λ q. ap numberOf (Answers.read-block-length rate other n h size q),
 )
   where
-    h : rate < 3
-    h = Answers.write-accepted rate block wordBytes e .rate-is
-
     -- with 13 and 14 passed, the read and the written input bits would differ by bits that make exactly the flips
     passed : firstWrong rate (codedIn other) (inputIn rate other) ≡ wordBits → endsInZeros rate (inputIn rate other) ≡ true → ⊥
     passed c z =
