@@ -21,32 +21,11 @@ Inv-loop word₀ n last₀ i₀ word last i =
 abbrev μ-loop : tie.MeasureT-loop
 μ-loop word₀ n last₀ i₀ word last i = length word₀ - i
 
-by-eights-requires : tie.Need-by-eights-requires Inv-loop μ-loop
-by-eights-requires c κs = search needs
-
-mul-i : tie.Need-mul-i Inv-loop μ-loop
-mul-i c = search needs
-
 loop-holds : tie.Need-loop-holds Inv-loop μ-loop
 loop-holds c =
     let o = c .before .before .by-eights in
     let e = o .ensures .made .size in
     (omega arith, refl, last-bit (o .ensures), λ xs s. s)
-
-slice-read-summed : tie.Need-slice-read-summed Inv-loop μ-loop
-slice-read-summed c = search needs
-
-summed-requires : tie.Need-summed-requires Inv-loop μ-loop
-summed-requires c κs = search needs
-
-slice-write-word : tie.Need-slice-write-word Inv-loop μ-loop
-slice-write-word c = search needs
-
-add-i : tie.Need-add-i Inv-loop μ-loop
-add-i c = search needs
-
-loop-less : tie.Need-loop-less Inv-loop μ-loop
-loop-less c = search needs
 
 loop-again : tie.Need-loop-again Inv-loop μ-loop
 loop-again c =
@@ -57,9 +36,6 @@ loop-again c =
       omega (arith, and-mask v 1),
       λ xs s. rw (and-mask v 1) (so-far-byte (l .inv .3 xs s) v (omega arith) (c .summed .ensures)),
     )
-
-same-length : tie.Need-same-length Inv-loop μ-loop
-same-length c = search needs
 
 returns : tie.Need-returns Inv-loop μ-loop
 returns c =
@@ -76,14 +52,14 @@ accumulate-spec =
     (tie.spec
     Inv-loop
     μ-loop
-    by-eights-requires
-    mul-i
+    (λ c κs. search needs)
+    (λ c. search needs)
     loop-holds
-    slice-read-summed
-    summed-requires
-    slice-write-word
-    add-i
-    loop-less
+    (λ c. search needs)
+    (λ c κs. search needs)
+    (λ c. search needs)
+    (λ c. search needs)
+    (λ c. search needs)
     loop-again
-    same-length
+    (λ c. search needs)
     returns)

@@ -19,32 +19,14 @@ abbrev μ-loop : tie.MeasureT-loop
 loop-holds : tie.Need-loop-holds Inv-loop μ-loop
 loop-holds c = (search needs, so-far-none (c .before .args .word .now))
 
-mul-eight : tie.Need-mul-eight Inv-loop μ-loop
-mul-eight c = search needs
-
-eight-requires : tie.Need-eight-requires Inv-loop μ-loop
-eight-requires c κs = search needs
-
 cast-summed-64 : tie.Need-cast-summed-64 Inv-loop μ-loop
 cast-summed-64 c = omega (arith, last-bit (c .before .before .before .loop .inv .1))
 
 summed-64-requires : tie.Need-summed-64-requires Inv-loop μ-loop
 summed-64-requires c κs = last-bit (c .before .before .before .loop .inv .1)
 
-mul-put-eight : tie.Need-mul-put-eight Inv-loop μ-loop
-mul-put-eight c = search needs
-
-put-eight-requires : tie.Need-put-eight-requires Inv-loop μ-loop
-put-eight-requires c κs = search needs
-
 cast-last : tie.Need-cast-last Inv-loop μ-loop
 cast-last c = omega (arith, mask-lt (c .before .before .before .before .summed-64 .result) 1)
-
-add-j : tie.Need-add-j Inv-loop μ-loop
-add-j c = search needs
-
-loop-less : tie.Need-loop-less Inv-loop μ-loop
-loop-less c = search needs
 
 loop-again : tie.Need-loop-again Inv-loop μ-loop
 loop-again c =
@@ -56,9 +38,6 @@ loop-again c =
     let e : 8 * l .j + 8 ≡ 8 * (l .j + 1) = omega arith in
     let made : SoFar xs after (8 * (l .j + 1)) (o .result % 2) = rw e at (so-far-eight (l .inv .1) (o .result) eq after (c .before .before .put-eight .ensures)) in
     (search needs, rw (and-mask (o .result) 1) made)
-
-same-length : tie.Need-same-length Inv-loop μ-loop
-same-length c = search needs
 
 returns : tie.Need-returns Inv-loop μ-loop
 returns c =
@@ -73,15 +52,15 @@ by-eights-spec =
     Inv-loop
     μ-loop
     loop-holds
-    mul-eight
-    eight-requires
+    (λ c. search needs)
+    (λ c κs. search needs)
     cast-summed-64
     summed-64-requires
-    mul-put-eight
-    put-eight-requires
+    (λ c. search needs)
+    (λ c κs. search needs)
     cast-last
-    add-j
-    loop-less
+    (λ c. search needs)
+    (λ c. search needs)
     loop-again
-    same-length
+    (λ c. search needs)
     returns)

@@ -30,23 +30,11 @@ loop-holds : tie.Need-loop-holds Inv-loop μ-loop
 unfolding behind
 loop-holds c = (search needs, refl, search needs, below-none _)
 
-shared-slice-read-outputs : tie.Need-shared-slice-read-outputs Inv-loop μ-loop
-shared-slice-read-outputs c = search needs
-
 stepped-requires : tie.Need-stepped-requires Inv-loop μ-loop
 stepped-requires c κs =
     let l = c .before .before .loop in
     let xs = c .before .before .before .before .before .args .word .now in
     omega (arith, behind-bit (bitAt xs) (bit-lt xs) (8 * l .i))
-
-slice-write-inputs : tie.Need-slice-write-inputs Inv-loop μ-loop
-slice-write-inputs c = search needs
-
-add-i : tie.Need-add-i Inv-loop μ-loop
-add-i c = search needs
-
-loop-less : tie.Need-loop-less Inv-loop μ-loop
-loop-less c = search needs
 
 loop-again : tie.Need-loop-again Inv-loop μ-loop
 loop-again c =
@@ -57,9 +45,6 @@ loop-again c =
     ∙ ap (λ (p : ℕ). val (differentiateFrom p (bitOf (getD xs (l .i) 0))) 8) (l .inv .1)
     ∙ differentiated-byte xs (l .i) in
     (search needs, and-mask (getD xs (l .i) 0) 1 ∙ given-last xs (l .i), search needs, fill (l .inputs) (made xs) (l .i) (c .stepped .result) (search needs) e (l .inv .3))
-
-same-length : tie.Need-same-length Inv-loop μ-loop
-same-length c = search needs
 
 returns : tie.Need-returns Inv-loop μ-loop
 returns c =
@@ -74,11 +59,11 @@ differentiate-spec =
     Inv-loop
     μ-loop
     loop-holds
-    shared-slice-read-outputs
+    (λ c. search needs)
     stepped-requires
-    slice-write-inputs
-    add-i
-    loop-less
+    (λ c. search needs)
+    (λ c. search needs)
+    (λ c. search needs)
     loop-again
-    same-length
+    (λ c. search needs)
     returns)

@@ -27,11 +27,8 @@ right b last h l =
     (λ (e : last ≡ 1). rw e (eqb→eq (sums b 1) (val (accumulateFrom 1 (bitOf b)) 8) (below-all 256 (λ b. eqb (sums b 1) (val (accumulateFrom 1 (bitOf b)) 8)) tt b h)))
     (bit-cases last l)
 
-mul-result : tie.Need-mul-result
-mul-result c = search needs
-
 returns : tie.Need-returns
 returns c = right (c .args .b) (c .args .last) (search needs) (c .pre)
 
 pub summed-spec : {M : Type 1} → statement M
-summed-spec = tie.close (tie.spec mul-result returns)
+summed-spec = tie.close (tie.spec (λ c. search needs) returns)

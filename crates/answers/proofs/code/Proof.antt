@@ -13,12 +13,6 @@ shifted : (place number : ℕ) → place < 2 ^ 56 → number < 256 → bitOr (pl
 shifted place number h l =
     ap (λ (v : ℕ). bitOr v number) (mod-eq-of-lt (let b : place * 2 ^ 8 < 2 ^ 64 = omega arith in b)) ∙ or-shifted place 8 number l
 
-enum-told : tie.Need-enum-told
-enum-told c = search needs
-
-enum-known-answer : tie.Need-enum-known-answer
-enum-known-answer c = search needs
-
 returns : tie.Need-returns
 returns c = sym (ap codeOf (c .enum-told .given .1))
 
@@ -31,4 +25,4 @@ returns-2 c =
     shifted _ _ (omega (arith, p, ap placeOf e)) (omega (arith, n, ap numberOf e)) ∙ sym (ap codeOf e)
 
 pub code-spec : {M : Type 1} → statement M
-code-spec = tie.close (tie.spec enum-told enum-known-answer returns returns-2)
+code-spec = tie.close (tie.spec (λ c. search needs) (λ c. search needs) returns returns-2)

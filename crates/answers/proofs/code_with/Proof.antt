@@ -8,15 +8,6 @@ use borrow.Author.Needs.{needs}
 use Rattle.answers.proofs.code_with.Statement.{statement}
 use Rattle.answers.proofs.code_with.Tie as tie
 
-enum-told : tie.Need-enum-told
-enum-told c = search needs
-
-enum-told-2 : tie.Need-enum-told-2
-enum-told-2 c = search needs
-
-code-requires : tie.Need-code-requires
-code-requires c κs = search needs
-
 returns : tie.Need-returns
 returns c =
     let s = c .before .before in
@@ -30,4 +21,4 @@ returns-2 c =
     c .code .ensures ∙ ap codeOf e ∙ sym (ap (λ (x : Answer). codeWith x (s .args .given)) e)
 
 pub code-with-spec : {M : Type 1} → statement M
-code-with-spec = tie.close (tie.spec enum-told enum-told-2 code-requires returns returns-2)
+code-with-spec = tie.close (tie.spec (λ c. search needs) (λ c. search needs) (λ c κs. search needs) returns returns-2)

@@ -5,17 +5,8 @@ use borrow.Author.Needs.{needs}
 use Rattle.answers.proofs.moved_to.Statement.{statement}
 use Rattle.answers.proofs.moved_to.Tie as tie
 
-enum-told : tie.Need-enum-told
-enum-told c = search needs
-
-enum-known-answer : tie.Need-enum-known-answer
-enum-known-answer c = search needs
-
-returns : tie.Need-returns
-returns c = search needs
-
 returns-2 : tie.Need-returns-2
 returns-2 c = sym (ap (movedTo (c .before .before .before .args .piece)) (c .before .answer .given .1))
 
 pub moved-to-spec : {M : Type 1} → statement M
-moved-to-spec = tie.close (tie.spec enum-told enum-known-answer returns returns-2)
+moved-to-spec = tie.close (tie.spec (λ c. search needs) (λ c. search needs) (λ c. search needs) returns-2)

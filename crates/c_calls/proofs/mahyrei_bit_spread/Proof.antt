@@ -8,14 +8,8 @@ use borrow.Author.Needs.{needs}
 use Rattle.c_calls.proofs.mahyrei_bit_spread.Statement.{statement}
 use Rattle.c_calls.proofs.mahyrei_bit_spread.Tie as tie
 
-mark-requires : tie.Need-mark-requires
-mark-requires c κs = search needs
-
 code-requires : tie.Need-code-requires
 code-requires c κs = rw (c .before .before .mark .ensures .0) (spread-fits _ _ _)
-
-same-length : tie.Need-same-length
-same-length c = search needs
 
 returns : tie.Need-returns
 returns c =
@@ -26,4 +20,4 @@ returns c =
     )
 
 pub mahyrei-bit-spread-spec : {M : Type 1} → statement M
-mahyrei-bit-spread-spec = tie.close (tie.spec mark-requires code-requires same-length returns)
+mahyrei-bit-spread-spec = tie.close (tie.spec (λ c κs. search needs) code-requires (λ c. search needs) returns)

@@ -8,20 +8,11 @@ use Rattle.c_calls.proofs.Steps.{coded, left}
 use Rattle.c_calls.proofs.mahyrei_delay_write.Statement.{statement}
 use Rattle.c_calls.proofs.mahyrei_delay_write.Tie as tie
 
-step-requires : tie.Need-step-requires
-step-requires c κs = search needs
-
-cast-code-with : tie.Need-cast-code-with
-cast-code-with c = search needs
-
 code-with-requires : tie.Need-code-with-requires
 code-with-requires c κs =
     let a = c .before .before .before .before .before .before .before .args in
     let r = c .before .before .before .step in
     (rw (r .ensures .0) (step-fits (a .header .now) (a .symbol) (length (a .area .now))), λ d. omega arith)
-
-same-length : tie.Need-same-length
-same-length c = search needs
 
 returns : tie.Need-returns
 returns c =
@@ -32,4 +23,4 @@ returns c =
     )
 
 pub mahyrei-delay-write-spec : {M : Type 1} → statement M
-mahyrei-delay-write-spec = tie.close (tie.spec step-requires cast-code-with code-with-requires same-length returns)
+mahyrei-delay-write-spec = tie.close (tie.spec (λ c κs. search needs) (λ c. search needs) code-with-requires (λ c. search needs) returns)

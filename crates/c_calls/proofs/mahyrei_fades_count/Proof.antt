@@ -9,16 +9,10 @@ use borrow.Author.Needs.{needs}
 use Rattle.c_calls.proofs.mahyrei_fades_count.Statement.{statement}
 use Rattle.c_calls.proofs.mahyrei_fades_count.Tie as tie
 
-count-requires : tie.Need-count-requires
-count-requires c κs = search needs
-
 code-requires : tie.Need-code-requires
 code-requires c κs =
     let a = c .before .before .before .before .before .before .before .args in
     rw (c .before .before .count .ensures .0) (fades-fit (a .header .now) (a .fades .now) (length (a .counts .now)))
-
-same-length : tie.Need-same-length
-same-length c = search needs
 
 returns : tie.Need-returns
 returns c =
@@ -29,4 +23,4 @@ returns c =
     )
 
 pub mahyrei-fades-count-spec : {M : Type 1} → statement M
-mahyrei-fades-count-spec = tie.close (tie.spec count-requires code-requires same-length returns)
+mahyrei-fades-count-spec = tie.close (tie.spec (λ c κs. search needs) code-requires (λ c. search needs) returns)

@@ -9,16 +9,10 @@ use borrow.Author.Needs.{needs}
 use Rattle.c_calls.proofs.mahyrei_header_narrow.Statement.{statement}
 use Rattle.c_calls.proofs.mahyrei_header_narrow.Tie as tie
 
-narrow-requires : tie.Need-narrow-requires
-narrow-requires c κs = search needs
-
 code-requires : tie.Need-code-requires
 code-requires c κs =
     let a = c .before .before .before .before .before .before .args in
     rw (c .before .before .narrow .ensures .0) (narrow-fits (a .ten .now) (length (a .eight .now)))
-
-same-length : tie.Need-same-length
-same-length c = search needs
 
 returns : tie.Need-returns
 returns c =
@@ -29,4 +23,4 @@ returns c =
     )
 
 pub mahyrei-header-narrow-spec : {M : Type 1} → statement M
-mahyrei-header-narrow-spec = tie.close (tie.spec narrow-requires code-requires same-length returns)
+mahyrei-header-narrow-spec = tie.close (tie.spec (λ c κs. search needs) code-requires (λ c. search needs) returns)

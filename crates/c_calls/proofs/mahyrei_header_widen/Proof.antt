@@ -9,16 +9,10 @@ use borrow.Author.Needs.{needs}
 use Rattle.c_calls.proofs.mahyrei_header_widen.Statement.{statement}
 use Rattle.c_calls.proofs.mahyrei_header_widen.Tie as tie
 
-widen-requires : tie.Need-widen-requires
-widen-requires c κs = search needs
-
 code-requires : tie.Need-code-requires
 code-requires c κs =
     let a = c .before .before .before .before .before .before .args in
     rw (c .before .before .widen .ensures .0) (widen-fits (a .eight .now) (length (a .ten .now)))
-
-same-length : tie.Need-same-length
-same-length c = search needs
 
 returns : tie.Need-returns
 returns c =
@@ -29,4 +23,4 @@ returns c =
     )
 
 pub mahyrei-header-widen-spec : {M : Type 1} → statement M
-mahyrei-header-widen-spec = tie.close (tie.spec widen-requires code-requires same-length returns)
+mahyrei-header-widen-spec = tie.close (tie.spec (λ c κs. search needs) code-requires (λ c. search needs) returns)

@@ -9,16 +9,10 @@ use borrow.Author.Needs.{needs}
 use Rattle.c_calls.proofs.mahyrei_pass_read.Statement.{statement}
 use Rattle.c_calls.proofs.mahyrei_pass_read.Tie as tie
 
-read-requires : tie.Need-read-requires
-read-requires c κs = search needs
-
 code-requires : tie.Need-code-requires
 code-requires c κs =
     let a = c .before .before .before .before .before .before .args in
     rw (c .before .before .read .ensures .0) (read-fits (a .rate) (a .words .now) (length (a .blocks .now)))
-
-same-length : tie.Need-same-length
-same-length c = search needs
 
 returns : tie.Need-returns
 returns c =
@@ -29,4 +23,4 @@ returns c =
     )
 
 pub mahyrei-pass-read-spec : {M : Type 1} → statement M
-mahyrei-pass-read-spec = tie.close (tie.spec read-requires code-requires same-length returns)
+mahyrei-pass-read-spec = tie.close (tie.spec (λ c κs. search needs) code-requires (λ c. search needs) returns)

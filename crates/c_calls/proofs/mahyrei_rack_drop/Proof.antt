@@ -6,14 +6,8 @@ use borrow.Author.Needs.{needs}
 use Rattle.c_calls.proofs.mahyrei_rack_drop.Statement.{statement}
 use Rattle.c_calls.proofs.mahyrei_rack_drop.Tie as tie
 
-drop-requires : tie.Need-drop-requires
-drop-requires c κs = search needs
-
 code-requires : tie.Need-code-requires
 code-requires c κs = rw (c .before .before .drop .ensures .0) (says-fits _ _)
-
-same-length : tie.Need-same-length
-same-length c = search needs
 
 returns : tie.Need-returns
 returns c =
@@ -21,4 +15,4 @@ returns c =
     (c .code .ensures ∙ ap codeOf (r .ensures .0), r .ensures .1)
 
 pub mahyrei-rack-drop-spec : {M : Type 1} → statement M
-mahyrei-rack-drop-spec = tie.close (tie.spec drop-requires code-requires same-length returns)
+mahyrei-rack-drop-spec = tie.close (tie.spec (λ c κs. search needs) code-requires (λ c. search needs) returns)

@@ -10,14 +10,8 @@ use borrow.Author.Needs.{needs}
 use Rattle.c_calls.proofs.mahyrei_rack_read.Statement.{statement}
 use Rattle.c_calls.proofs.mahyrei_rack_read.Tie as tie
 
-read-requires : tie.Need-read-requires
-read-requires c κs = search needs
-
 code-requires : tie.Need-code-requires
 code-requires c κs = rw (c .before .before .read .ensures .0) (says-fits _ _)
-
-same-length : tie.Need-same-length
-same-length c = search needs
 
 returns : tie.Need-returns
 returns c =
@@ -29,4 +23,4 @@ returns c =
     )
 
 pub mahyrei-rack-read-spec : {M : Type 1} → statement M
-mahyrei-rack-read-spec = tie.close (tie.spec read-requires code-requires same-length returns)
+mahyrei-rack-read-spec = tie.close (tie.spec (λ c κs. search needs) code-requires (λ c. search needs) returns)

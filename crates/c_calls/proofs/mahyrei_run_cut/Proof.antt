@@ -10,16 +10,10 @@ use borrow.Author.Needs.{needs}
 use Rattle.c_calls.proofs.mahyrei_run_cut.Statement.{statement}
 use Rattle.c_calls.proofs.mahyrei_run_cut.Tie as tie
 
-cut-out-requires : tie.Need-cut-out-requires
-cut-out-requires c κs = search needs
-
 code-requires : tie.Need-code-requires
 code-requires c κs =
     let a = c .before .before .before .before .before .before .before .args in
     rw (c .before .before .cut-out .ensures .0) (cut-fits (a .header .now) (length (a .capture .now)) (a .slot) (length (a .slots .now)))
-
-same-length : tie.Need-same-length
-same-length c = search needs
 
 returns : tie.Need-returns
 returns c =
@@ -30,4 +24,4 @@ returns c =
     )
 
 pub mahyrei-run-cut-spec : {M : Type 1} → statement M
-mahyrei-run-cut-spec = tie.close (tie.spec cut-out-requires code-requires same-length returns)
+mahyrei-run-cut-spec = tie.close (tie.spec (λ c κs. search needs) code-requires (λ c. search needs) returns)

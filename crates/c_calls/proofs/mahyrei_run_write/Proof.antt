@@ -9,16 +9,10 @@ use borrow.Author.Needs.{needs}
 use Rattle.c_calls.proofs.mahyrei_run_write.Statement.{statement}
 use Rattle.c_calls.proofs.mahyrei_run_write.Tie as tie
 
-write-requires : tie.Need-write-requires
-write-requires c κs = search needs
-
 code-requires : tie.Need-code-requires
 code-requires c κs =
     let a = c .before .before .before .before .before .before .before .before .args in
     rw (c .before .before .write .ensures .0) (write-fits (a .header .now) (a .marker .now) (a .frames .now) (length (a .slots .now)))
-
-same-length : tie.Need-same-length
-same-length c = search needs
 
 returns : tie.Need-returns
 returns c =
@@ -29,4 +23,4 @@ returns c =
     )
 
 pub mahyrei-run-write-spec : {M : Type 1} → statement M
-mahyrei-run-write-spec = tie.close (tie.spec write-requires code-requires same-length returns)
+mahyrei-run-write-spec = tie.close (tie.spec (λ c κs. search needs) code-requires (λ c. search needs) returns)

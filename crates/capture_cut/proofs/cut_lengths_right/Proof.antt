@@ -18,21 +18,12 @@ returns c =
     let a = c .before .args in
     sym (rw (lt-leb (a .capture-length) captureMost (c .if1 .taken)) refl)
 
-slot-bytes-requires : tie.Need-slot-bytes-requires
-slot-bytes-requires c κs = search needs
-
 returns-2 : tie.Need-returns-2
 unfolding cutLengthsRight
 returns-2 c =
     let a = (c .before .before .before) .args in
     let other : a .slots-length ≡ slotBytes (a .f) → ⊥ = λ e. c .if2 .taken (e ∙ sym (c .before .slot-bytes .ensures)) in
     sym (rw (le-leb (a .capture-length) captureMost ((c .before .before) .if1 .left), ne-eqb (a .slots-length) (slotBytes (a .f)) other) refl)
-
-slot-count-requires : tie.Need-slot-count-requires
-slot-count-requires c κs = search needs
-
-mul-if3 : tie.Need-mul-if3
-mul-if3 c = search needs
 
 returns-3 : tie.Need-returns-3
 unfolding cutLengthsRight
@@ -44,12 +35,6 @@ returns-3 c =
     let short : a .capture-length ≤ captureMost = (c .before .before .before .before) .if1 .left in
     let past = lt-leb (a .s + slotCount (a .f)) (8 * a .capture-length) (omega arith) in
     sym (rw (le-leb (a .capture-length) captureMost short, eq-eqb (a .slots-length) (slotBytes (a .f)) m, past) refl)
-
-mul-result : tie.Need-mul-result
-mul-result c = search needs
-
-sub-result : tie.Need-sub-result
-sub-result c = search needs
 
 returns-4 : tie.Need-returns-4
 unfolding cutLengthsRight
@@ -68,11 +53,11 @@ cut-lengths-right-spec =
     tie.close
     (tie.spec
     returns
-    slot-bytes-requires
+    (λ c κs. search needs)
     returns-2
-    slot-count-requires
-    mul-if3
+    (λ c κs. search needs)
+    (λ c. search needs)
     returns-3
-    mul-result
-    sub-result
+    (λ c. search needs)
+    (λ c. search needs)
     returns-4)

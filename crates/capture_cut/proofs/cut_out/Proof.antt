@@ -62,15 +62,6 @@ cut-made g f b s m count ef t e =
     let r = lengths-are f (length b) s m t in
     ap₂ (λ (k n : ℕ). bytesOf k (cut n (λ i. bitAt b (s + i)))) (r .slots-are) e ∙ ap (λ (h : Fields). cutOf h b s) ef
 
-header-says-requires : tie.Need-header-says-requires
-header-says-requires c κs = search needs
-
-enum-told : tie.Need-enum-told
-enum-told c = search needs
-
-enum-told-2 : tie.Need-enum-told-2
-enum-told-2 c = search needs
-
 returns : tie.Need-returns
 returns c =
     let a = (c .before .before .before .before .before .before) .args in
@@ -123,9 +114,6 @@ take-requires c κs =
     lies (f .result) (a .capture .now) (a .slot) (length (a .slots .now)) ((c .before) .slot-count .result) (g .0 .0) (g .1)
     (sym (l .ensures) ∙ not-false (l .result) ((c .before .before) .if1 .left)) ((c .before) .slot-count .ensures)
 
-same-length : tie.Need-same-length
-same-length c = search needs
-
 returns-3 : tie.Need-returns-3
 returns-3 c =
     let a = (c .before .before .before .before .before .before .before .before .before .before .before .before .before .before) .args in
@@ -146,14 +134,14 @@ pub cut-out-spec : {M : Type 1} → statement M
 cut-out-spec =
     tie.close
     (tie.spec
-    header-says-requires
-    enum-told
-    enum-told-2
+    (λ c κs. search needs)
+    (λ c. search needs)
+    (λ c. search needs)
     returns
     read-requires
     cut-lengths-right-requires
     returns-2
     slot-count-requires
     take-requires
-    same-length
+    (λ c. search needs)
     returns-3)

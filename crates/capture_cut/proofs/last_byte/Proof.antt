@@ -6,24 +6,6 @@ use borrow.Author.Needs.{needs}
 use Rattle.capture_cut.proofs.last_byte.Statement.{statement}
 use Rattle.capture_cut.proofs.last_byte.Tie as tie
 
-sub-if1 : tie.Need-sub-if1
-sub-if1 c = search needs
-
-byte-from-requires : tie.Need-byte-from-requires
-byte-from-requires c κs = search needs
-
-returns : tie.Need-returns
-returns c = search needs
-
-shared-slice-read-result : tie.Need-shared-slice-read-result
-shared-slice-read-result c = search needs
-
-cast-result : tie.Need-cast-result
-cast-result c = search needs
-
-shl-result : tie.Need-shl-result
-shl-result c = search needs
-
 returns-2 : tie.Need-returns-2
 returns-2 c =
     let a = (c .before .before .before) .args in
@@ -33,10 +15,10 @@ pub last-byte-spec : {M : Type 1} → statement M
 last-byte-spec =
     tie.close
     (tie.spec
-    sub-if1
-    byte-from-requires
-    returns
-    shared-slice-read-result
-    cast-result
-    shl-result
+    (λ c. search needs)
+    (λ c κs. search needs)
+    (λ c. search needs)
+    (λ c. search needs)
+    (λ c. search needs)
+    (λ c. search needs)
     returns-2)

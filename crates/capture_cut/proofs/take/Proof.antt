@@ -8,24 +8,6 @@ use borrow.Author.Needs.{needs}
 use Rattle.capture_cut.proofs.take.Statement.{statement}
 use Rattle.capture_cut.proofs.take.Tie as tie
 
-sub-last : tie.Need-sub-last
-sub-last c = search needs
-
-bytes-from-requires : tie.Need-bytes-from-requires
-bytes-from-requires c κs = search needs
-
-mul-last-byte : tie.Need-mul-last-byte
-mul-last-byte c = search needs
-
-add-last-byte : tie.Need-add-last-byte
-add-last-byte c = search needs
-
-last-byte-requires : tie.Need-last-byte-requires
-last-byte-requires c κs = search needs
-
-slice-write-slots : tie.Need-slice-write-slots
-slice-write-slots c = search needs
-
 clear-spare-requires : tie.Need-clear-spare-requires
 clear-spare-requires c κs =
     let s = c .before .before .before .before .before .before .before .before in
@@ -56,12 +38,12 @@ pub take-spec : {M : Type 1} → statement M
 take-spec =
     tie.close
     (tie.spec
-    sub-last
-    bytes-from-requires
-    mul-last-byte
-    add-last-byte
-    last-byte-requires
-    slice-write-slots
+    (λ c. search needs)
+    (λ c κs. search needs)
+    (λ c. search needs)
+    (λ c. search needs)
+    (λ c κs. search needs)
+    (λ c. search needs)
     clear-spare-requires
     same-length
     returns)

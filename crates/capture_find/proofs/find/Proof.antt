@@ -54,15 +54,6 @@ module _ (header marker b : List ℕ) (from : ℕ) (c : Checked) (e : c ≡ chec
         let m = marker-fine header marker (sym said ∙ g) in
         rw (check-parameters header marker c e g) (m .0, m .1, r .1)
 
-check-requires : tie.Need-check-requires
-check-requires c κs = search needs
-
-enum-told : tie.Need-enum-told
-enum-told c = search needs
-
-enum-told-2 : tie.Need-enum-told-2
-enum-told-2 c = search needs
-
 returns : tie.Need-returns
 returns c =
     let a = (c .before .before .before .before .before .before) .args in
@@ -71,9 +62,6 @@ returns c =
       refused (a .header .now) (a .marker .now) (a .capture .now) (a .from) (k .result) (k .ensures) (λ rest. stands (k .result .answer) rest keys),
       λ d. absurd (not-done (k .result .answer) keys d),
     )
-
-find-lengths-right-requires : tie.Need-find-lengths-right-requires
-find-lengths-right-requires c κs = search needs
 
 returns-2 : tie.Need-returns-2
 returns-2 c =
@@ -126,11 +114,11 @@ pub find-spec : {M : Type 1} → statement M
 find-spec =
     tie.close
     (tie.spec
-    check-requires
-    enum-told
-    enum-told-2
+    (λ c κs. search needs)
+    (λ c. search needs)
+    (λ c. search needs)
     returns
-    find-lengths-right-requires
+    (λ c κs. search needs)
     returns-2
     plan-of-requires
     seek-requires

@@ -7,9 +7,6 @@ use Rattle.capture_search.specs.Search.{findLengthsRight}
 use Rattle.capture_find.proofs.find_lengths_right.Statement.{statement}
 use Rattle.capture_find.proofs.find_lengths_right.Tie as tie
 
-marker-bytes-requires : tie.Need-marker-bytes-requires
-marker-bytes-requires c κs = search needs
-
 returns : tie.Need-returns
 unfolding findLengthsRight
 returns c =
@@ -24,4 +21,4 @@ returns-2 c =
     sym (rw (eq-eqb (a .marker-length) (markerBytes (a .f)) m) refl)
 
 pub find-lengths-right-spec : {M : Type 1} → statement M
-find-lengths-right-spec = tie.close (tie.spec marker-bytes-requires returns returns-2)
+find-lengths-right-spec = tie.close (tie.spec (λ c κs. search needs) returns returns-2)

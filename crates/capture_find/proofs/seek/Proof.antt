@@ -10,30 +10,15 @@ use Rattle.capture_find.proofs.seek.Tie as tie
 mul-n : tie.Need-mul-n
 mul-n c = let s = c .before .before in omega (arith, slots-most (s .args .p) (s .pre .0))
 
-mul-if1 : tie.Need-mul-if1
-mul-if1 c = search needs
-
 returns : tie.Need-returns
 returns c =
     let a = (c .before .before .before) .args in
     none-left (a .p) (a .b .now) (a .from) (omega arith)
 
-mul-end : tie.Need-mul-end
-mul-end c = search needs
-
-add-end : tie.Need-add-end
-add-end c = search needs
-
-sub-end : tie.Need-sub-end
-sub-end c = search needs
-
 returns-2 : tie.Need-returns-2
 returns-2 c =
     let a = (c .before .before .before .before) .args in
     none-left (a .p) (a .b .now) (a .from) (omega arith)
-
-first-fit-requires : tie.Need-first-fit-requires
-first-fit-requires c κs = search needs
 
 returns-3 : tie.Need-returns-3
 returns-3 c =
@@ -50,4 +35,4 @@ returns-4 c =
 pub seek-spec : {M : Type 1} → statement M
 seek-spec =
     tie.close
-    (tie.spec mul-n mul-if1 returns mul-end add-end sub-end returns-2 first-fit-requires returns-3 returns-4)
+    (tie.spec mul-n (λ c. search needs) returns (λ c. search needs) (λ c. search needs) (λ c. search needs) returns-2 (λ c κs. search needs) returns-3 returns-4)

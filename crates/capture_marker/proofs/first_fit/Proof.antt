@@ -18,16 +18,10 @@ sub-pulse-of c = let m = (c .before .before .before) .pre .fine .markers-least i
 pulse-of-requires-2 : tie.Need-pulse-of-requires-2
 pulse-of-requires-2 c κs = let h = (c .before .before .before) .pre .fine in (h, let m = h .markers-least in omega arith)
 
-slice-aggregate-put-marker : tie.Need-slice-aggregate-put-marker
-slice-aggregate-put-marker c = search needs
-
 put-marker-requires : tie.Need-put-marker-requires
 put-marker-requires c κs =
     let h = (c .before .before .before .before .before) .pre .fine in
     record { fine = h; long = length-replicate {A = ℕ} 1288 0; empty = λ k l. getD-replicate {A = ℕ} 1288 k 0 0 l }
-
-slice-aggregate-first-any : tie.Need-slice-aggregate-first-any
-slice-aggregate-first-any c = search needs
 
 first-any-requires : tie.Need-first-any-requires
 first-any-requires c κs =
@@ -70,8 +64,8 @@ first-fit-spec =
     pulse-of-requires
     sub-pulse-of
     pulse-of-requires-2
-    slice-aggregate-put-marker
+    (λ c. search needs)
     put-marker-requires
-    slice-aggregate-first-any
+    (λ c. search needs)
     first-any-requires
     returns)

@@ -8,18 +8,9 @@ use Rattle.capture_marker.proofs.pulse_of.Tie as tie
 mul-result : tie.Need-mul-result
 mul-result c = omega (arith, room (c .args .t1) (c .pre .0) (c .args .w) (c .pre .1))
 
-element-copy-out-result : tie.Need-element-copy-out-result
-element-copy-out-result c = search needs
-
-cast-result : tie.Need-cast-result
-cast-result c = search needs
-
 add-result : tie.Need-add-result
 add-result c = let s = c .before in omega (arith, room (s .args .t1) (s .pre .0) (s .args .w) (s .pre .1))
 
-returns : tie.Need-returns
-returns c = search needs
-
 pub pulse-of-spec : {M : Type 1} → statement M
 pulse-of-spec =
-    tie.close (tie.spec mul-result element-copy-out-result cast-result add-result returns)
+    tie.close (tie.spec mul-result (λ c. search needs) (λ c. search needs) add-result (λ c. search needs))

@@ -32,12 +32,6 @@ put-bit-requires c κs =
     let l = c .before .before .before .loop in
     omega (arith, room (s .args .p) (s .pre .fine) (l .w) (omega arith), c .pulse-of .ensures, l .inv .1, s .pre .long)
 
-add-w : tie.Need-add-w Inv-loop μ-loop
-add-w c = search needs
-
-loop-less : tie.Need-loop-less Inv-loop μ-loop
-loop-less c = search needs
-
 loop-again : tie.Need-loop-again Inv-loop μ-loop
 loop-again c =
     let s = c .before .before .before .before .before .before .before .before in
@@ -76,8 +70,8 @@ put-marker-spec =
     loop-holds
     pulse-of-requires
     put-bit-requires
-    add-w
-    loop-less
+    (λ c. search needs)
+    (λ c. search needs)
     loop-again
     same-length
     returns)

@@ -11,14 +11,8 @@ use Rattle.channel.proofs.first_place.Tie as tie
 below : (s : tie.Start) → s .args .c < s .args .n
 below s = let l : 0 < s .args .n = let h = s .pre .1 in omega arith in let m = mod-lt (s .args .start) l in let e = s .pre .0 in omega arith
 
-add-result : tie.Need-add-result
-add-result c = search needs
-
 sub-result : tie.Need-sub-result
 sub-result c = let l = below (c .before) in omega arith
-
-add-result-2 : tie.Need-add-result-2
-add-result-2 c = search needs
 
 returns : tie.Need-returns
 returns c =
@@ -30,9 +24,6 @@ returns c =
     let e : a .start + (a .r + a .n - a .c) ≡ (a .start / a .n + 1) * a .n + a .r = omega arith in
     (ap (λ (x : ℕ). x % a .n) e ∙ digits-mod (a .start / a .n + 1) (h .1), omega arith, omega arith)
 
-add-result-3 : tie.Need-add-result-3
-add-result-3 c = search needs
-
 returns-2 : tie.Need-returns-2
 returns-2 c =
     let a = c .before .args in
@@ -43,4 +34,4 @@ returns-2 c =
     (ap (λ (x : ℕ). x % a .n) e ∙ digits-mod (a .start / a .n) (h .1), omega arith, omega arith)
 
 pub first-place-spec : {M : Type 1} → statement M
-first-place-spec = tie.close (tie.spec add-result sub-result add-result-2 returns add-result-3 returns-2)
+first-place-spec = tie.close (tie.spec (λ c. search needs) sub-result (λ c. search needs) returns (λ c. search needs) returns-2)

@@ -7,9 +7,6 @@ use borrow.Author.Needs.{needs}
 use Rattle.channel.proofs.next.Statement.{statement}
 use Rattle.channel.proofs.next.Tie as tie
 
-add-n : tie.Need-add-n
-add-n c = search needs
-
 returns : tie.Need-returns
 returns c = sym (mod-eq-of-lt (c .if1 .taken))
 
@@ -20,4 +17,4 @@ returns-2 c =
     sym (ap (λ (n : ℕ). n % a .rows) e ∙ mod-self (a .rows))
 
 pub next-spec : {M : Type 1} → statement M
-next-spec = tie.close (tie.spec add-n returns returns-2)
+next-spec = tie.close (tie.spec (λ c. search needs) returns returns-2)

@@ -16,31 +16,10 @@ Inv-loop block k n r₀ j₀ r j = (j ≤ k) × (r ≡ register (bitAt block) j)
 abbrev μ-loop : tie.MeasureT-loop
 μ-loop block k n r₀ j₀ r j = k - j
 
-whole-bytes-requires : tie.Need-whole-bytes-requires Inv-loop μ-loop
-whole-bytes-requires c κs = search needs
-
-mul-j : tie.Need-mul-j Inv-loop μ-loop
-mul-j c = search needs
-
-loop-holds : tie.Need-loop-holds Inv-loop μ-loop
-loop-holds c = search needs
-
-bit-at-requires : tie.Need-bit-at-requires Inv-loop μ-loop
-bit-at-requires c κs = search needs
-
-cast-advance-bit : tie.Need-cast-advance-bit Inv-loop μ-loop
-cast-advance-bit c = search needs
-
 advance-bit-requires : tie.Need-advance-bit-requires Inv-loop μ-loop
 advance-bit-requires c κs =
     let block = c .before .before .before .before .before .args .block .now in
     omega (arith, c .bit-at .ensures, bit-lt block (c .before .before .loop .j))
-
-add-j : tie.Need-add-j Inv-loop μ-loop
-add-j c = search needs
-
-loop-less : tie.Need-loop-less Inv-loop μ-loop
-loop-less c = search needs
 
 loop-again : tie.Need-loop-again Inv-loop μ-loop
 unfolding register
@@ -66,13 +45,13 @@ check-spec =
     (tie.spec
     Inv-loop
     μ-loop
-    whole-bytes-requires
-    mul-j
-    loop-holds
-    bit-at-requires
-    cast-advance-bit
+    (λ c κs. search needs)
+    (λ c. search needs)
+    (λ c. search needs)
+    (λ c κs. search needs)
+    (λ c. search needs)
     advance-bit-requires
-    add-j
-    loop-less
+    (λ c. search needs)
+    (λ c. search needs)
     loop-again
     returns)

@@ -29,21 +29,6 @@ cast-eleven c =
     let block = c .before .before .before .before .args .block .now in
     omega (arith, register-lt (bitAt block) (bit-lt block) (64 * l .j))
 
-mul-eight : tie.Need-mul-eight Inv-loop μ-loop
-mul-eight c = search needs
-
-eight-requires : tie.Need-eight-requires Inv-loop μ-loop
-eight-requires c κs = search needs
-
-eleven-requires : tie.Need-eleven-requires Inv-loop μ-loop
-eleven-requires c κs = search needs
-
-add-j : tie.Need-add-j Inv-loop μ-loop
-add-j c = search needs
-
-loop-less : tie.Need-loop-less Inv-loop μ-loop
-loop-less c = search needs
-
 loop-again : tie.Need-loop-again Inv-loop μ-loop
 loop-again c =
     let l = c .before .before .before .loop in
@@ -69,10 +54,10 @@ by-eights-spec =
     μ-loop
     loop-holds
     cast-eleven
-    mul-eight
-    eight-requires
-    eleven-requires
-    add-j
-    loop-less
+    (λ c. search needs)
+    (λ c κs. search needs)
+    (λ c κs. search needs)
+    (λ c. search needs)
+    (λ c. search needs)
     loop-again
     returns)

@@ -16,20 +16,11 @@ Inv-loop block table n eights r₀ i₀ r i = (i ≤ n) × (r ≡ register (bitA
 abbrev μ-loop : tie.MeasureT-loop
 μ-loop block table n eights r₀ i₀ r i = n - i
 
-by-eights-requires : tie.Need-by-eights-requires Inv-loop μ-loop
-by-eights-requires c κs = search needs
-
-mul-i : tie.Need-mul-i Inv-loop μ-loop
-mul-i c = search needs
-
 loop-holds : tie.Need-loop-holds Inv-loop μ-loop
 loop-holds c =
     let a = c .before .before .before .args in
     let e : 64 * (a .n / 8) ≡ 8 * (8 * (a .n / 8)) = omega arith in
     (search needs, c .by-eights .ensures ∙ ap (register (bitAt (a .block .now))) e)
-
-shared-slice-read-two : tie.Need-shared-slice-read-two Inv-loop μ-loop
-shared-slice-read-two c = search needs
 
 cast-two : tie.Need-cast-two Inv-loop μ-loop
 cast-two c = omega (arith, c .shared-slice-known3 .given (c .before .before .loop .i))
@@ -39,12 +30,6 @@ two-requires c κs =
     let l = c .before .before .loop in
     let s = c .before .before .before .before .before .before in
     (s .pre .0, byte-lt (s .args .block .now) (l .i) (l .r) (c .shared-slice-known3 .given (l .i) .fits) (l .inv .1))
-
-add-i : tie.Need-add-i Inv-loop μ-loop
-add-i c = search needs
-
-loop-less : tie.Need-loop-less Inv-loop μ-loop
-loop-less c = search needs
 
 loop-again : tie.Need-loop-again Inv-loop μ-loop
 loop-again c =
@@ -68,13 +53,13 @@ by-tables-spec =
     (tie.spec
     Inv-loop
     μ-loop
-    by-eights-requires
-    mul-i
+    (λ c κs. search needs)
+    (λ c. search needs)
     loop-holds
-    shared-slice-read-two
+    (λ c. search needs)
     cast-two
     two-requires
-    add-i
-    loop-less
+    (λ c. search needs)
+    (λ c. search needs)
     loop-again
     returns)

@@ -22,15 +22,6 @@ loop-holds : tie.Need-loop-holds Inv-loop μ-loop
 unfolding xorSum
 loop-holds c = (search needs, refl)
 
-mul-r : tie.Need-mul-r Inv-loop μ-loop
-mul-r c = search needs
-
-mul-r-2 : tie.Need-mul-r-2 Inv-loop μ-loop
-mul-r-2 c = search needs
-
-shr-r : tie.Need-shr-r Inv-loop μ-loop
-shr-r c = search needs
-
 add-r : tie.Need-add-r Inv-loop μ-loop
 add-r c = omega (arith, mask-lt (c .before .before .args .v / 2 ^ (6 * c .before .loop .k)) 6)
 
@@ -41,12 +32,6 @@ shared-slice-read-r : tie.Need-shared-slice-read-r Inv-loop μ-loop
 shared-slice-read-r c =
     let s = c .before .before .before in
     omega (arith, s .pre .size, mask-lt (s .args .v / 2 ^ (6 * c .before .before .loop .k)) 6)
-
-add-k : tie.Need-add-k Inv-loop μ-loop
-add-k c = search needs
-
-loop-less : tie.Need-loop-less Inv-loop μ-loop
-loop-less c = search needs
 
 loop-again : tie.Need-loop-again Inv-loop μ-loop
 unfolding xorSum
@@ -75,13 +60,13 @@ eleven-spec =
     Inv-loop
     μ-loop
     loop-holds
-    mul-r
-    mul-r-2
-    shr-r
+    (λ c. search needs)
+    (λ c. search needs)
+    (λ c. search needs)
     add-r
     mul-r-3
     shared-slice-read-r
-    add-k
-    loop-less
+    (λ c. search needs)
+    (λ c. search needs)
     loop-again
     returns)

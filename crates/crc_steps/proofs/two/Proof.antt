@@ -19,18 +19,6 @@ mul-result c = omega (arith, mask-lt (c .args .b) 6)
 shared-slice-read-result : tie.Need-shared-slice-read-result
 shared-slice-read-result c = omega (arith, c .before .pre .0 .size, mask-lt (c .before .args .b) 6)
 
-add-result : tie.Need-add-result
-add-result c = search needs
-
-cast-result-2 : tie.Need-cast-result-2
-cast-result-2 c = search needs
-
-mul-result-2 : tie.Need-mul-result-2
-mul-result-2 c = search needs
-
-shared-slice-read-result-2 : tie.Need-shared-slice-read-result-2
-shared-slice-read-result-2 c = search needs
-
 returns : tie.Need-returns
 returns c =
     let s = c .before .before in
@@ -50,8 +38,8 @@ two-spec =
     cast-result
     mul-result
     shared-slice-read-result
-    add-result
-    cast-result-2
-    mul-result-2
-    shared-slice-read-result-2
+    (λ c. search needs)
+    (λ c. search needs)
+    (λ c. search needs)
+    (λ c. search needs)
     returns)

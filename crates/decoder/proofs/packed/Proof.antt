@@ -30,9 +30,6 @@ small : (s : tie.Start) → length (s .args .input .now) < 2 ^ 32
 unfolding inputBits
 small s = omega (arith, input-room (s .args .rate) (s .pre .decodes .rate-ok), s .pre .decodes .input-size)
 
-input-bits-requires : tie.Need-input-bits-requires
-input-bits-requires c κs = search needs
-
 slice-relend-prefix-unpacked : tie.Need-slice-relend-prefix-unpacked
 slice-relend-prefix-unpacked c = room-long (c .before .before .before .before) _ (c .input-bits .ensures)
 
@@ -74,12 +71,6 @@ pack-requires c κs =
     let e = part s n (d .before .before .input-bits .ensures) (d .unpacked .last .1 .1 .0) (d .unpacked .kept .1 .1 .0) ∙ d .unpacked .ensures in
     (small s, λ i. rw e (tab-bits (inputBits (s .args .rate)) (decode (s .args .rate) y) (decode-bits (s .args .rate) y (s .pre .decodes .coded-bits)) i))
 
-same-length : tie.Need-same-length
-same-length c = search needs
-
-same-length-2 : tie.Need-same-length-2
-same-length-2 c = search needs
-
 returns : tie.Need-returns
 returns c =
     let s = c .before .before .before .before .before .before .before .before .before .before .before .before .before in
@@ -98,13 +89,13 @@ pub packed-spec : {M : Type 1} → statement M
 packed-spec =
     tie.close
     (tie.spec
-    input-bits-requires
+    (λ c κs. search needs)
     slice-relend-prefix-unpacked
     slice-aggregate-unpacked
     unpacked-requires
     slice-reshare-prefix-pack
     slice-aggregate-pack
     pack-requires
-    same-length
-    same-length-2
+    (λ c. search needs)
+    (λ c. search needs)
     returns)

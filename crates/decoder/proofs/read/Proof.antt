@@ -14,12 +14,6 @@ use borrow.Author.Needs.{needs}
 use Rattle.decoder.proofs.read.Statement.{statement}
 use Rattle.decoder.proofs.read.Tie as tie
 
-quick-requires : tie.Need-quick-requires
-quick-requires c κs = search needs
-
-same-length : tie.Need-same-length
-same-length c = search needs
-
 returns : tie.Need-returns
 returns c =
     let s = c .before .before .before .before .before .before .before in
@@ -27,15 +21,6 @@ returns c =
     let none : q .result ≡ 0 = omega arith in
     let made = q .ensures none in
     (made-all (s .args .rate) (s .args .coded .now) (q .last .1 .1 .0) (s .pre .rate-ok) made, made-bits (s .args .rate) (s .args .coded .now) (q .last .1 .1 .0) (s .pre .rate-ok) made)
-
-decode-requires : tie.Need-decode-requires
-decode-requires c κs = search needs
-
-first-wrong-requires : tie.Need-first-wrong-requires
-first-wrong-requires c κs = search needs
-
-same-length-2 : tie.Need-same-length-2
-same-length-2 c = search needs
 
 returns-2 : tie.Need-returns-2
 returns-2 c =
@@ -54,10 +39,10 @@ pub read-spec : {M : Type 1} → statement M
 read-spec =
     tie.close
     (tie.spec
-    quick-requires
-    same-length
+    (λ c κs. search needs)
+    (λ c. search needs)
     returns
-    decode-requires
-    first-wrong-requires
-    same-length-2
+    (λ c κs. search needs)
+    (λ c κs. search needs)
+    (λ c. search needs)
     returns-2)

@@ -7,15 +7,6 @@ use Rattle.decoder.proofs.Agreeing.{same-made}
 use Rattle.decoder.proofs.remade.Statement.{statement}
 use Rattle.decoder.proofs.remade.Tie as tie
 
-encode-requires : tie.Need-encode-requires
-encode-requires c κs = search needs
-
-first-apart-requires : tie.Need-first-apart-requires
-first-apart-requires c κs = search needs
-
-same-length : tie.Need-same-length
-same-length c = search needs
-
 returns : tie.Need-returns
 returns c =
     let made = c .before .before .before .before in
@@ -24,4 +15,4 @@ returns c =
     ∙ same-made (encode (s .args .rate) (bitAt (s .args .input .now))) (made .encode .last .1 .1 .0) (s .args .coded .now) (made .encode .ensures)
 
 pub remade-spec : {M : Type 1} → statement M
-remade-spec = tie.close (tie.spec encode-requires first-apart-requires same-length returns)
+remade-spec = tie.close (tie.spec (λ c κs. search needs) (λ c κs. search needs) (λ c. search needs) returns)

@@ -32,26 +32,17 @@ pairs-requires c κs =
     let s = c .before .before .before .before in
     unpacks-two-thirds (s .args .rate) _ _ (s .pre) (omega (arith, s .pre .rate-ok, c .before .match .rest .1, c .before .match .rest .0 .1))
 
-same-length : tie.Need-same-length
-same-length c = search needs
-
 returns : tie.Need-returns
 unfolding inputBits infoBits
 returns c =
     let s = c .before .before .before .before .before .before .before in
     c .before .before .steps .ensures ∙ ap (at (λ j. getD (s .args .coded .now) j 0)) (sym (c .before .before .before .before .match .keys1))
 
-same-length-2 : tie.Need-same-length-2
-same-length-2 c = search needs
-
 returns-2 : tie.Need-returns-2
 unfolding inputBits infoBits
 returns-2 c =
     let s = c .before .before .before .before .before .before .before in
     c .before .before .steps2 .ensures ∙ ap (at (λ j. getD (s .args .coded .now) j 0)) (sym (c .before .before .before .before .match .keys2))
-
-same-length-3 : tie.Need-same-length-3
-same-length-3 c = search needs
 
 returns-3 : tie.Need-returns-3
 unfolding inputBits infoBits
@@ -68,9 +59,9 @@ unpacked-spec =
     steps-requires
     steps-requires-2
     pairs-requires
-    same-length
+    (λ c. search needs)
     returns
-    same-length-2
+    (λ c. search needs)
     returns-2
-    same-length-3
+    (λ c. search needs)
     returns-3)

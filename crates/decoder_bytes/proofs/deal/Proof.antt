@@ -26,17 +26,8 @@ add-out c = let h = c .before .before .pre .0 (c .before .loop .g) (omega arith)
 shared-slice-read-out : tie.Need-shared-slice-read-out Inv-loop μ-loop
 shared-slice-read-out c = c .before .before .before .pre .0 (c .before .before .loop .g) (omega arith)
 
-add-out-2 : tie.Need-add-out-2 Inv-loop μ-loop
-add-out-2 c = search needs
-
 slice-write-out : tie.Need-slice-write-out Inv-loop μ-loop
 slice-write-out c = let e = c .before .before .loop .inv .1 .long in omega arith
-
-add-g : tie.Need-add-g Inv-loop μ-loop
-add-g c = search needs
-
-loop-less : tie.Need-loop-less Inv-loop μ-loop
-loop-less c = search needs
 
 loop-again : tie.Need-loop-again Inv-loop μ-loop
 loop-again c =
@@ -63,10 +54,10 @@ deal-spec =
     mul-out
     add-out
     shared-slice-read-out
-    add-out-2
+    (λ c. search needs)
     slice-write-out
-    add-g
-    loop-less
+    (λ c. search needs)
+    (λ c. search needs)
     loop-again
     same-length
     returns)

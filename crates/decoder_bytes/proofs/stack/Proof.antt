@@ -30,15 +30,6 @@ add-deal c =
     let d = deals (s .args .t .x) (s .args .t .y) (s .args .t .step) (s .args .t .groups) (c .before .before .before .loop .j) (s .pre .0) (omega arith) in
     omega (arith, d .step, d .few, d .a-row, d .b-row)
 
-mul-deal-2 : tie.Need-mul-deal-2 Inv-loop μ-loop
-mul-deal-2 c = search needs
-
-mul-deal-3 : tie.Need-mul-deal-3 Inv-loop μ-loop
-mul-deal-3 c = search needs
-
-sub-deal : tie.Need-sub-deal Inv-loop μ-loop
-sub-deal c = search needs
-
 mul-deal-4 : tie.Need-mul-deal-4 Inv-loop μ-loop
 mul-deal-4 c =
     let s = c .before .before .before .before .before .before .before .before .before .before in
@@ -64,15 +55,6 @@ add-deal-2 c =
     let d = deals (s .args .t .x) (s .args .t .y) (s .args .t .step) (s .args .t .groups) (c .before .before .before .before .before .before .before .before .before .before .before .loop .j) (s .pre .0) (omega arith) in
     omega (arith, d .step, d .few, d .a-row, d .b-row)
 
-mul-deal-6 : tie.Need-mul-deal-6 Inv-loop μ-loop
-mul-deal-6 c = search needs
-
-mul-deal-7 : tie.Need-mul-deal-7 Inv-loop μ-loop
-mul-deal-7 c = search needs
-
-sub-deal-2 : tie.Need-sub-deal-2 Inv-loop μ-loop
-sub-deal-2 c = search needs
-
 mul-deal-8 : tie.Need-mul-deal-8 Inv-loop μ-loop
 mul-deal-8 c =
     let s = c .before .before .before .before .before .before .before .before .before .before .before .before .before .before .before .before .before .before in
@@ -86,12 +68,6 @@ deal-requires-2 c κs =
     let d = deals (s .args .t .x) (s .args .t .y) (s .args .t .step) (s .args .t .groups) (l .j) (s .pre .0) (omega arith) in
     (λ g h. omega (arith, d .inside (s .args .t .x) g (s .pre .0 .x-few) h, d .inside (s .args .t .y) g (s .pre .0 .y-few) h, s .pre .0 .a-size, s .pre .0 .b-size), omega (arith, d .b-row, l .inv .1))
 
-add-j : tie.Need-add-j Inv-loop μ-loop
-add-j c = search needs
-
-loop-less : tie.Need-loop-less Inv-loop μ-loop
-loop-less c = search needs
-
 loop-again : tie.Need-loop-again Inv-loop μ-loop
 loop-again c =
     let second = c .before .before .deal2 .ensures in
@@ -101,9 +77,6 @@ loop-again c =
       second .long ∙ first .long ∙ l .inv .1,
       stacked-more _ _ _ _ _ _ (l .j) _ _ _ (omega arith) first second (l .inv .2),
     )
-
-same-length : tie.Need-same-length Inv-loop μ-loop
-same-length c = search needs
 
 returns : tie.Need-returns Inv-loop μ-loop
 returns c = λ u g h. c .before .loop .inv .2 u g (omega arith)
@@ -117,20 +90,20 @@ stack-spec =
     loop-holds
     mul-deal
     add-deal
-    mul-deal-2
-    mul-deal-3
-    sub-deal
+    (λ c. search needs)
+    (λ c. search needs)
+    (λ c. search needs)
     mul-deal-4
     deal-requires
     mul-deal-5
     add-deal-2
-    mul-deal-6
-    mul-deal-7
-    sub-deal-2
+    (λ c. search needs)
+    (λ c. search needs)
+    (λ c. search needs)
     mul-deal-8
     deal-requires-2
-    add-j
-    loop-less
+    (λ c. search needs)
+    (λ c. search needs)
     loop-again
-    same-length
+    (λ c. search needs)
     returns)

@@ -5,27 +5,12 @@ use Rattle.decoder_bytes.proofs.Transposing.{deals, taken-made}
 use Rattle.decoder_bytes.proofs.take.Statement.{statement}
 use Rattle.decoder_bytes.proofs.take.Tie as tie
 
-slice-aggregate-stack : tie.Need-slice-aggregate-stack
-slice-aggregate-stack c = search needs
-
-stack-requires : tie.Need-stack-requires
-stack-requires c κs = search needs
-
-slice-aggregate-transposed : tie.Need-slice-aggregate-transposed
-slice-aggregate-transposed c = search needs
-
 transposed-requires : tie.Need-transposed-requires
 transposed-requires c κs =
     let s = c .before .before .before .before .before .before .before in
     let d = deals (s .args .t .x) (s .args .t .y) (s .args .t .step) (s .args .t .groups) 0 (s .pre .0) (omega arith) in
     let long = c .before .before .stack .kept .1 .1 .1 .0 in
     (d .some, omega (arith, d .few, long))
-
-slice-aggregate-copy-part : tie.Need-slice-aggregate-copy-part
-slice-aggregate-copy-part c = search needs
-
-mul-copy-part : tie.Need-mul-copy-part
-mul-copy-part c = search needs
 
 copy-part-requires : tie.Need-copy-part-requires
 copy-part-requires c κs =
@@ -34,9 +19,6 @@ copy-part-requires c κs =
     let t = c .before .before .before .before .transposed .ensures in
     let long = c .before .before .before .before .before .before .before .stack .kept .1 .1 .1 .0 in
     (omega (arith, d .few, long, t .long), omega (arith, s .pre .1))
-
-same-length : tie.Need-same-length
-same-length c = search needs
 
 returns : tie.Need-returns
 returns c =
@@ -48,12 +30,12 @@ pub take-spec : {M : Type 1} → statement M
 take-spec =
     tie.close
     (tie.spec
-    slice-aggregate-stack
-    stack-requires
-    slice-aggregate-transposed
+    (λ c. search needs)
+    (λ c κs. search needs)
+    (λ c. search needs)
     transposed-requires
-    slice-aggregate-copy-part
-    mul-copy-part
+    (λ c. search needs)
+    (λ c. search needs)
     copy-part-requires
-    same-length
+    (λ c. search needs)
     returns)

@@ -10,9 +10,6 @@ use borrow.Author.Needs.{needs}
 use Rattle.decoder_fast.proofs.by_rate.Statement.{statement}
 use Rattle.decoder_fast.proofs.by_rate.Tie as tie
 
-summed-requires : tie.Need-summed-requires
-summed-requires c κs = search needs
-
 thirds-requires : tie.Need-thirds-requires
 unfolding inputBits infoBits
 thirds-requires c κs =
@@ -34,44 +31,17 @@ two-thirds-requires c κs =
     let e : s .args .rate ≡ 2 = omega (arith, s .pre .0 .rate-ok, c .before .before .before .match .rest .1, c .before .before .before .match .rest .0 .1) in
     (c .before .before .before .before .before .before .before .before .summed .ensures, omega (arith, s .pre .0 .input-size ∙ ap inputBits e))
 
-same-length : tie.Need-same-length
-same-length c = search needs
-
-same-length-2 : tie.Need-same-length-2
-same-length-2 c = search needs
-
-same-length-3 : tie.Need-same-length-3
-same-length-3 c = search needs
-
 returns : tie.Need-returns
 returns c =
     let s = c .before .before .before .before .before .before .before .before .before .before .before .before .before .before .before .before .before .before in
     let e : s .args .rate ≡ 0 = c .before .before .before .before .before .before .match .keys1 in
     λ z j l. c .before .before .thirds .ensures z j l ∙ ap (λ (r : ℕ). encode r (bitAt (c .before .before .thirds .last .1 .1 .1 .0)) j) (sym e)
 
-same-length-4 : tie.Need-same-length-4
-same-length-4 c = search needs
-
-same-length-5 : tie.Need-same-length-5
-same-length-5 c = search needs
-
-same-length-6 : tie.Need-same-length-6
-same-length-6 c = search needs
-
 returns-2 : tie.Need-returns-2
 returns-2 c =
     let s = c .before .before .before .before .before .before .before .before .before .before .before .before .before .before .before .before .before .before in
     let e : s .args .rate ≡ 1 = c .before .before .before .before .before .before .match .keys2 in
     λ z j l. c .before .before .halves .ensures z j l ∙ ap (λ (r : ℕ). encode r (bitAt (c .before .before .halves .last .1 .1 .1 .0)) j) (sym e)
-
-same-length-7 : tie.Need-same-length-7
-same-length-7 c = search needs
-
-same-length-8 : tie.Need-same-length-8
-same-length-8 c = search needs
-
-same-length-9 : tie.Need-same-length-9
-same-length-9 c = search needs
 
 returns-3 : tie.Need-returns-3
 returns-3 c =
@@ -83,19 +53,19 @@ pub by-rate-spec : {M : Type 1} → statement M
 by-rate-spec =
     tie.close
     (tie.spec
-    summed-requires
+    (λ c κs. search needs)
     thirds-requires
     halves-requires
     two-thirds-requires
-    same-length
-    same-length-2
-    same-length-3
+    (λ c. search needs)
+    (λ c. search needs)
+    (λ c. search needs)
     returns
-    same-length-4
-    same-length-5
-    same-length-6
+    (λ c. search needs)
+    (λ c. search needs)
+    (λ c. search needs)
     returns-2
-    same-length-7
-    same-length-8
-    same-length-9
+    (λ c. search needs)
+    (λ c. search needs)
+    (λ c. search needs)
     returns-3)

@@ -6,15 +6,6 @@ use borrow.Author.Needs.{needs}
 use Rattle.decoder_fast.proofs.start_apart.Statement.{statement}
 use Rattle.decoder_fast.proofs.start_apart.Tie as tie
 
-shared-slice-read-result : tie.Need-shared-slice-read-result
-shared-slice-read-result c = search needs
-
-shared-slice-read-result-2 : tie.Need-shared-slice-read-result-2
-shared-slice-read-result-2 c = search needs
-
-shared-slice-read-result-3 : tie.Need-shared-slice-read-result-3
-shared-slice-read-result-3 c = search needs
-
 returns : tie.Need-returns
 returns c =
     λ z.
@@ -25,7 +16,7 @@ pub start-apart-spec : {M : Type 1} → statement M
 start-apart-spec =
     tie.close
     (tie.spec
-    shared-slice-read-result
-    shared-slice-read-result-2
-    shared-slice-read-result-3
+    (λ c. search needs)
+    (λ c. search needs)
+    (λ c. search needs)
     returns)

@@ -4,18 +4,6 @@ use borrow.Author.Needs.{needs}
 use Rattle.decoder_fast.proofs.summed.Statement.{statement}
 use Rattle.decoder_fast.proofs.summed.Tie as tie
 
-columns-requires : tie.Need-columns-requires
-columns-requires c κs = search needs
-
-twos-requires : tie.Need-twos-requires
-twos-requires c κs = search needs
-
-same-length : tie.Need-same-length
-same-length c = search needs
-
-same-length-2 : tie.Need-same-length-2
-same-length-2 c = search needs
-
 returns : tie.Need-returns
 returns c =
     let s = c .before .before .before .before .before .before .before .before .before .before .before .before in
@@ -26,8 +14,8 @@ pub summed-spec : {M : Type 1} → statement M
 summed-spec =
     tie.close
     (tie.spec
-    columns-requires
-    twos-requires
-    same-length
-    same-length-2
+    (λ c κs. search needs)
+    (λ c κs. search needs)
+    (λ c. search needs)
+    (λ c. search needs)
     returns)

@@ -5,24 +5,6 @@ use borrow.Author.Needs.{needs}
 use Rattle.decoder_fast.proofs.thirds.Statement.{statement}
 use Rattle.decoder_fast.proofs.thirds.Tie as tie
 
-take-requires : tie.Need-take-requires
-take-requires c κs = search needs
-
-shared-slice-read-start-apart : tie.Need-shared-slice-read-start-apart
-shared-slice-read-start-apart c = search needs
-
-start-apart-requires : tie.Need-start-apart-requires
-start-apart-requires c κs = search needs
-
-apart-requires : tie.Need-apart-requires
-apart-requires c κs = search needs
-
-apart-requires-2 : tie.Need-apart-requires-2
-apart-requires-2 c κs = search needs
-
-same-length : tie.Need-same-length
-same-length c = search needs
-
 returns : tie.Need-returns
 returns c =
     let s = c .before .before .before .before .before .before .before .before .before .before .before .before in
@@ -36,10 +18,10 @@ pub thirds-spec : {M : Type 1} → statement M
 thirds-spec =
     tie.close
     (tie.spec
-    take-requires
-    shared-slice-read-start-apart
-    start-apart-requires
-    apart-requires
-    apart-requires-2
-    same-length
+    (λ c κs. search needs)
+    (λ c. search needs)
+    (λ c κs. search needs)
+    (λ c κs. search needs)
+    (λ c κs. search needs)
+    (λ c. search needs)
     returns)

@@ -5,36 +5,6 @@ use borrow.Author.Needs.{needs}
 use Rattle.decoder_fast.proofs.two_thirds.Statement.{statement}
 use Rattle.decoder_fast.proofs.two_thirds.Tie as tie
 
-slice-aggregate-fives : tie.Need-slice-aggregate-fives
-slice-aggregate-fives c = search needs
-
-fives-requires : tie.Need-fives-requires
-fives-requires c κs = search needs
-
-slice-aggregate-take : tie.Need-slice-aggregate-take
-slice-aggregate-take c = search needs
-
-take-requires : tie.Need-take-requires
-take-requires c κs = search needs
-
-array-read-start-apart : tie.Need-array-read-start-apart
-array-read-start-apart c = search needs
-
-start-apart-requires : tie.Need-start-apart-requires
-start-apart-requires c κs = search needs
-
-slice-aggregate-apart : tie.Need-slice-aggregate-apart
-slice-aggregate-apart c = search needs
-
-slice-aggregate-apart-2 : tie.Need-slice-aggregate-apart-2
-slice-aggregate-apart-2 c = search needs
-
-apart-requires : tie.Need-apart-requires
-apart-requires c κs = search needs
-
-same-length : tie.Need-same-length
-same-length c = search needs
-
 returns : tie.Need-returns
 returns c =
     let s = c .before .before .before .before .before .before .before .before .before .before .before .before .before .before .before .before in
@@ -49,14 +19,14 @@ pub two-thirds-spec : {M : Type 1} → statement M
 two-thirds-spec =
     tie.close
     (tie.spec
-    slice-aggregate-fives
-    fives-requires
-    slice-aggregate-take
-    take-requires
-    array-read-start-apart
-    start-apart-requires
-    slice-aggregate-apart
-    slice-aggregate-apart-2
-    apart-requires
-    same-length
+    (λ c. search needs)
+    (λ c κs. search needs)
+    (λ c. search needs)
+    (λ c κs. search needs)
+    (λ c. search needs)
+    (λ c κs. search needs)
+    (λ c. search needs)
+    (λ c. search needs)
+    (λ c κs. search needs)
+    (λ c. search needs)
     returns)

@@ -11,9 +11,6 @@ use Rattle.delay_rows.proofs.exchange.Tie as tie
 returns : tie.Need-returns
 returns c = let a = c .before .args in (rw (eq-eqb (a .lag) 0 (c .if1 .taken)) refl, rw (eq-eqb (a .lag) 0 (c .if1 .taken)) refl)
 
-rem-at : tie.Need-rem-at
-rem-at c = search needs
-
 add-at : tie.Need-add-at
 add-at c =
     let a = c .before .args in
@@ -32,13 +29,10 @@ slice-write-area c =
     let r : a .turn % a .lag < a .lag = mod-lt (a .turn) (omega arith) in
     omega arith
 
-same-length : tie.Need-same-length
-same-length c = search needs
-
 returns-2 : tie.Need-returns-2
 returns-2 c = let a = c .before .before .args in (rw (ne-eqb (a .lag) 0 (c .before .if1 .left)) refl, rw (ne-eqb (a .lag) 0 (c .before .if1 .left)) refl)
 
 pub exchange-spec : {M : Type 1} → statement M
 exchange-spec =
     tie.close
-    (tie.spec returns rem-at add-at slice-read-oldest slice-write-area same-length returns-2)
+    (tie.spec returns (λ c. search needs) add-at slice-read-oldest slice-write-area (λ c. search needs) returns-2)

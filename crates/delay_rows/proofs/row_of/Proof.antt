@@ -19,9 +19,6 @@ read : (side : Side) (rows step i : ℕ) → side ≡ Reading → i < rows → R
 read side rows step i e l =
     rw e record { begins = let b = read-begin rows step i (omega arith) in omega arith; lags = refl }
 
-enum-told : tie.Need-enum-told
-enum-told c = search needs
-
 mul-t6 : tie.Need-mul-t6
 mul-t6 c =
     let a = c .before .before .args in
@@ -46,18 +43,6 @@ mul-t10 c =
     let b : a .step ≤ 256 = omega arith in
     omega (arith, mul-le-mul i b)
 
-enum-told-2 : tie.Need-enum-told-2
-enum-told-2 c = search needs
-
-mul-t11 : tie.Need-mul-t11
-mul-t11 c = search needs
-
-sub-t12 : tie.Need-sub-t12
-sub-t12 c = search needs
-
-sub-t13 : tie.Need-sub-t13
-sub-t13 c = search needs
-
 mul-t14 : tie.Need-mul-t14
 mul-t14 c =
     let a = c .before .before .args in
@@ -72,12 +57,6 @@ mul-t15 c =
     let n : 2 * a .rows - 1 - a .i ≤ 256 = omega arith in
     let b : a .step ≤ 256 = omega arith in
     omega (arith, mul-le-mul b (mul-le-mul i n))
-
-sub-t17 : tie.Need-sub-t17
-sub-t17 c = search needs
-
-sub-t18 : tie.Need-sub-t18
-sub-t18 c = search needs
 
 mul-t19 : tie.Need-mul-t19
 mul-t19 c =
@@ -96,19 +75,19 @@ pub row-of-spec : {M : Type 1} → statement M
 row-of-spec =
     tie.close
     (tie.spec
-    enum-told
+    (λ c. search needs)
     mul-t6
     sub-t7
     mul-t8
     mul-t10
-    enum-told-2
-    mul-t11
-    sub-t12
-    sub-t13
+    (λ c. search needs)
+    (λ c. search needs)
+    (λ c. search needs)
+    (λ c. search needs)
     mul-t14
     mul-t15
-    sub-t17
-    sub-t18
+    (λ c. search needs)
+    (λ c. search needs)
     mul-t19
     returns
     returns-2)

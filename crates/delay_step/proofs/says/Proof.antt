@@ -55,15 +55,6 @@ module _ (header : List ℕ) (q n : ℕ) (e : headerSays header ≡ Done) (f : F
     taken : q < order → Done ≡ stepSays header q n
     taken l = sym (symbol-asked ∙ rw (lt-ltb q order l) refl)
 
-header-says-requires : tie.Need-header-says-requires
-header-says-requires c κs = search needs
-
-enum-told : tie.Need-enum-told
-enum-told c = search needs
-
-enum-told-2 : tie.Need-enum-told-2
-enum-told-2 c = search needs
-
 returns : tie.Need-returns
 returns c =
     let a = (c .before .before .before .before) .args in
@@ -124,9 +115,9 @@ pub says-spec : {M : Type 1} → statement M
 says-spec =
     tie.close
     (tie.spec
-    header-says-requires
-    enum-told
-    enum-told-2
+    (λ c κs. search needs)
+    (λ c. search needs)
+    (λ c. search needs)
     returns
     read-requires
     interleaver-delay-requires

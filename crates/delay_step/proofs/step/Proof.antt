@@ -63,15 +63,6 @@ module _ (side : Side) (header : List ℕ) (n q : ℕ) (area : List ℕ) (a : An
           ∙ ap (λ (g : Fields). leaves side g n q area) ef
           ∙ sym (ap (λ (x : Answer). after x (leaves side (fieldsOf header) n q area) area) done)
 
-says-requires : tie.Need-says-requires
-says-requires c κs = search needs
-
-enum-told : tie.Need-enum-told
-enum-told c = search needs
-
-enum-told-2 : tie.Need-enum-told-2
-enum-told-2 c = search needs
-
 returns : tie.Need-returns
 returns c =
     let a = (c .before .before .before .before .before) .args in
@@ -121,9 +112,6 @@ exchange-requires c κs =
     inside (a .side) (a .header .now) (a .n) (a .symbol) (a .area .now) (s .result) (s .ensures) ((c .before .before .before) .enum-told .given .1) (f .result) (f .ensures)
     (r .result .begin) (r .result .lag) (r .ensures)
 
-same-length : tie.Need-same-length
-same-length c = search needs
-
 returns-2 : tie.Need-returns-2
 returns-2 c =
     let a = (c .before .before .before .before .before .before .before .before .before .before .before) .args in
@@ -145,9 +133,9 @@ pub step-spec : {M : Type 1} → statement M
 step-spec =
     tie.close
     (tie.spec
-    says-requires
-    enum-told
-    enum-told-2
+    (λ c κs. search needs)
+    (λ c. search needs)
+    (λ c. search needs)
     returns
     read-requires
     rem-row-of
@@ -155,5 +143,5 @@ step-spec =
     div-exchange
     cast-exchange
     exchange-requires
-    same-length
+    (λ c. search needs)
     returns-2)

@@ -31,24 +31,15 @@ two-thirds-requires c κs =
     let s = c .before .before .before .before in
     encodes-two-thirds (s .args .rate) _ _ (s .pre) (omega (arith, s .pre .rate-ok, c .before .match .rest .1, c .before .match .rest .0 .1))
 
-same-length : tie.Need-same-length
-same-length c = search needs
-
 returns : tie.Need-returns
 returns c =
     let s = c .before .before .before .before .before .before .before in
     c .before .before .thirds .ensures ∙ ap (at (bitAt (s .args .input .now))) (sym (c .before .before .before .before .match .keys1))
 
-same-length-2 : tie.Need-same-length-2
-same-length-2 c = search needs
-
 returns-2 : tie.Need-returns-2
 returns-2 c =
     let s = c .before .before .before .before .before .before .before in
     c .before .before .halves .ensures ∙ ap (at (bitAt (s .args .input .now))) (sym (c .before .before .before .before .match .keys2))
-
-same-length-3 : tie.Need-same-length-3
-same-length-3 c = search needs
 
 returns-3 : tie.Need-returns-3
 returns-3 c =
@@ -64,9 +55,9 @@ encode-spec =
     thirds-requires
     halves-requires
     two-thirds-requires
-    same-length
+    (λ c. search needs)
     returns
-    same-length-2
+    (λ c. search needs)
     returns-2
-    same-length-3
+    (λ c. search needs)
     returns-3)

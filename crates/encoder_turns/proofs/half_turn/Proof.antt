@@ -30,23 +30,11 @@ mul-put-low-eight c = omega (arith, mask-lt (c .before .before .before .args .w 
 shared-slice-read-put-low-eight : tie.Need-shared-slice-read-put-low-eight
 shared-slice-read-put-low-eight c = omega (arith, mask-lt (c .before .before .before .before .args .w / 2 ^ 4) 6, c .before .before .before .before .pre .0 .long)
 
-put-low-eight-requires : tie.Need-put-low-eight-requires
-put-low-eight-requires c κs = search needs
-
-add-put-low-eight : tie.Need-add-put-low-eight
-add-put-low-eight c = search needs
-
 mul-put-low-eight-2 : tie.Need-mul-put-low-eight-2
 mul-put-low-eight-2 c = omega (arith, mask-lt (c .before .before .before .before .before .before .before .before .args .w) 6)
 
 shared-slice-read-put-low-eight-2 : tie.Need-shared-slice-read-put-low-eight-2
 shared-slice-read-put-low-eight-2 c = omega (arith, mask-lt (c .before .before .before .before .before .before .before .before .before .args .w) 6, c .before .before .before .before .before .before .before .before .before .pre .0 .long)
-
-put-low-eight-requires-2 : tie.Need-put-low-eight-requires-2
-put-low-eight-requires-2 c κs = search needs
-
-same-length : tie.Need-same-length
-same-length c = search needs
 
 returns : tie.Need-returns
 returns c =
@@ -64,10 +52,10 @@ half-turn-spec =
     (tie.spec
     mul-put-low-eight
     shared-slice-read-put-low-eight
-    put-low-eight-requires
-    add-put-low-eight
+    (λ c κs. search needs)
+    (λ c. search needs)
     mul-put-low-eight-2
     shared-slice-read-put-low-eight-2
-    put-low-eight-requires-2
-    same-length
+    (λ c κs. search needs)
+    (λ c. search needs)
     returns)

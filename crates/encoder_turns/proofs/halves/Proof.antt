@@ -24,20 +24,8 @@ shared-slice-read-byte c = omega (arith, c .before .before .before .before .befo
 pushed-requires : tie.Need-pushed-requires Inv-loop μ-loop
 pushed-requires c κs = omega (arith, coding-small 1 8 16 _ (bit-lt _) _ _ _ (c .before .before .loop .inv .1))
 
-mul-half-turn : tie.Need-mul-half-turn Inv-loop μ-loop
-mul-half-turn c = search needs
-
 half-turn-requires : tie.Need-half-turn-requires Inv-loop μ-loop
 half-turn-requires c κs = (c .before .before .before .before .before .before .before .before .pre .0, omega (arith, c .before .before .before .before .loop .inv .1 .filled .size))
-
-cast-before : tie.Need-cast-before Inv-loop μ-loop
-cast-before c = search needs
-
-add-i : tie.Need-add-i Inv-loop μ-loop
-add-i c = search needs
-
-loop-less : tie.Need-loop-less Inv-loop μ-loop
-loop-less c = search needs
 
 loop-again : tie.Need-loop-again Inv-loop μ-loop
 loop-again c =
@@ -63,11 +51,11 @@ halves-spec =
     loop-holds
     shared-slice-read-byte
     pushed-requires
-    mul-half-turn
+    (λ c. search needs)
     half-turn-requires
-    cast-before
-    add-i
-    loop-less
+    (λ c. search needs)
+    (λ c. search needs)
+    (λ c. search needs)
     loop-again
     same-length
     returns)

@@ -18,20 +18,11 @@ abbrev μ-loop : tie.MeasureT-loop
 loop-holds : tie.Need-loop-holds Inv-loop μ-loop
 loop-holds c = (search needs, coding-none 2 16 24 _ _ (c .before .before .before .pre .1 .coded-size))
 
-mul-pushed : tie.Need-mul-pushed Inv-loop μ-loop
-mul-pushed c = search needs
-
 shared-slice-read-pushed : tie.Need-shared-slice-read-pushed Inv-loop μ-loop
 shared-slice-read-pushed c = omega (arith, c .before .before .before .before .before .before .pre .1 .input-size)
 
 pushed-requires : tie.Need-pushed-requires Inv-loop μ-loop
 pushed-requires c κs = omega (arith, coding-small 2 16 24 _ (bit-lt _) _ _ _ (c .before .before .loop .inv .1))
-
-mul-byte : tie.Need-mul-byte Inv-loop μ-loop
-mul-byte c = search needs
-
-add-byte : tie.Need-add-byte Inv-loop μ-loop
-add-byte c = search needs
 
 shared-slice-read-byte : tie.Need-shared-slice-read-byte Inv-loop μ-loop
 shared-slice-read-byte c = omega (arith, c .before .before .before .before .before .before .before .before .pre .1 .input-size)
@@ -41,20 +32,8 @@ pushed-requires-2 c κs =
     let l = c .before .before .before .before .loop in
     omega (arith, c .before .pushed .ensures, c .before .before .shared-slice-known3 .given (2 * l .i), coding-small 2 16 24 _ (bit-lt _) _ _ _ (l .inv .1))
 
-mul-two-thirds-turn : tie.Need-mul-two-thirds-turn Inv-loop μ-loop
-mul-two-thirds-turn c = search needs
-
 two-thirds-turn-requires : tie.Need-two-thirds-turn-requires Inv-loop μ-loop
 two-thirds-turn-requires c κs = (c .before .before .before .before .before .before .before .before .before .before .pre .0, omega (arith, c .before .before .before .before .before .before .loop .inv .1 .filled .size))
-
-cast-before : tie.Need-cast-before Inv-loop μ-loop
-cast-before c = search needs
-
-add-i : tie.Need-add-i Inv-loop μ-loop
-add-i c = search needs
-
-loop-less : tie.Need-loop-less Inv-loop μ-loop
-loop-less c = search needs
 
 loop-again : tie.Need-loop-again Inv-loop μ-loop
 loop-again c =
@@ -79,18 +58,18 @@ two-thirds-spec =
     Inv-loop
     μ-loop
     loop-holds
-    mul-pushed
+    (λ c. search needs)
     shared-slice-read-pushed
     pushed-requires
-    mul-byte
-    add-byte
+    (λ c. search needs)
+    (λ c. search needs)
     shared-slice-read-byte
     pushed-requires-2
-    mul-two-thirds-turn
+    (λ c. search needs)
     two-thirds-turn-requires
-    cast-before
-    add-i
-    loop-less
+    (λ c. search needs)
+    (λ c. search needs)
+    (λ c. search needs)
     loop-again
     same-length
     returns)

@@ -51,15 +51,6 @@ module _ (header fades : List ℕ) (n : ℕ) (done : headerSays header ≡ Done)
   unfolding fadesSay
   said-22 e = rw (done, eq-eqb n (blockCount (fieldsOf header)) (e ∙ words-are)) (ap (λ (k : ℕ). ask (listGood k fades) 22 0) (sym count-is))
 
-header-says-requires : tie.Need-header-says-requires
-header-says-requires c κs = search needs
-
-enum-told : tie.Need-enum-told
-enum-told c = search needs
-
-enum-told-2 : tie.Need-enum-told-2
-enum-told-2 c = search needs
-
 returns : tie.Need-returns
 returns c =
     let a = c .before .before .before .before .before .before .args in
@@ -111,9 +102,6 @@ mul-good c =
     let small = small-run (a .header .now) (a .fades .now) (length (a .counts .now)) done (g .result) eg in
     omega arith
 
-good-requires : tie.Need-good-requires
-good-requires c κs = search needs
-
 returns-3 : tie.Need-returns-3
 returns-3 c =
     let a = c .before .before .before .before .before .before .before .before .before .before .before .before .before .before .args in
@@ -127,9 +115,6 @@ returns-3 c =
           ∙ ask-no (listGood (channel.layoutSymbols (g .result)) (a .fades .now)) 22 0 (sym (k .ensures) ∙ not-true (k .result) (c .if2 .taken))),
       refl,
     )
-
-clear-requires : tie.Need-clear-requires
-clear-requires c κs = search needs
 
 walk-requires : tie.Need-walk-requires
 walk-requires c κs =
@@ -147,9 +132,6 @@ walk-requires c κs =
       long = z .ensures .0 ∙ long;
       zeros = λ j l. z .ensures .1 j (omega arith);
     }
-
-same-length : tie.Need-same-length
-same-length c = search needs
 
 returns-4 : tie.Need-returns-4
 returns-4 c =
@@ -170,18 +152,18 @@ pub count-spec : {M : Type 1} → statement M
 count-spec =
     tie.close
     (tie.spec
-    header-says-requires
-    enum-told
-    enum-told-2
+    (λ c κs. search needs)
+    (λ c. search needs)
+    (λ c. search needs)
     returns
     read-requires
     layout-of-requires
     returns-2
     add-good
     mul-good
-    good-requires
+    (λ c κs. search needs)
     returns-3
-    clear-requires
+    (λ c κs. search needs)
     walk-requires
-    same-length
+    (λ c. search needs)
     returns-4)

@@ -14,13 +14,10 @@ returns-2 c =
     let a = c .before .before .args in
     sym (rw (le-leb 1 (a .size) (omega arith), lt-leb (a .end) (a .first) (omega arith)) refl)
 
-add-result : tie.Need-add-result
-add-result c = search needs
-
 returns-3 : tie.Need-returns-3
 returns-3 c =
     let a = c .before .before .args in
     sym (rw (le-leb 1 (a .size) (omega arith), le-leb (a .end) (a .first) (omega arith)) refl)
 
 pub fits-spec : {M : Type 1} → statement M
-fits-spec = tie.close (tie.spec returns returns-2 add-result returns-3)
+fits-spec = tie.close (tie.spec returns returns-2 (λ c. search needs) returns-3)

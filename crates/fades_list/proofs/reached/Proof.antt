@@ -11,15 +11,6 @@ use Rattle.fades_list.proofs.reached.Tie as tie
 returns : tie.Need-returns
 returns c = let s = c .before .before in sym (none-left (s .args .fades .now) (s .args .i) (s .args .s) (s .pre) (omega arith))
 
-mul-wide : tie.Need-mul-wide
-mul-wide c = search needs
-
-shared-slice-read-wide : tie.Need-shared-slice-read-wide
-shared-slice-read-wide c = search needs
-
-wide-requires : tie.Need-wide-requires
-wide-requires c κs = search needs
-
 returns-2 : tie.Need-returns-2
 returns-2 c =
     let s = c .before .before .before .before in
@@ -27,4 +18,4 @@ returns-2 c =
     ∙ sym (one-left (s .args .fades .now) (s .args .i) (s .args .s) (s .pre) (omega arith))
 
 pub reached-spec : {M : Type 1} → statement M
-reached-spec = tie.close (tie.spec returns mul-wide shared-slice-read-wide wide-requires returns-2)
+reached-spec = tie.close (tie.spec returns (λ c. search needs) (λ c. search needs) (λ c κs. search needs) returns-2)

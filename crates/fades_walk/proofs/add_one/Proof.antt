@@ -5,24 +5,6 @@ use borrow.Author.Needs.{needs}
 use Rattle.fades_walk.proofs.add_one.Statement.{statement}
 use Rattle.fades_walk.proofs.add_one.Tie as tie
 
-mul-counts : tie.Need-mul-counts
-mul-counts c = search needs
-
-slice-read-counts : tie.Need-slice-read-counts
-slice-read-counts c = search needs
-
-add-counts : tie.Need-add-counts
-add-counts c = search needs
-
-mul-counts-2 : tie.Need-mul-counts-2
-mul-counts-2 c = search needs
-
-slice-write-counts : tie.Need-slice-write-counts
-slice-write-counts c = search needs
-
-same-length : tie.Need-same-length
-same-length c = search needs
-
 returns : tie.Need-returns
 returns c = let s = c .before .before in plus-here (s .args .j) (s .args .counts .now) (omega arith)
 
@@ -33,11 +15,11 @@ pub add-one-spec : {M : Type 1} → statement M
 add-one-spec =
     tie.close
     (tie.spec
-    mul-counts
-    slice-read-counts
-    add-counts
-    mul-counts-2
-    slice-write-counts
-    same-length
+    (λ c. search needs)
+    (λ c. search needs)
+    (λ c. search needs)
+    (λ c. search needs)
+    (λ c. search needs)
+    (λ c. search needs)
     returns
     returns-2)

@@ -6,9 +6,6 @@ use borrow.Author.Needs.{needs}
 use Rattle.fades_walk.proofs.count_one.Statement.{statement}
 use Rattle.fades_walk.proofs.count_one.Tie as tie
 
-reached-requires : tie.Need-reached-requires
-reached-requires c κs = search needs
-
 returns : tie.Need-returns
 returns c =
     let s = c .before .before .before .before in
@@ -16,14 +13,8 @@ returns c =
     added-none (s .args .g) (s .pre .0 .symbols-least) (s .args .fades .now) (s .args .a .symbol) (s .args .counts .now) (s .args .counts .now)
     (s .pre .3 .long) (sym (r .ensures) ∙ not-true (r .result) (c .if1 .taken)) refl
 
-word-at-requires : tie.Need-word-at-requires
-word-at-requires c κs = search needs
-
 add-one-requires : tie.Need-add-one-requires
 add-one-requires c κs = let s = c .before .before .before .before .before .before in s .pre .3 .room (c .word-at .result)
-
-same-length : tie.Need-same-length
-same-length c = search needs
 
 returns-2 : tie.Need-returns-2
 returns-2 c =
@@ -37,4 +28,4 @@ returns-2 c =
 pub count-one-spec : {M : Type 1} → statement M
 count-one-spec =
     tie.close
-    (tie.spec reached-requires returns word-at-requires add-one-requires same-length returns-2)
+    (tie.spec (λ c κs. search needs) returns (λ c κs. search needs) add-one-requires (λ c. search needs) returns-2)

@@ -6,9 +6,6 @@ use borrow.Author.Needs.{needs}
 use Rattle.fades_walk.proofs.next.Statement.{statement}
 use Rattle.fades_walk.proofs.next.Tie as tie
 
-add-symbol : tie.Need-add-symbol
-add-symbol c = search needs
-
 add-column : tie.Need-add-column
 add-column c = let s = c .before .before in omega (arith, column-small (s .args .g) (s .pre .0) (s .args .a) (s .pre .1))
 
@@ -20,9 +17,6 @@ add-place c = let s = c .before .before .before .before in omega (arith, place-s
 
 next-requires : tie.Need-next-requires
 next-requires c κs = let s = c .before .before .before .before in (residue-small (s .args .g) (s .pre .0) (s .args .a) (s .pre .1), s .pre .0 .rows-most)
-
-add-if2 : tie.Need-add-if2
-add-if2 c = search needs
 
 returns-2 : tie.Need-returns-2
 returns-2 c =
@@ -39,4 +33,4 @@ returns-3 c =
 pub next-spec : {M : Type 1} → statement M
 next-spec =
     tie.close
-    (tie.spec add-symbol add-column returns add-place next-requires add-if2 returns-2 returns-3)
+    (tie.spec (λ c. search needs) add-column returns add-place next-requires (λ c. search needs) returns-2 returns-3)

@@ -17,12 +17,6 @@ Inv-loop g fades counts₀ n a₀ i₀ counts a i = (n ≡ channel.layoutSymbols
 abbrev μ-loop : tie.MeasureT-loop
 μ-loop g fades counts₀ n a₀ i₀ counts a i = n - a .symbol
 
-add-n : tie.Need-add-n Inv-loop μ-loop
-add-n c = search needs
-
-mul-n : tie.Need-mul-n Inv-loop μ-loop
-mul-n c = search needs
-
 loop-holds : tie.Need-loop-holds Inv-loop μ-loop
 loop-holds c =
     let s = c .before .before .before .before in
@@ -38,15 +32,6 @@ count-one-requires c κs =
     let few = s .pre .small .count-most in
     (s .pre .small, l .inv .2, l .inv .3, counted-room (s .args .g) (s .args .fades .now) (l .a .symbol) (l .counts) (omega arith) (l .inv .4))
 
-past-requires : tie.Need-past-requires Inv-loop μ-loop
-past-requires c κs = search needs
-
-next-requires : tie.Need-next-requires Inv-loop μ-loop
-next-requires c κs = search needs
-
-loop-less : tie.Need-loop-less Inv-loop μ-loop
-loop-less c = search needs
-
 loop-again : tie.Need-loop-again Inv-loop μ-loop
 loop-again c =
     let s = c .before .before .before .before .before .before .before .before .before .before .before .before .before in
@@ -59,9 +44,6 @@ loop-again c =
       rw on (c .before .past .ensures),
       rw on (counted-more (s .args .g) (s .args .fades .now) (l .a .symbol) (l .counts) (o .last .1 .1 .1 .1 .0) (l .inv .4) (o .ensures)),
     )
-
-same-length : tie.Need-same-length Inv-loop μ-loop
-same-length c = search needs
 
 returns : tie.Need-returns Inv-loop μ-loop
 returns c =
@@ -76,13 +58,13 @@ walk-spec =
     (tie.spec
     Inv-loop
     μ-loop
-    add-n
-    mul-n
+    (λ c. search needs)
+    (λ c. search needs)
     loop-holds
     count-one-requires
-    past-requires
-    next-requires
-    loop-less
+    (λ c κs. search needs)
+    (λ c κs. search needs)
+    (λ c. search needs)
     loop-again
-    same-length
+    (λ c. search needs)
     returns)

@@ -17,15 +17,6 @@ returns c =
     let e = s .pre .1 .column-is in
     marker-word g (s .pre .0 .symbols-least) (s .args .a .symbol) (omega arith)
 
-mul-hit-by : tie.Need-mul-hit-by
-mul-hit-by c = search needs
-
-hit-by-requires : tie.Need-hit-by-requires
-hit-by-requires c κs = search needs
-
-div-result : tie.Need-div-result
-div-result c = search needs
-
 returns-2 : tie.Need-returns-2
 unfolding sourceOf
 returns-2 c =
@@ -37,4 +28,4 @@ returns-2 c =
     ∙ source-word g (s .pre .0 .symbols-least) (a .symbol) (omega arith)
 
 pub word-at-spec : {M : Type 1} → statement M
-word-at-spec = tie.close (tie.spec returns mul-hit-by hit-by-requires div-result returns-2)
+word-at-spec = tie.close (tie.spec returns (λ c. search needs) (λ c κs. search needs) (λ c. search needs) returns-2)

@@ -7,9 +7,6 @@ use borrow.Author.Needs.{needs}
 use Rattle.header_answers.proofs.factor_says.Statement.{statement}
 use Rattle.header_answers.proofs.factor_says.Tie as tie
 
-question20-requires : tie.Need-question20-requires
-question20-requires c κs = search needs
-
 returns : tie.Need-returns
 returns c =
     let q = c .before .question20 in
@@ -21,4 +18,4 @@ returns-2 c =
     sym (ask-yes (question20 (c .before .before .args .f)) 20 0 (sym (q .ensures) ∙ not-false (q .result) (c .if1 .left)))
 
 pub factor-says-spec : {M : Type 1} → statement M
-factor-says-spec = tie.close (tie.spec question20-requires returns returns-2)
+factor-says-spec = tie.close (tie.spec (λ c κs. search needs) returns returns-2)

@@ -5,20 +5,11 @@ use borrow.Author.Needs.{needs}
 use Rattle.header_answers.proofs.fields_say.Statement.{statement}
 use Rattle.header_answers.proofs.fields_say.Tie as tie
 
-question2-requires : tie.Need-question2-requires
-question2-requires c κs = search needs
-
 returns : tie.Need-returns
 returns c = search (say2, failed)
 
-question3-requires : tie.Need-question3-requires
-question3-requires c κs = search needs
-
 returns-2 : tie.Need-returns-2
 returns-2 c = search (say3, passed, failed)
-
-question4-requires : tie.Need-question4-requires
-question4-requires c κs = search needs
 
 returns-3 : tie.Need-returns-3
 returns-3 c = search (say4, passed, failed)
@@ -29,14 +20,8 @@ question5-requires c κs = shaped-by (c .before .before .before .before .before 
 returns-4 : tie.Need-returns-4
 returns-4 c = search (say5, passed, failed)
 
-question6-requires : tie.Need-question6-requires
-question6-requires c κs = search needs
-
 returns-5 : tie.Need-returns-5
 returns-5 c = search (say6, passed, failed)
-
-question7-requires : tie.Need-question7-requires
-question7-requires c κs = search needs
 
 returns-6 : tie.Need-returns-6
 returns-6 c = search (say7, passed, failed)
@@ -48,16 +33,16 @@ pub fields-say-spec : {M : Type 1} → statement M
 fields-say-spec =
     tie.close
     (tie.spec
-    question2-requires
+    (λ c κs. search needs)
     returns
-    question3-requires
+    (λ c κs. search needs)
     returns-2
-    question4-requires
+    (λ c κs. search needs)
     returns-3
     question5-requires
     returns-4
-    question6-requires
+    (λ c κs. search needs)
     returns-5
-    question7-requires
+    (λ c κs. search needs)
     returns-6
     returns-7)

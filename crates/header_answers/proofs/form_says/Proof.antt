@@ -7,18 +7,12 @@ use borrow.Author.Needs.{needs}
 use Rattle.header_answers.proofs.form_says.Statement.{statement}
 use Rattle.header_answers.proofs.form_says.Tie as tie
 
-question1-requires : tie.Need-question1-requires
-question1-requires c κs = search needs
-
 returns : tie.Need-returns
 unfolding formSays
 returns c = let h = c .before .before .before .args .header .now in say1 (question1 h) (fieldsOf h) (search failed)
 
 read-requires : tie.Need-read-requires
 read-requires c κs = question1-long (c .before .before .before .args .header .now) (search passed)
-
-fields-say-requires : tie.Need-fields-say-requires
-fields-say-requires c κs = search needs
 
 returns-2 : tie.Need-returns-2
 unfolding formSays
@@ -28,4 +22,4 @@ returns-2 c =
 
 pub form-says-spec : {M : Type 1} → statement M
 form-says-spec =
-    tie.close (tie.spec question1-requires returns read-requires fields-say-requires returns-2)
+    tie.close (tie.spec (λ c κs. search needs) returns read-requires (λ c κs. search needs) returns-2)

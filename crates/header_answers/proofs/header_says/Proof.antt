@@ -17,15 +17,6 @@ use Rattle.header_answers.proofs.header_says.Tie as tie
 passed : (c : tie.After-enum-told) → formSays (c .before .before .before .before .args .header .now) ≡ Done
 passed c = sym (c .before .before .form-says .ensures) ∙ c .enum-told .given .1
 
-form-says-requires : tie.Need-form-says-requires
-form-says-requires c κs = search needs
-
-enum-told : tie.Need-enum-told
-enum-told c = search needs
-
-enum-told-2 : tie.Need-enum-told-2
-enum-told-2 c = search needs
-
 returns : tie.Need-returns
 unfolding headerSays
 returns c =
@@ -36,9 +27,6 @@ returns c =
 
 read-requires : tie.Need-read-requires
 read-requires c κs = let l = form-good (c .before .before .before .before .args .header .now) (passed c) .long in omega arith
-
-factor-says-requires : tie.Need-factor-says-requires
-factor-says-requires c κs = search needs
 
 returns-2 : tie.Need-returns-2
 unfolding headerSays
@@ -51,10 +39,10 @@ pub header-says-spec : {M : Type 1} → statement M
 header-says-spec =
     tie.close
     (tie.spec
-    form-says-requires
-    enum-told
-    enum-told-2
+    (λ c κs. search needs)
+    (λ c. search needs)
+    (λ c. search needs)
     returns
     read-requires
-    factor-says-requires
+    (λ c κs. search needs)
     returns-2)

@@ -7,18 +7,12 @@ use borrow.Author.Needs.{needs}
 use Rattle.header_answers.proofs.old_says.Statement.{statement}
 use Rattle.header_answers.proofs.old_says.Tie as tie
 
-old-question1-requires : tie.Need-old-question1-requires
-old-question1-requires c κs = search needs
-
 returns : tie.Need-returns
 unfolding oldSays
 returns c = let h = c .before .before .before .args .old .now in say1 (oldQuestion1 h) (fieldsOf h) (search failed)
 
 read-requires : tie.Need-read-requires
 read-requires c κs = old-long (c .before .before .before .args .old .now) (search passed)
-
-fields-say-requires : tie.Need-fields-say-requires
-fields-say-requires c κs = search needs
 
 returns-2 : tie.Need-returns-2
 unfolding oldSays
@@ -28,4 +22,4 @@ returns-2 c =
 
 pub old-says-spec : {M : Type 1} → statement M
 old-says-spec =
-    tie.close (tie.spec old-question1-requires returns read-requires fields-say-requires returns-2)
+    tie.close (tie.spec (λ c κs. search needs) returns read-requires (λ c κs. search needs) returns-2)

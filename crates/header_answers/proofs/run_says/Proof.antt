@@ -25,15 +25,6 @@ looked c =
     ap (λ (f : Fields). marksGood f (c .before .before .before .before .before .before .before .args .marker .now)) (sym (c .before .read .ensures))
     ∙ sym (c .marks-good .ensures)
 
-form-says-requires : tie.Need-form-says-requires
-form-says-requires c κs = search needs
-
-enum-told : tie.Need-enum-told
-enum-told c = search needs
-
-enum-told-2 : tie.Need-enum-told-2
-enum-told-2 c = search needs
-
 returns : tie.Need-returns
 unfolding runSays
 returns c =
@@ -53,9 +44,6 @@ returns-2 : tie.Need-returns-2
 unfolding runSays
 returns-2 c = sym (rw (passed (c .before .before .before), looked (c .before) ∙ not-true _ (c .if1 .taken)) refl)
 
-factor-says-requires : tie.Need-factor-says-requires
-factor-says-requires c κs = search needs
-
 returns-3 : tie.Need-returns-3
 unfolding runSays
 returns-3 c =
@@ -67,12 +55,12 @@ pub run-says-spec : {M : Type 1} → statement M
 run-says-spec =
     tie.close
     (tie.spec
-    form-says-requires
-    enum-told
-    enum-told-2
+    (λ c κs. search needs)
+    (λ c. search needs)
+    (λ c. search needs)
     returns
     read-requires
     marks-good-requires
     returns-2
-    factor-says-requires
+    (λ c κs. search needs)
     returns-3)

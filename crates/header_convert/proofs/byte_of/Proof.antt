@@ -6,9 +6,6 @@ use Rattle.header_convert.specs.Inner.{byteOf}
 use Rattle.header_convert.proofs.byte_of.Statement.{statement}
 use Rattle.header_convert.proofs.byte_of.Tie as tie
 
-shared-slice-read-result : tie.Need-shared-slice-read-result
-shared-slice-read-result c = search needs
-
 returns : tie.Need-returns
 unfolding byteOf
 returns c = let i = c .before .before .args .i in sym (rw (lt-ltb i 6 (c .before .if1 .taken)) refl)
@@ -22,4 +19,4 @@ unfolding byteOf
 returns-3 c = let i = c .before .before .args .i in sym (rw (le-ltb i 6 (c .before .if1 .left), ne-eqb i 6 (c .if2 .left)) refl)
 
 pub byte-of-spec : {M : Type 1} → statement M
-byte-of-spec = tie.close (tie.spec shared-slice-read-result returns returns-2 returns-3)
+byte-of-spec = tie.close (tie.spec (λ c. search needs) returns returns-2 returns-3)

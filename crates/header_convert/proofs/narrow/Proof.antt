@@ -25,15 +25,6 @@ good c = sym (c .before .before .header-says .ensures) ∙ c .enum-told .given .
 long : (c : tie.After-enum-told) → length (c .before .before .before .before .before .args .header .now) ≡ 10
 long c = header-good (c .before .before .before .before .before .args .header .now) (good c) .long
 
-header-says-requires : tie.Need-header-says-requires
-header-says-requires c κs = search needs
-
-enum-told : tie.Need-enum-told
-enum-told c = search needs
-
-enum-told-2 : tie.Need-enum-told-2
-enum-told-2 c = search needs
-
 returns : tie.Need-returns
 unfolding narrowSays
 returns c =
@@ -71,9 +62,6 @@ returns-3 c =
 fill-requires : tie.Need-fill-requires
 fill-requires c κs = let l = long (c .before .before .before .before .before) in omega arith
 
-same-length : tie.Need-same-length
-same-length c = search needs
-
 returns-4 : tie.Need-returns-4
 unfolding narrowSays
 returns-4 c =
@@ -90,13 +78,13 @@ pub narrow-spec : {M : Type 1} → statement M
 narrow-spec =
     tie.close
     (tie.spec
-    header-says-requires
-    enum-told
-    enum-told-2
+    (λ c κs. search needs)
+    (λ c. search needs)
+    (λ c. search needs)
     returns
     returns-2
     read-requires
     returns-3
     fill-requires
-    same-length
+    (λ c. search needs)
     returns-4)

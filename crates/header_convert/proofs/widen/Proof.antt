@@ -20,15 +20,6 @@ use Rattle.header_convert.proofs.widen.Tie as tie
 good : (c : tie.After-enum-told) → oldSays (c .before .before .before .before .before .args .old .now) ≡ Done
 good c = sym (c .before .before .old-says .ensures) ∙ c .enum-told .given .1
 
-old-says-requires : tie.Need-old-says-requires
-old-says-requires c κs = search needs
-
-enum-told : tie.Need-enum-told
-enum-told c = search needs
-
-enum-told-2 : tie.Need-enum-told-2
-enum-told-2 c = search needs
-
 returns : tie.Need-returns
 unfolding widenSays
 returns c =
@@ -49,9 +40,6 @@ returns-2 c =
 fill-requires : tie.Need-fill-requires
 fill-requires c κs = let l = old-good (c .before .before .before .before .before .before .before .args .old .now) (good (c .before .before)) .long in omega arith
 
-same-length : tie.Need-same-length
-same-length c = search needs
-
 returns-3 : tie.Need-returns-3
 unfolding widenSays
 returns-3 c =
@@ -66,11 +54,11 @@ pub widen-spec : {M : Type 1} → statement M
 widen-spec =
     tie.close
     (tie.spec
-    old-says-requires
-    enum-told
-    enum-told-2
+    (λ c κs. search needs)
+    (λ c. search needs)
+    (λ c. search needs)
     returns
     returns-2
     fill-requires
-    same-length
+    (λ c. search needs)
     returns-3)

@@ -18,12 +18,6 @@ Inv-loop marker n order i₀ i = (i ≤ n) × (upTo (below order marker) i n ≡
 abbrev μ-loop : tie.MeasureT-loop
 μ-loop marker n order i₀ i = n - i
 
-lent-marks-requires : tie.Need-lent-marks-requires Inv-loop μ-loop
-lent-marks-requires c κs = search needs
-
-pulse-order-requires : tie.Need-pulse-order-requires Inv-loop μ-loop
-pulse-order-requires c κs = search needs
-
 loop-holds : tie.Need-loop-holds Inv-loop μ-loop
 loop-holds c = (omega arith, refl)
 
@@ -44,12 +38,6 @@ returns c =
     let n = c .before .before .before .before .before .lent-marks in
     sym (under-no (order .result) (n .result) (s .args .marker .now) (l .i) (omega arith) (c .if1 .taken) (l .inv .1))
     ∙ ap₂ (λ (o n : ℕ). allUnder o n (s .args .marker .now)) (order .ensures) (n .ensures)
-
-add-i : tie.Need-add-i Inv-loop μ-loop
-add-i c = search needs
-
-loop-less : tie.Need-loop-less Inv-loop μ-loop
-loop-less c = search needs
 
 loop-again : tie.Need-loop-again Inv-loop μ-loop
 loop-again c =
@@ -75,13 +63,13 @@ marks-good-spec =
     (tie.spec
     Inv-loop
     μ-loop
-    lent-marks-requires
-    pulse-order-requires
+    (λ c κs. search needs)
+    (λ c κs. search needs)
     loop-holds
     shared-slice-read-if1
     cast-if1
     returns
-    add-i
-    loop-less
+    (λ c. search needs)
+    (λ c. search needs)
     loop-again
     returns-2)

@@ -9,12 +9,6 @@ use borrow.Author.Needs.{needs}
 use Rattle.header_sizes.proofs.block_count.Statement.{statement}
 use Rattle.header_sizes.proofs.block_count.Tie as tie
 
-info-bits-requires : tie.Need-info-bits-requires
-info-bits-requires c κs = search needs
-
-marked-bits-requires : tie.Need-marked-bits-requires
-marked-bits-requires c κs = search needs
-
 sub-result : tie.Need-sub-result
 sub-result c = omega (arith, info-some (c .before .before .args .f) (c .before .before .pre))
 
@@ -33,4 +27,4 @@ returns c = ap₂ (λ (t k : ℕ). (t + (k - 1)) / k) (c .marked-bits .ensures) 
 pub block-count-spec : {M : Type 1} → statement M
 block-count-spec =
     tie.close
-    (tie.spec info-bits-requires marked-bits-requires sub-result add-result div-result returns)
+    (tie.spec (λ c κs. search needs) (λ c κs. search needs) sub-result add-result div-result returns)

@@ -8,9 +8,6 @@ use borrow.Author.Needs.{needs}
 use Rattle.header_sizes.proofs.interleaver_delay.Statement.{statement}
 use Rattle.header_sizes.proofs.interleaver_delay.Tie as tie
 
-sub-result : tie.Need-sub-result
-sub-result c = search needs
-
 mul-result : tie.Need-mul-result
 mul-result c = omega (arith, pairs-most (c .before .before .args .f) (c .before .before .pre))
 
@@ -26,4 +23,4 @@ unfolding interleaverDelay
 returns c = refl
 
 pub interleaver-delay-spec : {M : Type 1} → statement M
-interleaver-delay-spec = tie.close (tie.spec sub-result mul-result mul-result-2 returns)
+interleaver-delay-spec = tie.close (tie.spec (λ c. search needs) mul-result mul-result-2 returns)

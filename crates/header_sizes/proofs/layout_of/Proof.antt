@@ -5,15 +5,6 @@ use borrow.Author.Needs.{needs}
 use Rattle.header_sizes.proofs.layout_of.Statement.{statement}
 use Rattle.header_sizes.proofs.layout_of.Tie as tie
 
-symbols-per-word-requires : tie.Need-symbols-per-word-requires
-symbols-per-word-requires c κs = search needs
-
-block-count-requires : tie.Need-block-count-requires
-block-count-requires c κs = search needs
-
-line-count-requires : tie.Need-line-count-requires
-line-count-requires c κs = search needs
-
 returns : tie.Need-returns
 unfolding layoutOf
 returns c =
@@ -26,4 +17,4 @@ returns c =
 pub layout-of-spec : {M : Type 1} → statement M
 layout-of-spec =
     tie.close
-    (tie.spec symbols-per-word-requires block-count-requires line-count-requires returns)
+    (tie.spec (λ c κs. search needs) (λ c κs. search needs) (λ c κs. search needs) returns)

@@ -9,12 +9,6 @@ use borrow.Author.Needs.{needs}
 use Rattle.header_sizes.proofs.marked_bits.Statement.{statement}
 use Rattle.header_sizes.proofs.marked_bits.Tie as tie
 
-mul-result : tie.Need-mul-result
-mul-result c = search needs
-
-add-result : tie.Need-add-result
-add-result c = search needs
-
 mul-result-2 : tie.Need-mul-result-2
 unfolding markedBits
 mul-result-2 c =
@@ -27,4 +21,4 @@ unfolding markedBits
 returns c = refl
 
 pub marked-bits-spec : {M : Type 1} → statement M
-marked-bits-spec = tie.close (tie.spec mul-result add-result mul-result-2 returns)
+marked-bits-spec = tie.close (tie.spec (λ c. search needs) (λ c. search needs) mul-result-2 returns)

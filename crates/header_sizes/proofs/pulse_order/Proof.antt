@@ -7,9 +7,6 @@ use borrow.Author.Needs.{needs}
 use Rattle.header_sizes.proofs.pulse_order.Statement.{statement}
 use Rattle.header_sizes.proofs.pulse_order.Tie as tie
 
-shl-result : tie.Need-shl-result
-shl-result c = search needs
-
 returns : tie.Need-returns
 unfolding pulseOrder
 returns c =
@@ -18,4 +15,4 @@ returns c =
     omega arith
 
 pub pulse-order-spec : {M : Type 1} → statement M
-pulse-order-spec = tie.close (tie.spec shl-result returns)
+pulse-order-spec = tie.close (tie.spec (λ c. search needs) returns)

@@ -12,9 +12,6 @@ returns : tie.Need-returns
 unfolding sentSymbols
 returns c = ap (λ (n : ℕ). n * c .before .before .args .f .copies) (c .before .symbol-count .ensures)
 
-symbol-count-requires : tie.Need-symbol-count-requires
-symbol-count-requires c κs = search needs
-
 mul-result : tie.Need-mul-result
 mul-result c =
     let f = c .before .before .args .f in
@@ -22,4 +19,4 @@ mul-result c =
     omega (arith, sent-most f (c .before .before .pre .0) (c .before .before .pre .1))
 
 pub sent-symbols-spec : {M : Type 1} → statement M
-sent-symbols-spec = tie.close (tie.spec symbol-count-requires mul-result returns)
+sent-symbols-spec = tie.close (tie.spec (λ c κs. search needs) mul-result returns)

@@ -15,21 +15,12 @@ returns c =
     (ap₂ (λ (a b : ℕ). a * b) (c .before .before .block-count .ensures) (c .before .symbols-per-word .ensures))
     (c .interleaver-delay .ensures)
 
-block-count-requires : tie.Need-block-count-requires
-block-count-requires c κs = search needs
-
-symbols-per-word-requires : tie.Need-symbols-per-word-requires
-symbols-per-word-requires c κs = search needs
-
 mul-result : tie.Need-mul-result
 mul-result c =
     let f = c .before .before .args .f in
     let e : c .before .block-count .result * c .symbols-per-word .result ≡ blockCount f * symbolsPerWord f =
     ap₂ (λ (a b : ℕ). a * b) (c .before .block-count .ensures) (c .symbols-per-word .ensures) in
     omega (arith, coded-most f (c .before .before .pre))
-
-interleaver-delay-requires : tie.Need-interleaver-delay-requires
-interleaver-delay-requires c κs = search needs
 
 add-result : tie.Need-add-result
 add-result c =
@@ -41,9 +32,9 @@ pub sequence-length-spec : {M : Type 1} → statement M
 sequence-length-spec =
     tie.close
     (tie.spec
-    block-count-requires
-    symbols-per-word-requires
+    (λ c κs. search needs)
+    (λ c κs. search needs)
     mul-result
-    interleaver-delay-requires
+    (λ c κs. search needs)
     add-result
     returns)

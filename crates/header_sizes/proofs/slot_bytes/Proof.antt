@@ -8,9 +8,6 @@ use borrow.Author.Needs.{needs}
 use Rattle.header_sizes.proofs.slot_bytes.Statement.{statement}
 use Rattle.header_sizes.proofs.slot_bytes.Tie as tie
 
-slot-count-requires : tie.Need-slot-count-requires
-slot-count-requires c κs = search needs
-
 add-result : tie.Need-add-result
 add-result c = omega (arith, slot-most (c .before .args .f) (c .before .pre .0) (c .before .pre .1))
 
@@ -19,4 +16,4 @@ unfolding slotBytes
 returns c = ap (λ (n : ℕ). (n + 7) / 8) (c .slot-count .ensures)
 
 pub slot-bytes-spec : {M : Type 1} → statement M
-slot-bytes-spec = tie.close (tie.spec slot-count-requires add-result returns)
+slot-bytes-spec = tie.close (tie.spec (λ c κs. search needs) add-result returns)

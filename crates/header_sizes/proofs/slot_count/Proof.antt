@@ -12,12 +12,6 @@ returns : tie.Need-returns
 unfolding slotCount sentSymbols
 returns c = ap₂ (λ (a b : ℕ). a * b) (c .before .sent-symbols .ensures) (c .slots-per-symbol .ensures)
 
-sent-symbols-requires : tie.Need-sent-symbols-requires
-sent-symbols-requires c κs = search needs
-
-slots-per-symbol-requires : tie.Need-slots-per-symbol-requires
-slots-per-symbol-requires c κs = search needs
-
 mul-result : tie.Need-mul-result
 mul-result c =
     let f = c .before .before .args .f in
@@ -26,4 +20,4 @@ mul-result c =
 
 pub slot-count-spec : {M : Type 1} → statement M
 slot-count-spec =
-    tie.close (tie.spec sent-symbols-requires slots-per-symbol-requires mul-result returns)
+    tie.close (tie.spec (λ c κs. search needs) (λ c κs. search needs) mul-result returns)

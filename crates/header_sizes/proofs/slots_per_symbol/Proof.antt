@@ -8,9 +8,6 @@ use borrow.Author.Needs.{needs}
 use Rattle.header_sizes.proofs.slots_per_symbol.Statement.{statement}
 use Rattle.header_sizes.proofs.slots_per_symbol.Tie as tie
 
-pulse-order-requires : tie.Need-pulse-order-requires
-pulse-order-requires c κs = search needs
-
 add-result : tie.Need-add-result
 add-result c = omega (arith, order-most (c .before .args .f) (c .before .pre))
 
@@ -19,4 +16,4 @@ unfolding slotsPerSymbol
 returns c = ap (λ (m : ℕ). m + m / 4) (c .pulse-order .ensures)
 
 pub slots-per-symbol-spec : {M : Type 1} → statement M
-slots-per-symbol-spec = tie.close (tie.spec pulse-order-requires add-result returns)
+slots-per-symbol-spec = tie.close (tie.spec (λ c κs. search needs) add-result returns)

@@ -14,12 +14,6 @@ unfolding symbolCount
 returns c =
     ap₂ (λ (r s : ℕ). r * (s + c .before .before .before .args .f .markers)) (c .before .before .line-count .ensures) (c .before .symbols-per-word .ensures)
 
-line-count-requires : tie.Need-line-count-requires
-line-count-requires c κs = search needs
-
-symbols-per-word-requires : tie.Need-symbols-per-word-requires
-symbols-per-word-requires c κs = search needs
-
 add-result : tie.Need-add-result
 add-result c = omega (arith, symbols-most (c .before .before .before .args .f) (c .before .before .before .pre .shaped))
 
@@ -32,4 +26,4 @@ mul-result c =
 pub symbol-count-spec : {M : Type 1} → statement M
 symbol-count-spec =
     tie.close
-    (tie.spec line-count-requires symbols-per-word-requires add-result mul-result returns)
+    (tie.spec (λ c κs. search needs) (λ c κs. search needs) add-result mul-result returns)

@@ -5,12 +5,9 @@ use borrow.Author.Needs.{needs}
 use Rattle.header_sizes.proofs.symbols_per_word.Statement.{statement}
 use Rattle.header_sizes.proofs.symbols_per_word.Tie as tie
 
-div-result : tie.Need-div-result
-div-result c = search needs
-
 returns : tie.Need-returns
 unfolding symbolsPerWord
 returns c = refl
 
 pub symbols-per-word-spec : {M : Type 1} → statement M
-symbols-per-word-spec = tie.close (tie.spec div-result returns)
+symbols-per-word-spec = tie.close (tie.spec (λ c. search needs) returns)

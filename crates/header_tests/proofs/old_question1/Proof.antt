@@ -15,9 +15,6 @@ returns c =
     let old = c .before .before .args .old .now in
     sym (rw (ne-eqb (length old) 8 (c .if1 .taken)) refl)
 
-old-spare-requires : tie.Need-old-spare-requires
-old-spare-requires c κs = search needs
-
 returns-2 : tie.Need-returns-2
 unfolding oldQuestion1
 returns-2 c =
@@ -25,4 +22,4 @@ returns-2 c =
     ap (λ (s : ℕ). eqb s 0) (c .old-spare .ensures) ∙ sym (rw (eq-eqb (length old) 8 (c .before .if1 .left)) refl)
 
 pub old-question1-spec : {M : Type 1} → statement M
-old-question1-spec = tie.close (tie.spec returns old-spare-requires returns-2)
+old-question1-spec = tie.close (tie.spec returns (λ c κs. search needs) returns-2)

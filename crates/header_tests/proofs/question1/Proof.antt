@@ -15,9 +15,6 @@ returns c =
     let header = c .before .before .args .header .now in
     sym (rw (ne-eqb (length header) 10 (c .if1 .taken)) refl)
 
-spare-requires : tie.Need-spare-requires
-spare-requires c κs = search needs
-
 returns-2 : tie.Need-returns-2
 unfolding question1
 returns-2 c =
@@ -25,4 +22,4 @@ returns-2 c =
     ap (λ (s : ℕ). eqb s 0) (c .spare .ensures) ∙ sym (rw (eq-eqb (length header) 10 (c .before .if1 .left)) refl)
 
 pub question1-spec : {M : Type 1} → statement M
-question1-spec = tie.close (tie.spec returns spare-requires returns-2)
+question1-spec = tie.close (tie.spec returns (λ c κs. search needs) returns-2)

@@ -7,18 +7,12 @@ use borrow.Author.Needs.{needs}
 use Rattle.header_tests.proofs.question4.Statement.{statement}
 use Rattle.header_tests.proofs.question4.Tie as tie
 
-within-requires : tie.Need-within-requires
-within-requires c κs = search needs
-
 returns : tie.Need-returns
 unfolding question4
 returns c =
     let f = c .before .before .args .f in
     let e : within 1 (f .rows) 128 ≡ false = search failed in
     sym (rw e refl)
-
-within-requires-2 : tie.Need-within-requires-2
-within-requires-2 c κs = search needs
 
 returns-2 : tie.Need-returns-2
 unfolding question4
@@ -28,4 +22,4 @@ returns-2 c =
     c .within2 .ensures ∙ sym (rw e refl)
 
 pub question4-spec : {M : Type 1} → statement M
-question4-spec = tie.close (tie.spec within-requires returns within-requires-2 returns-2)
+question4-spec = tie.close (tie.spec (λ c κs. search needs) returns (λ c κs. search needs) returns-2)

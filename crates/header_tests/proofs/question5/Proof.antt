@@ -9,12 +9,6 @@ use borrow.Author.Needs.{needs}
 use Rattle.header_tests.proofs.question5.Statement.{statement}
 use Rattle.header_tests.proofs.question5.Tie as tie
 
-interleaver-delay-requires : tie.Need-interleaver-delay-requires
-interleaver-delay-requires c κs = search needs
-
-symbols-per-word-requires : tie.Need-symbols-per-word-requires
-symbols-per-word-requires c κs = search needs
-
 rem-result : tie.Need-rem-result
 rem-result c = omega (arith, symbols-least (c .before .before .args .f) (c .before .before .pre))
 
@@ -23,4 +17,4 @@ unfolding question5
 returns c = ap₂ (λ (n s : ℕ). eqb (n % s) 0) (c .before .interleaver-delay .ensures) (c .symbols-per-word .ensures)
 
 pub question5-spec : {M : Type 1} → statement M
-question5-spec = tie.close (tie.spec interleaver-delay-requires symbols-per-word-requires rem-result returns)
+question5-spec = tie.close (tie.spec (λ c κs. search needs) (λ c κs. search needs) rem-result returns)

@@ -21,34 +21,16 @@ abbrev μ-loop : tie.MeasureT-loop
 loop-holds : tie.Need-loop-holds Inv-loop μ-loop
 loop-holds c = (search needs, table-right _ refl tt, search needs, below-none _)
 
-slice-aggregate-source-bit : tie.Need-slice-aggregate-source-bit Inv-loop μ-loop
-slice-aggregate-source-bit c = search needs
-
 source-bit-requires : tie.Need-source-bit-requires Inv-loop μ-loop
 source-bit-requires c κs = (c .before .before .loop .inv .1, omega arith)
 
 cast-off : tie.Need-cast-off Inv-loop μ-loop
 cast-off c = omega (arith, c .source-bit .ensures, source-lt (c .before .before .before .loop .c))
 
-mul-off : tie.Need-mul-off Inv-loop μ-loop
-mul-off c = search needs
-
-slice-write-off : tie.Need-slice-write-off Inv-loop μ-loop
-slice-write-off c = search needs
-
-add-c : tie.Need-add-c Inv-loop μ-loop
-add-c c = search needs
-
-loop-less : tie.Need-loop-less Inv-loop μ-loop
-loop-less c = search needs
-
 loop-again : tie.Need-loop-again Inv-loop μ-loop
 loop-again c =
     let l = c .before .before .before .loop in
     (search needs, l .inv .1, search needs, fill (l .off) sourceBit (l .c) (c .source-bit .result) (search needs) (c .source-bit .ensures) (l .inv .3))
-
-same-length : tie.Need-same-length Inv-loop μ-loop
-same-length c = search needs
 
 returns : tie.Need-returns Inv-loop μ-loop
 returns c =
@@ -62,13 +44,13 @@ first-line-spec =
     Inv-loop
     μ-loop
     loop-holds
-    slice-aggregate-source-bit
+    (λ c. search needs)
     source-bit-requires
     cast-off
-    mul-off
-    slice-write-off
-    add-c
-    loop-less
+    (λ c. search needs)
+    (λ c. search needs)
+    (λ c. search needs)
+    (λ c. search needs)
     loop-again
-    same-length
+    (λ c. search needs)
     returns)

@@ -9,15 +9,6 @@ use borrow.Author.Needs.{needs}
 use Rattle.interleaver_line.proofs.source_bit.Statement.{statement}
 use Rattle.interleaver_line.proofs.source_bit.Tie as tie
 
-mul-p : tie.Need-mul-p
-mul-p c = search needs
-
-mul-p-2 : tie.Need-mul-p-2
-mul-p-2 c = search needs
-
-shared-slice-read-p : tie.Need-shared-slice-read-p
-shared-slice-read-p c = search needs
-
 add-p : tie.Need-add-p
 add-p c =
     let s = c .before in
@@ -40,4 +31,4 @@ returns-2 c =
     e ∙ source-squares (s .args .squares .now) (s .pre .0) j
 
 pub source-bit-spec : {M : Type 1} → statement M
-source-bit-spec = tie.close (tie.spec mul-p mul-p-2 shared-slice-read-p add-p returns returns-2)
+source-bit-spec = tie.close (tie.spec (λ c. search needs) (λ c. search needs) (λ c. search needs) add-p returns returns-2)

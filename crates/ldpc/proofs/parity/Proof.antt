@@ -20,29 +20,11 @@ loop-holds : tie.Need-loop-holds Inv-loop μ-loop
 unfolding val rows rowBit
 loop-holds c = (search needs, table-right _ tt, sym (parity-none _))
 
-mul-p : tie.Need-mul-p Inv-loop μ-loop
-mul-p c = search needs
-
-array-read-p : tie.Need-array-read-p Inv-loop μ-loop
-array-read-p c = search needs
-
-sub-p : tie.Need-sub-p Inv-loop μ-loop
-sub-p c = search needs
-
-shr-p : tie.Need-shr-p Inv-loop μ-loop
-shr-p c = search needs
-
 mul-p-2 : tie.Need-mul-p-2 Inv-loop μ-loop
 mul-p-2 c =
     let l = c .before .loop in
     let frame = c .before .before .args .frame in
     record { fits = row-fits _ (l .inv .1) (l .i) (bitAnd (frame / 2 ^ (63 - l .i)) 1) (omega arith) (mask-lt (frame / 2 ^ (63 - l .i)) 1) }
-
-add-i : tie.Need-add-i Inv-loop μ-loop
-add-i c = search needs
-
-loop-less : tie.Need-loop-less Inv-loop μ-loop
-loop-less c = search needs
 
 loop-again : tie.Need-loop-again Inv-loop μ-loop
 loop-again c =
@@ -67,12 +49,12 @@ parity-spec =
     Inv-loop
     μ-loop
     loop-holds
-    mul-p
-    array-read-p
-    sub-p
-    shr-p
+    (λ c. search needs)
+    (λ c. search needs)
+    (λ c. search needs)
+    (λ c. search needs)
     mul-p-2
-    add-i
-    loop-less
+    (λ c. search needs)
+    (λ c. search needs)
     loop-again
     returns)

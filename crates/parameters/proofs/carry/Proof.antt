@@ -18,9 +18,6 @@ Inv-loop f marker markers marks₀ i₀ marks i = (i ≤ markers) × (length mar
 abbrev μ-loop : tie.MeasureT-loop
 μ-loop f marker markers marks₀ i₀ marks i = markers - i
 
-lent-marks-requires : tie.Need-lent-marks-requires Inv-loop μ-loop
-lent-marks-requires c κs = search needs
-
 loop-holds : tie.Need-loop-holds Inv-loop μ-loop
 loop-holds c = (omega arith, refl, λ k b. getD-replicate 32 k 0 0 b ∙ sym (cut-past 0 _ k (omega arith)))
 
@@ -33,12 +30,6 @@ array-write-marks : tie.Need-array-write-marks Inv-loop μ-loop
 array-write-marks c =
     let a = c .before .before .before .before .before .args in
     omega (arith, lent-most (a .f) (a .marker .now))
-
-add-i : tie.Need-add-i Inv-loop μ-loop
-add-i c = search needs
-
-loop-less : tie.Need-loop-less Inv-loop μ-loop
-loop-less c = search needs
 
 loop-again : tie.Need-loop-again Inv-loop μ-loop
 loop-again c =
@@ -67,11 +58,11 @@ carry-spec =
     (tie.spec
     Inv-loop
     μ-loop
-    lent-marks-requires
+    (λ c κs. search needs)
     loop-holds
     shared-slice-read-marks
     array-write-marks
-    add-i
-    loop-less
+    (λ c. search needs)
+    (λ c. search needs)
     loop-again
     returns)

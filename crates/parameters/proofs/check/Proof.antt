@@ -23,18 +23,6 @@ good c =
     let a = c .before .before .before .before .before .args in
     header-good (a .header .now) (run-good (a .header .now) (a .marker .now) (done c) .0)
 
-run-says-requires : tie.Need-run-says-requires
-run-says-requires c κs = search needs
-
-enum-told : tie.Need-enum-told
-enum-told c = search needs
-
-enum-told-2 : tie.Need-enum-told-2
-enum-told-2 c = search needs
-
-nothing-requires : tie.Need-nothing-requires
-nothing-requires c κs = search needs
-
 returns : tie.Need-returns
 returns c =
     let a = c .before .before .before .before .before .before .args in
@@ -58,10 +46,10 @@ pub check-spec : {M : Type 1} → statement M
 check-spec =
     tie.close
     (tie.spec
-    run-says-requires
-    enum-told
-    enum-told-2
-    nothing-requires
+    (λ c κs. search needs)
+    (λ c. search needs)
+    (λ c. search needs)
+    (λ c κs. search needs)
     returns
     read-requires
     carry-requires

@@ -31,9 +31,6 @@ returns-3 c =
     let a = c .before .before .before .args in
     sym (rw (le-leb 1 (a .n) (c .before .before .if1 .left), le-leb (a .n) passMost (c .before .if2 .left), ne-eqb (a .blocks-length) (a .n * a .size) (c .if3 .taken)) refl)
 
-mul-result : tie.Need-mul-result
-mul-result c = search needs
-
 returns-4 : tie.Need-returns-4
 unfolding passLengthsRight
 returns-4 c =
@@ -41,4 +38,4 @@ returns-4 c =
     sym (rw (le-leb 1 (a .n) (c .before .before .if1 .left), le-leb (a .n) passMost (c .before .if2 .left), eq-eqb (a .blocks-length) (a .n * a .size) (c .if3 .left)) refl)
 
 pub pass-lengths-right-spec : {M : Type 1} → statement M
-pass-lengths-right-spec = tie.close (tie.spec returns returns-2 mul-if3 returns-3 mul-result returns-4)
+pass-lengths-right-spec = tie.close (tie.spec returns returns-2 mul-if3 returns-3 (λ c. search needs) returns-4)

@@ -33,9 +33,6 @@ lent s size e h right =
 returns : tie.Need-returns
 returns c = let a = c .before .before .before .args in (sym (read-rate (a .rate) (a .words .now) (length (a .blocks .now)) (c .if1 .taken)), refl)
 
-block-bytes-requires : tie.Need-block-bytes-requires
-block-bytes-requires c κs = search needs
-
 pass-lengths-right-requires : tie.Need-pass-lengths-right-requires
 pass-lengths-right-requires c κs = let a = c .before .before .before .before .args in let h : a .rate < 3 = omega arith in omega (arith, c .block-bytes .ensures, block-room (a .rate) h)
 
@@ -51,9 +48,6 @@ read-few-requires c κs =
     let s = c .before .before .before .before .before .before .before .before in
     let l = c .before .before .before .pass-lengths-right in
     (c .before .if3 .taken, lent s _ (c .before .before .before .before .block-bytes .ensures) (omega arith) (sym (l .ensures) ∙ not-false (l .result) (c .before .before .if2 .left)))
-
-same-length : tie.Need-same-length
-same-length c = search needs
 
 returns-3 : tie.Need-returns-3
 returns-3 c =
@@ -71,9 +65,6 @@ read-many-requires c κs =
     let l = c .before .before .before .pass-lengths-right in
     lent s _ (c .before .before .before .before .block-bytes .ensures) (omega arith) (sym (l .ensures) ∙ not-false (l .result) (c .before .before .if2 .left))
 
-same-length-2 : tie.Need-same-length-2
-same-length-2 c = search needs
-
 returns-4 : tie.Need-returns-4
 returns-4 c =
     let s = c .before .before .before .before .before .before .before .before .before .before .before in
@@ -89,12 +80,12 @@ read-spec =
     tie.close
     (tie.spec
     returns
-    block-bytes-requires
+    (λ c κs. search needs)
     pass-lengths-right-requires
     returns-2
     read-few-requires
-    same-length
+    (λ c. search needs)
     returns-3
     read-many-requires
-    same-length-2
+    (λ c. search needs)
     returns-4)

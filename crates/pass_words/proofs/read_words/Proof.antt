@@ -45,9 +45,6 @@ placed s size j e l =
     let all : s .args .n * size ≤ length (s .args .blocks .now) = rw e (s .pre .blocks-fit) in
     (omega (arith, inside (s .args .n) size j l, all), omega (arith, inside (s .args .n) size j l, mul-le-mul (s .pre .few) least))
 
-block-bytes-requires : tie.Need-block-bytes-requires Inv-loop μ-loop
-block-bytes-requires c κs = search needs
-
 loop-holds : tie.Need-loop-holds Inv-loop μ-loop
 loop-holds c = (search needs, refl, λ i l. absurd (omega arith), refl)
 
@@ -56,12 +53,6 @@ mul-at c = omega (arith, placed (c .before .before .before .before .before) _ _ 
 
 add-end : tie.Need-add-end Inv-loop μ-loop
 add-end c = omega (arith, placed (c .before .before .before .before .before) _ _ (c .before .before .block-bytes .ensures) (c .loop-test .taken) .1)
-
-sub-read-word : tie.Need-sub-read-word Inv-loop μ-loop
-sub-read-word c = search needs
-
-part-read-word-start : tie.Need-part-read-word-start Inv-loop μ-loop
-part-read-word-start c = search needs
 
 part-read-word-end : tie.Need-part-read-word-end Inv-loop μ-loop
 part-read-word-end c = omega (arith, placed (c .before .before .before .before .before) _ _ (c .before .before .block-bytes .ensures) (c .loop-test .taken) .0, c .before .loop .inv .1)
@@ -77,15 +68,6 @@ read-word-requires c κs =
       inside = omega (arith, inside (s .args .n) wordBytes (l .j) t, s .pre .words-fit);
       block-is = mid-len (l .j * h .result) (l .j * h .result + h .result) (l .blocks) (omega (arith, placed s _ _ (h .ensures) t .0, l .inv .1)) ∙ omega (arith, h .ensures);
     }
-
-enum-told : tie.Need-enum-told Inv-loop μ-loop
-enum-told c = search needs
-
-enum-told-2 : tie.Need-enum-told-2 Inv-loop μ-loop
-enum-told-2 c = search needs
-
-moved-to-requires : tie.Need-moved-to-requires Inv-loop μ-loop
-moved-to-requires c κs = search needs
 
 same-length : tie.Need-same-length Inv-loop μ-loop
 same-length c =
@@ -104,12 +86,6 @@ returns c =
     (c .before .before .before .before .before .before .before .loop-test .taken) (l .inv .3) (r .ensures .0) (is-not-done (r .result) keys) in
     let m = c .moved-to .ensures ∙ moved (r .result) (l .j) keys in
     (m ∙ e, λ d. absurd (no-done (sym m ∙ d)))
-
-add-j : tie.Need-add-j Inv-loop μ-loop
-add-j c = search needs
-
-loop-less : tie.Need-loop-less Inv-loop μ-loop
-loop-less c = search needs
 
 loop-again : tie.Need-loop-again Inv-loop μ-loop
 loop-again c =
@@ -151,21 +127,21 @@ read-words-spec =
     (tie.spec
     Inv-loop
     μ-loop
-    block-bytes-requires
+    (λ c κs. search needs)
     loop-holds
     mul-at
     add-end
-    sub-read-word
-    part-read-word-start
+    (λ c. search needs)
+    (λ c. search needs)
     part-read-word-end
     read-word-requires
-    enum-told
-    enum-told-2
-    moved-to-requires
+    (λ c. search needs)
+    (λ c. search needs)
+    (λ c κs. search needs)
     same-length
     returns
-    add-j
-    loop-less
+    (λ c. search needs)
+    (λ c. search needs)
     loop-again
     same-length-2
     returns-2)

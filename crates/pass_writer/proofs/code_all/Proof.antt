@@ -32,12 +32,6 @@ mul-at c = let s = c .before .before .before .before in omega (arith, s .pre .fe
 add-end : tie.Need-add-end Inv-loop μ-loop
 add-end c = let s = c .before .before .before .before in omega (arith, s .pre .few, c .loop-test .taken)
 
-sub-code-block : tie.Need-sub-code-block Inv-loop μ-loop
-sub-code-block c = search needs
-
-part-code-block-start : tie.Need-part-code-block-start Inv-loop μ-loop
-part-code-block-start c = search needs
-
 part-code-block-end : tie.Need-part-code-block-end Inv-loop μ-loop
 part-code-block-end c = omega (arith, c .before .loop .inv .1, c .loop-test .taken)
 
@@ -53,12 +47,6 @@ code-block-requires c κs =
       blocks-are = s .pre .blocks-are;
       word-is = mid-len (l .j * wordBytes) (l .j * wordBytes + wordBytes) (l .words) (omega (arith, l .inv .1, t)) ∙ omega arith;
     }
-
-add-j : tie.Need-add-j Inv-loop μ-loop
-add-j c = search needs
-
-loop-less : tie.Need-loop-less Inv-loop μ-loop
-loop-less c = search needs
 
 loop-again : tie.Need-loop-again Inv-loop μ-loop
 loop-again c =
@@ -95,12 +83,12 @@ code-all-spec =
     loop-holds
     mul-at
     add-end
-    sub-code-block
-    part-code-block-start
+    (λ c. search needs)
+    (λ c. search needs)
     part-code-block-end
     code-block-requires
-    add-j
-    loop-less
+    (λ c. search needs)
+    (λ c. search needs)
     loop-again
     same-length
     returns)

@@ -28,9 +28,6 @@ placed s size e = (
   mul-le-mul (s .pre .few) (block-room (s .args .rate) (s .pre .rate-is)),
 )
 
-block-bytes-requires : tie.Need-block-bytes-requires
-block-bytes-requires c κs = search needs
-
 mul-at : tie.Need-mul-at
 mul-at c =
     let s = c .before .before .before in
@@ -43,23 +40,11 @@ add-end c =
     let size = c .block-bytes .ensures in
     omega (arith, placed s _ size)
 
-sub-write : tie.Need-sub-write
-sub-write c = search needs
-
-part-write-start : tie.Need-part-write-start
-part-write-start c = search needs
-
 part-write-end : tie.Need-part-write-end
 part-write-end c =
     let s = c .before .before .before in
     let size = c .block-bytes .ensures in
     omega (arith, placed s _ size, s .pre .blocks-are)
-
-write-requires : tie.Need-write-requires
-write-requires c κs = search needs
-
-same-length : tie.Need-same-length
-same-length c = search needs
 
 returns : tie.Need-returns
 returns c =
@@ -80,12 +65,12 @@ pub code-block-spec : {M : Type 1} → statement M
 code-block-spec =
     tie.close
     (tie.spec
-    block-bytes-requires
+    (λ c κs. search needs)
     mul-at
     add-end
-    sub-write
-    part-write-start
+    (λ c. search needs)
+    (λ c. search needs)
     part-write-end
-    write-requires
-    same-length
+    (λ c κs. search needs)
+    (λ c. search needs)
     returns)

@@ -22,9 +22,6 @@ asked s size e = ap (λ (x : ℕ). passLengthsRight (length (s .args .blocks .no
 returns : tie.Need-returns
 returns c = let a = c .before .before .before .args in (sym (write-rate (a .rate) (a .blocks .now) (length (a .words .now)) (c .if1 .taken)), refl)
 
-block-bytes-requires : tie.Need-block-bytes-requires
-block-bytes-requires c κs = search needs
-
 div-n : tie.Need-div-n
 div-n c = let a = c .before .before .before .before .args in let h : a .rate < 3 = omega arith in omega (arith, c .block-bytes .ensures, block-pos (a .rate) h)
 
@@ -47,9 +44,6 @@ code-all-requires c κs =
     let r = right-said n (size .result) (length (s .args .blocks .now)) (length (s .args .words .now)) (sym (l .ensures) ∙ not-false (l .result) (c .before .if2 .left)) in
     record { rate-is = omega arith; few = r .few; blocks-are = r .blocks-are ∙ ap (λ (x : ℕ). n * x) (size .ensures); words-are = r .words-are }
 
-same-length : tie.Need-same-length
-same-length c = search needs
-
 returns-3 : tie.Need-returns-3
 returns-3 c =
     let s = c .before .before .before .before .before .before .before .before .before .before in
@@ -64,10 +58,10 @@ write-spec =
     tie.close
     (tie.spec
     returns
-    block-bytes-requires
+    (λ c κs. search needs)
     div-n
     pass-lengths-right-requires
     returns-2
     code-all-requires
-    same-length
+    (λ c. search needs)
     returns-3)

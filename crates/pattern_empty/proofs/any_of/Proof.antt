@@ -19,12 +19,6 @@ abbrev μ-loop : tie.MeasureT-loop
 loop-holds : tie.Need-loop-holds Inv-loop μ-loop
 loop-holds c = (omega arith, λ e k l. absurd (omega arith))
 
-add-d : tie.Need-add-d Inv-loop μ-loop
-add-d c = search needs
-
-shared-slice-read-d : tie.Need-shared-slice-read-d Inv-loop μ-loop
-shared-slice-read-d c = search needs
-
 add-k : tie.Need-add-k Inv-loop μ-loop
 add-k c = omega arith
 
@@ -54,8 +48,8 @@ any-of-spec =
     Inv-loop
     μ-loop
     loop-holds
-    add-d
-    shared-slice-read-d
+    (λ c. search needs)
+    (λ c. search needs)
     add-k
     loop-less
     loop-again

@@ -7,21 +7,12 @@ use Rattle.pattern_empty.proofs.past_empty.Statement.{statement}
 use Rattle.pattern_empty.proofs.past_empty.Tie as tie
 use Rattle.pattern_empty.proofs.Blank.{blank}
 
-empty-end-requires : tie.Need-empty-end-requires
-empty-end-requires c κs = search needs
-
-least-requires : tie.Need-least-requires
-least-requires c κs = search needs
-
 mul-most : tie.Need-mul-most
 mul-most c =
     let a = c .before .before .before .args in
     let e = c .least .ensures in
     let i = lesser-le (c .before .empty-end .result) (a .end / 8) in
     record { fits = let f = c .before .before .before .fits .end .fits in omega arith }
-
-most-requires : tie.Need-most-requires
-most-requires c κs = search needs
 
 returns : tie.Need-returns
 returns c =
@@ -38,4 +29,4 @@ returns c =
     )
 
 pub past-empty-spec : {M : Type 1} → statement M
-past-empty-spec = tie.close (tie.spec empty-end-requires least-requires mul-most most-requires returns)
+past-empty-spec = tie.close (tie.spec (λ c κs. search needs) (λ c κs. search needs) mul-most (λ c κs. search needs) returns)

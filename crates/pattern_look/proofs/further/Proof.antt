@@ -16,17 +16,8 @@ Inv-loop b x end most i₀ near i = (i ≤ near) × (near ≤ end / 8) × (upTo 
 abbrev μ-loop : tie.MeasureT-loop
 μ-loop b x end most i₀ near i = near - i
 
-pulse-near-requires : tie.Need-pulse-near-requires Inv-loop μ-loop
-pulse-near-requires c κs = search needs
-
 returns : tie.Need-returns Inv-loop μ-loop
 returns c = c .pulse-near .ensures
-
-sub-least : tie.Need-sub-least Inv-loop μ-loop
-sub-least c = search needs
-
-least-requires : tie.Need-least-requires Inv-loop μ-loop
-least-requires c κs = search needs
 
 add-near : tie.Need-add-near Inv-loop μ-loop
 add-near c =
@@ -45,9 +36,6 @@ loop-holds c =
     let o = s .pre .order in
     let byte : 8 * (a .x / 8) ≡ a .x = omega arith in
     (omega arith, omega arith, ap (λ (k : ℕ). upTo (clearAt (a .b .now)) k (a .end)) byte)
-
-sub-loop : tie.Need-sub-loop Inv-loop μ-loop
-sub-loop c = search needs
 
 eight-requires : tie.Need-eight-requires Inv-loop μ-loop
 eight-requires c κs =
@@ -85,12 +73,6 @@ returns-2 c =
     let room : 8 * l .i + 64 ≤ a .end = omega arith in
     eight-stop (a .b .now) (l .i) (a .end) (c .before .before .eight .result) room (c .before .before .eight .ensures) (c .leading .result) (c .leading .ensures)
     ∙ l .inv .2
-
-add-i : tie.Need-add-i Inv-loop μ-loop
-add-i c = search needs
-
-loop-less : tie.Need-loop-less Inv-loop μ-loop
-loop-less c = search needs
 
 loop-again : tie.Need-loop-again Inv-loop μ-loop
 loop-again c =
@@ -140,20 +122,20 @@ further-spec =
     (tie.spec
     Inv-loop
     μ-loop
-    pulse-near-requires
+    (λ c κs. search needs)
     returns
-    sub-least
-    least-requires
+    (λ c. search needs)
+    (λ c κs. search needs)
     add-near
     loop-holds
-    sub-loop
+    (λ c. search needs)
     eight-requires
     mul-result
     leading-requires
     add-result
     returns-2
-    add-i
-    loop-less
+    (λ c. search needs)
+    (λ c. search needs)
     loop-again
     mul-past-empty
     past-empty-requires

@@ -9,12 +9,6 @@ use Rattle.pattern_look.proofs.Sight.{looked}
 use Rattle.pattern_look.proofs.look.Statement.{statement}
 use Rattle.pattern_look.proofs.look.Tie as tie
 
-sub-least : tie.Need-sub-least
-sub-least c = search needs
-
-least-requires : tie.Need-least-requires
-least-requires c κs = search needs
-
 eight-requires : tie.Need-eight-requires
 eight-requires c κs =
     let s = c .before .before in
@@ -45,4 +39,4 @@ returns c =
 pub look-spec : {M : Type 1} → statement M
 look-spec =
     tie.close
-    (tie.spec sub-least least-requires eight-requires mul-result sub-result shl-result returns)
+    (tie.spec (λ c. search needs) (λ c κs. search needs) eight-requires mul-result sub-result shl-result returns)

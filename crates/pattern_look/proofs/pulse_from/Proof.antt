@@ -22,18 +22,6 @@ returns c =
     let e : a .x ≡ a .end = omega arith in
     e ∙ sym (first-end (clearAt (a .b .now)) (a .end) (a .x) (omega arith) o)
 
-look-requires : tie.Need-look-requires
-look-requires c κs = search needs
-
-leading-requires : tie.Need-leading-requires
-leading-requires c κs = search needs
-
-sub-least : tie.Need-sub-least
-sub-least c = search needs
-
-least-requires : tie.Need-least-requires
-least-requires c κs = search needs
-
 add-result : tie.Need-add-result
 add-result c =
     let s = c .before .before .before .before .before .before in
@@ -49,15 +37,6 @@ returns-2 c =
     ap (λ (n : ℕ). a .x + n) (c .least .ensures)
     ∙ sym (window-stop (a .b .now) (a .x) (a .end) (shows (length (a .b .now)) (a .x)) (c .before .leading .result) (s .pre .order)
     (rw (c .before .before .before .look .ensures) at (c .before .leading .ensures)))
-
-shown-requires : tie.Need-shown-requires
-shown-requires c κs = search needs
-
-sub-least-2 : tie.Need-sub-least-2
-sub-least-2 c = search needs
-
-least-requires-2 : tie.Need-least-requires-2
-least-requires-2 c κs = search needs
 
 add-further : tie.Need-add-further
 add-further c =
@@ -92,15 +71,15 @@ pulse-from-spec =
     tie.close
     (tie.spec
     returns
-    look-requires
-    leading-requires
-    sub-least
-    least-requires
+    (λ c κs. search needs)
+    (λ c κs. search needs)
+    (λ c. search needs)
+    (λ c κs. search needs)
     add-result
     returns-2
-    shown-requires
-    sub-least-2
-    least-requires-2
+    (λ c κs. search needs)
+    (λ c. search needs)
+    (λ c κs. search needs)
     add-further
     further-requires
     returns-3)

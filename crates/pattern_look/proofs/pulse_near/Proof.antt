@@ -29,12 +29,6 @@ look-requires c κs = let h = c .before .before .before .pre in record { eight =
 leading-requires : tie.Need-leading-requires Inv-loop μ-loop
 leading-requires c κs = let n = c .if1 .taken in omega arith
 
-sub-least : tie.Need-sub-least Inv-loop μ-loop
-sub-least c = search needs
-
-least-requires : tie.Need-least-requires Inv-loop μ-loop
-least-requires c κs = search needs
-
 add-result : tie.Need-add-result Inv-loop μ-loop
 add-result c =
     let a = c .before .before .before .before .before .before .before .args in
@@ -57,12 +51,6 @@ returns c =
 
 shown-requires : tie.Need-shown-requires Inv-loop μ-loop
 shown-requires c κs = let h = c .before .before .before .before .before .pre in record { eight = h .eight; there = let r = h .room in omega arith }
-
-sub-least-2 : tie.Need-sub-least-2 Inv-loop μ-loop
-sub-least-2 c = search needs
-
-least-requires-2 : tie.Need-least-requires-2 Inv-loop μ-loop
-least-requires-2 c κs = search needs
 
 add-at : tie.Need-add-at Inv-loop μ-loop
 add-at c =
@@ -120,13 +108,13 @@ pulse-near-spec =
     loop-holds
     look-requires
     leading-requires
-    sub-least
-    least-requires
+    (λ c. search needs)
+    (λ c κs. search needs)
     add-result
     returns
     shown-requires
-    sub-least-2
-    least-requires-2
+    (λ c. search needs)
+    (λ c κs. search needs)
     add-at
     loop-less
     loop-again

@@ -11,33 +11,6 @@ use Rattle.pattern_look.proofs.Sight.{shows-is, Sight, sight, look-all,
 use Rattle.pattern_look.proofs.right_from.Statement.{statement}
 use Rattle.pattern_look.proofs.right_from.Tie as tie
 
-shown-requires : tie.Need-shown-requires
-shown-requires c κs = search needs
-
-shown-requires-2 : tie.Need-shown-requires-2
-shown-requires-2 c κs = search needs
-
-least-requires : tie.Need-least-requires
-least-requires c κs = search needs
-
-sub-least : tie.Need-sub-least
-sub-least c = search needs
-
-least-requires-2 : tie.Need-least-requires-2
-least-requires-2 c κs = search needs
-
-look-requires : tie.Need-look-requires
-look-requires c κs = search needs
-
-look-requires-2 : tie.Need-look-requires-2
-look-requires-2 c κs = search needs
-
-leading-requires : tie.Need-leading-requires
-leading-requires c κs = search needs
-
-least-requires-3 : tie.Need-least-requires-3
-least-requires-3 c κs = search needs
-
 -- what is compared
 compared : (s : tie.Start) (w u seen most : ℕ) → w ≡ shows (length (s .args .b .now)) (s .args .y)
     → u ≡ shows (length (s .args .marker .now)) (s .args .i) → seen ≡ lesser w u → most ≡ lesser seen (s .args .n - s .args .i)
@@ -87,14 +60,14 @@ pub right-from-spec : {M : Type 1} → statement M
 right-from-spec =
     tie.close
     (tie.spec
-    shown-requires
-    shown-requires-2
-    least-requires
-    sub-least
-    least-requires-2
-    look-requires
-    look-requires-2
-    leading-requires
-    least-requires-3
+    (λ c κs. search needs)
+    (λ c κs. search needs)
+    (λ c κs. search needs)
+    (λ c. search needs)
+    (λ c κs. search needs)
+    (λ c κs. search needs)
+    (λ c κs. search needs)
+    (λ c κs. search needs)
+    (λ c κs. search needs)
     returns
     returns-2)

@@ -9,12 +9,6 @@ use Rattle.pattern_look.specs.Inner.{shows}
 use Rattle.pattern_look.proofs.shown.Statement.{statement}
 use Rattle.pattern_look.proofs.shown.Tie as tie
 
-sub-least : tie.Need-sub-least
-sub-least c = search needs
-
-least-requires : tie.Need-least-requires
-least-requires c κs = search needs
-
 mul-result : tie.Need-mul-result
 mul-result c =
     let s = c .before .before in
@@ -35,4 +29,4 @@ unfolding shows
 returns c = ap (λ (i : ℕ). 64 - (c .before .before .args .y - 8 * i)) (c .least .ensures)
 
 pub shown-spec : {M : Type 1} → statement M
-shown-spec = tie.close (tie.spec sub-least least-requires mul-result sub-result sub-result-2 returns)
+shown-spec = tie.close (tie.spec (λ c. search needs) (λ c κs. search needs) mul-result sub-result sub-result-2 returns)

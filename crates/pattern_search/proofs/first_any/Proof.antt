@@ -8,14 +8,8 @@ use Rattle.pattern_search.proofs.Passing.{padded}
 use Rattle.pattern_search.proofs.first_any.Statement.{statement}
 use Rattle.pattern_search.proofs.first_any.Tie as tie
 
-slice-aggregate-copy-part : tie.Need-slice-aggregate-copy-part
-slice-aggregate-copy-part c = search needs
-
 copy-part-requires : tie.Need-copy-part-requires
 copy-part-requires c κs = (search needs, let e = length-replicate {A = ℕ} 8 0 in omega arith)
-
-slice-aggregate-first-start : tie.Need-slice-aggregate-first-start
-slice-aggregate-first-start c = search needs
 
 first-start-requires : tie.Need-first-start-requires
 first-start-requires c κs =
@@ -56,9 +50,9 @@ pub first-any-spec : {M : Type 1} → statement M
 first-any-spec =
     tie.close
     (tie.spec
-    slice-aggregate-copy-part
+    (λ c. search needs)
     copy-part-requires
-    slice-aggregate-first-start
+    (λ c. search needs)
     first-start-requires
     returns
     first-start-requires-2

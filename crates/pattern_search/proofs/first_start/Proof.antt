@@ -38,9 +38,6 @@ start-holds c =
 loop-holds : tie.Need-loop-holds Inv-loop μ-loop Inv-start μ-start
 loop-holds c = (refl, search needs, λ k l. absurd (omega arith))
 
-add-right-from : tie.Need-add-right-from Inv-loop μ-loop Inv-start μ-start
-add-right-from c = search needs
-
 right-from-requires : tie.Need-right-from-requires Inv-loop μ-loop Inv-start μ-start
 right-from-requires c κs =
     let s = c .before .before .before .before .before .before .before in
@@ -51,18 +48,12 @@ right-from-requires c κs =
     let h = s .pre .begins in
     record { capture = record { eight = s .pre .long; there = omega arith }; below = search needs; eight = h .eight; room = h .room }
 
-add-next-start : tie.Need-add-next-start Inv-loop μ-loop Inv-start μ-start
-add-next-start c = search needs
-
 next-start-requires-2 : tie.Need-next-start-requires-2 Inv-loop μ-loop Inv-start μ-start
 next-start-requires-2 c κs =
     let s = c .before .before .before .before .before .before .before .before .before in
     let l = (c .before .before .before) .loop in
     passes (s .args .b .now) (s .args .marker .now) (s .args .n) (s .args .first) (s .args .last) (s .args .from) (s .args .end) (s .pre) (l .x + 1)
     (let q = l .inv .0 in omega arith)
-
-start-less : tie.Need-start-less Inv-loop μ-loop Inv-start μ-start
-start-less c = search needs
 
 start-again : tie.Need-start-again Inv-loop μ-loop Inv-start μ-start
 start-again c =
@@ -79,12 +70,6 @@ start-again c =
           ∙ ap (λ (y : ℕ). upTo (missed (bitAt (a .marker .now)) (a .n) (a .b .now)) y (a .end)) x
           ∙ o .inv .1,
     )
-
-add-i : tie.Need-add-i Inv-loop μ-loop Inv-start μ-start
-add-i c = search needs
-
-loop-less : tie.Need-loop-less Inv-loop μ-loop Inv-start μ-start
-loop-less c = search needs
 
 loop-again : tie.Need-loop-again Inv-loop μ-loop Inv-start μ-start
 loop-again c =
@@ -121,14 +106,14 @@ first-start-spec =
     next-start-requires
     start-holds
     loop-holds
-    add-right-from
+    (λ c. search needs)
     right-from-requires
-    add-next-start
+    (λ c. search needs)
     next-start-requires-2
-    start-less
+    (λ c. search needs)
     start-again
-    add-i
-    loop-less
+    (λ c. search needs)
+    (λ c. search needs)
     loop-again
     returns
     returns-2)

@@ -52,15 +52,6 @@ module _ (header marker : List ℕ) (c : Checked) (e : c ≡ checked header mark
     asked n s b l =
         rw (sym said ∙ g) (ap (λ (t : Bool). ask t 8 0) (ap (λ (f : Fields). runLengthsRight f (length marker) n s) (sym fields-are) ∙ sym l))
 
-check-requires : tie.Need-check-requires
-check-requires c κs = search needs
-
-enum-told : tie.Need-enum-told
-enum-told c = search needs
-
-enum-told-2 : tie.Need-enum-told-2
-enum-told-2 c = search needs
-
 returns : tie.Need-returns
 returns c =
     let a = c .before .before .before .before .before .args in
@@ -101,9 +92,9 @@ pub check-spec : {M : Type 1} → statement M
 check-spec =
     tie.close
     (tie.spec
-    check-requires
-    enum-told
-    enum-told-2
+    (λ c κs. search needs)
+    (λ c. search needs)
+    (λ c. search needs)
     returns
     run-lengths-right-requires
     returns-2

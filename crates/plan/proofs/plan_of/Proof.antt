@@ -4,15 +4,6 @@ use borrow.Author.Needs.{needs}
 use Rattle.plan.proofs.plan_of.Statement.{statement}
 use Rattle.plan.proofs.plan_of.Tie as tie
 
-pulse-order-requires : tie.Need-pulse-order-requires
-pulse-order-requires c κs = search needs
-
-slots-per-symbol-requires : tie.Need-slots-per-symbol-requires
-slots-per-symbol-requires c κs = search needs
-
-layout-of-requires : tie.Need-layout-of-requires
-layout-of-requires c κs = search needs
-
 returns : tie.Need-returns
 unfolding planOf
 returns c =
@@ -30,7 +21,7 @@ pub plan-of-spec : {M : Type 1} → statement M
 plan-of-spec =
     tie.close
     (tie.spec
-    pulse-order-requires
-    slots-per-symbol-requires
-    layout-of-requires
+    (λ c κs. search needs)
+    (λ c κs. search needs)
+    (λ c κs. search needs)
     returns)

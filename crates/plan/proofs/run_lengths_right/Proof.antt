@@ -8,17 +8,11 @@ use borrow.Author.Needs.{needs}
 use Rattle.plan.proofs.run_lengths_right.Statement.{statement}
 use Rattle.plan.proofs.run_lengths_right.Tie as tie
 
-marker-bytes-requires : tie.Need-marker-bytes-requires
-marker-bytes-requires c κs = search needs
-
 returns : tie.Need-returns
 unfolding runLengthsRight
 returns c =
     let a = c .before .before .args in
     sym (rw (ne-eqb (a .marker-length) (markerBytes (a .f)) (λ e. c .if1 .taken (e ∙ sym (c .before .marker-bytes .ensures)))) refl)
-
-frame-bytes-requires : tie.Need-frame-bytes-requires
-frame-bytes-requires c κs = search needs
 
 returns-2 : tie.Need-returns-2
 unfolding runLengthsRight
@@ -26,9 +20,6 @@ returns-2 c =
     let a = c .before .before .before .before .args in
     let m : a .marker-length ≡ markerBytes (a .f) = c .before .before .if1 .left ∙ c .before .before .before .marker-bytes .ensures in
     sym (rw (eq-eqb (a .marker-length) (markerBytes (a .f)) m, ne-eqb (a .frames-length) (frameBytes (a .f)) (λ e. c .if2 .taken (e ∙ sym (c .before .frame-bytes .ensures)))) refl)
-
-slot-bytes-requires : tie.Need-slot-bytes-requires
-slot-bytes-requires c κs = search needs
 
 returns-3 : tie.Need-returns-3
 unfolding runLengthsRight
@@ -43,9 +34,9 @@ pub run-lengths-right-spec : {M : Type 1} → statement M
 run-lengths-right-spec =
     tie.close
     (tie.spec
-    marker-bytes-requires
+    (λ c κs. search needs)
     returns
-    frame-bytes-requires
+    (λ c κs. search needs)
     returns-2
-    slot-bytes-requires
+    (λ c κs. search needs)
     returns-3)

@@ -34,12 +34,6 @@ returns c =
     sym (first-here (decided (a .b .now) (a .copies) (a .group) (a .order)) (a .to) (l .s) (omega arith) (ap (λ (v : ℕ). ltb v (a .order)) (sym (c .before .pooled .ensures)) ∙ le-ltb _ _ (c .if1 .taken)))
     ∙ l .inv .1
 
-add-s : tie.Need-add-s Inv-loop μ-loop
-add-s c = search needs
-
-loop-less : tie.Need-loop-less Inv-loop μ-loop
-loop-less c = search needs
-
 loop-again : tie.Need-loop-again Inv-loop μ-loop
 loop-again c =
     let a = c .before .before .before .before .before .args in
@@ -64,7 +58,7 @@ first-undecided-spec =
     loop-holds
     pooled-requires
     returns
-    add-s
-    loop-less
+    (λ c. search needs)
+    (λ c. search needs)
     loop-again
     returns-2)

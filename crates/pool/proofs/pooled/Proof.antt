@@ -12,9 +12,6 @@ use Rattle.pool.proofs.Single.{pooled-alone}
 use Rattle.pool.proofs.pooled.Statement.{statement}
 use Rattle.pool.proofs.pooled.Tie as tie
 
-alone-requires : tie.Need-alone-requires
-alone-requires c κs = search needs
-
 returns : tie.Need-returns
 unfolding lit
 returns c =
@@ -23,12 +20,6 @@ returns c =
     let z = s .pre .of-group in
     sym (pooled-alone (a .b .now) (a .copies) (a .group) (a .order) (a .s) (c .before .alone .result) (omega arith) (omega arith) (c .before .alone .ensures (omega arith)))
 
-counted-requires : tie.Need-counted-requires
-counted-requires c κs = search needs
-
-least-requires : tie.Need-least-requires
-least-requires c κs = search needs
-
 returns-2 : tie.Need-returns-2
 unfolding lesser pooled
 returns-2 c =
@@ -36,4 +27,4 @@ returns-2 c =
     c .least .ensures ∙ ap (λ (q : ℕ). pick (ltb q (a .order)) q (a .order)) (c .before .counted .ensures)
 
 pub pooled-spec : {M : Type 1} → statement M
-pooled-spec = tie.close (tie.spec alone-requires returns counted-requires least-requires returns-2)
+pooled-spec = tie.close (tie.spec (λ c κs. search needs) returns (λ c κs. search needs) (λ c κs. search needs) returns-2)

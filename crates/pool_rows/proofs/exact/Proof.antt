@@ -11,31 +11,13 @@ use borrow.Author.Needs.{needs}
 use Rattle.pool_rows.proofs.exact.Statement.{statement}
 use Rattle.pool_rows.proofs.exact.Tie as tie
 
-returns : tie.Need-returns
-returns c = search needs
-
 pooled-requires : tie.Need-pooled-requires
 pooled-requires c κs =
     let s = c .before .before .before in
     fewer _ _ _ _ _ (s .pre .0) (s .args .s + 1) (omega arith)
 
-returns-2 : tie.Need-returns-2
-returns-2 c = search needs
-
 cast-row : tie.Need-cast-row
 cast-row c = omega (arith, mask-lt (c .before .pooled .result) 8)
-
-sub-row : tie.Need-sub-row
-sub-row c = search needs
-
-slice-write-row : tie.Need-slice-write-row
-slice-write-row c = search needs
-
-add-result : tie.Need-add-result
-add-result c = search needs
-
-same-length : tie.Need-same-length
-same-length c = search needs
 
 returns-3 : tie.Need-returns-3
 returns-3 c =
@@ -52,12 +34,12 @@ pub exact-spec : {M : Type 1} → statement M
 exact-spec =
     tie.close
     (tie.spec
-    returns
+    (λ c. search needs)
     pooled-requires
-    returns-2
+    (λ c. search needs)
     cast-row
-    sub-row
-    slice-write-row
-    add-result
-    same-length
+    (λ c. search needs)
+    (λ c. search needs)
+    (λ c. search needs)
+    (λ c. search needs)
     returns-3)

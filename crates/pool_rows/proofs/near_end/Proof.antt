@@ -9,12 +9,6 @@ use borrow.Author.Needs.{needs}
 use Rattle.pool_rows.proofs.near_end.Statement.{statement}
 use Rattle.pool_rows.proofs.near_end.Tie as tie
 
-returns : tie.Need-returns
-returns c = search needs
-
-returns-2 : tie.Need-returns-2
-returns-2 c = search needs
-
 mul-clear-end : tie.Need-mul-clear-end
 mul-clear-end c =
     let s = c .before .before .before in
@@ -35,4 +29,4 @@ returns-3 c =
     (e .0, e .1, λ l. record { group-most = c .before .before .if1 .left; room = e .2 l })
 
 pub near-end-spec : {M : Type 1} → statement M
-near-end-spec = tie.close (tie.spec returns returns-2 mul-clear-end clear-end-requires returns-3)
+near-end-spec = tie.close (tie.spec (λ c. search needs) (λ c. search needs) mul-clear-end clear-end-requires returns-3)

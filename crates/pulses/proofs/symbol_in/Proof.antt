@@ -9,24 +9,6 @@ use borrow.Author.Needs.{needs}
 use Rattle.pulses.proofs.symbol_in.Statement.{statement}
 use Rattle.pulses.proofs.symbol_in.Tie as tie
 
-mul-x : tie.Need-mul-x
-mul-x c = search needs
-
-add-end : tie.Need-add-end
-add-end c = search needs
-
-add-guard : tie.Need-add-guard
-add-guard c = search needs
-
-first-one-requires : tie.Need-first-one-requires
-first-one-requires c κs = search needs
-
-add-first-one : tie.Need-add-first-one
-add-first-one c = search needs
-
-first-one-requires-2 : tie.Need-first-one-requires-2
-first-one-requires-2 c κs = search needs
-
 sub-result : tie.Need-sub-result
 sub-result c =
     let a = c .before .before .before .before .before .args in
@@ -51,12 +33,12 @@ pub symbol-in-spec : {M : Type 1} → statement M
 symbol-in-spec =
     tie.close
     (tie.spec
-    mul-x
-    add-end
-    add-guard
-    first-one-requires
-    add-first-one
-    first-one-requires-2
+    (λ c. search needs)
+    (λ c. search needs)
+    (λ c. search needs)
+    (λ c κs. search needs)
+    (λ c. search needs)
+    (λ c κs. search needs)
     sub-result
     returns
     returns-2

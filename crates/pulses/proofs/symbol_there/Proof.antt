@@ -6,15 +6,6 @@ use borrow.Author.Needs.{needs}
 use Rattle.pulses.proofs.symbol_there.Statement.{statement}
 use Rattle.pulses.proofs.symbol_there.Tie as tie
 
-mul-x : tie.Need-mul-x
-mul-x c = search needs
-
-add-first-one : tie.Need-add-first-one
-add-first-one c = search needs
-
-first-one-requires : tie.Need-first-one-requires
-first-one-requires c κs = search needs
-
 sub-result : tie.Need-sub-result
 sub-result c =
     let a = c .before .before .args in
@@ -30,4 +21,4 @@ returns c =
     omega arith
 
 pub symbol-there-spec : {M : Type 1} → statement M
-symbol-there-spec = tie.close (tie.spec mul-x add-first-one first-one-requires sub-result returns)
+symbol-there-spec = tie.close (tie.spec (λ c. search needs) (λ c. search needs) (λ c κs. search needs) sub-result returns)

@@ -12,9 +12,6 @@ fives-requires c κs =
     let o : s .args .order ≡ 4 = let g = s .pre .0 .shape .group-is in omega arith in
     (rw (o, e) at (s .pre .1), s .pre .2)
 
-same-length : tie.Need-same-length
-same-length c = search needs
-
 returns : tie.Need-returns
 returns c =
     let s = c .before .before .before .before .before .before .before in
@@ -28,9 +25,6 @@ forties-requires c κs =
     let e : s .args .group ≡ 10 = c .before .if2 .taken in
     let o : s .args .order ≡ 8 = let g = s .pre .0 .shape .group-is in omega arith in
     (rw (o, e) at (s .pre .1), refl, s .pre .2)
-
-same-length-2 : tie.Need-same-length-2
-same-length-2 c = search needs
 
 returns-2 : tie.Need-returns-2
 returns-2 c =
@@ -46,9 +40,6 @@ forties-requires-2 c κs =
     let o : s .args .order ≡ 16 = let g = s .pre .0 .shape .group-is in omega arith in
     (rw (o, e) at (s .pre .1), refl, s .pre .2)
 
-same-length-3 : tie.Need-same-length-3
-same-length-3 c = search needs
-
 returns-3 : tie.Need-returns-3
 returns-3 c =
     let s = c .before .before .before .before .before .before .before .before .before in
@@ -62,9 +53,6 @@ forties-requires-3 c κs =
     let e : s .args .group ≡ 40 = c .before .if4 .taken in
     let o : s .args .order ≡ 32 = let g = s .pre .0 .shape .group-is in omega arith in
     (rw (o, e) at (s .pre .1), refl, s .pre .2)
-
-same-length-4 : tie.Need-same-length-4
-same-length-4 c = search needs
 
 returns-4 : tie.Need-returns-4
 returns-4 c =
@@ -80,9 +68,6 @@ eighties-requires c κs =
     let o : s .args .order ≡ 64 = let g = s .pre .0 .shape .group-is in omega arith in
     (rw (o, e) at (s .pre .1), s .pre .2)
 
-same-length-5 : tie.Need-same-length-5
-same-length-5 c = search needs
-
 returns-5 : tie.Need-returns-5
 returns-5 c =
     let s = c .before .before .before .before .before .before .before .before .before .before .before in
@@ -90,34 +75,25 @@ returns-5 c =
     let o : s .args .order ≡ 64 = let g = s .pre .0 .shape .group-is in omega arith in
     rw (o, e) (c .before .before .eighties .ensures)
 
-good-row-requires : tie.Need-good-row-requires
-good-row-requires c κs = search needs
-
-same-length-6 : tie.Need-same-length-6
-same-length-6 c = search needs
-
-returns-6 : tie.Need-returns-6
-returns-6 c = search needs
-
 pub ahead-spec : {M : Type 1} → statement M
 ahead-spec =
     tie.close
     (tie.spec
     fives-requires
-    same-length
+    (λ c. search needs)
     returns
     forties-requires
-    same-length-2
+    (λ c. search needs)
     returns-2
     forties-requires-2
-    same-length-3
+    (λ c. search needs)
     returns-3
     forties-requires-3
-    same-length-4
+    (λ c. search needs)
     returns-4
     eighties-requires
-    same-length-5
+    (λ c. search needs)
     returns-5
-    good-row-requires
-    same-length-6
-    returns-6)
+    (λ c κs. search needs)
+    (λ c. search needs)
+    (λ c. search needs))

@@ -8,21 +8,6 @@ use borrow.Author.Needs.{needs}
 use Rattle.pulses_rows.proofs.clear_end.Statement.{statement}
 use Rattle.pulses_rows.proofs.clear_end.Tie as tie
 
-mul-if1 : tie.Need-mul-if1
-mul-if1 c = search needs
-
-add-if1 : tie.Need-add-if1
-add-if1 c = search needs
-
-returns : tie.Need-returns
-returns c = search needs
-
-sub-least : tie.Need-sub-least
-sub-least c = search needs
-
-least-requires : tie.Need-least-requires
-least-requires c κs = search needs
-
 sub-result : tie.Need-sub-result
 sub-result c =
     let e = c .least .ensures ∙ lesser-min _ _ in
@@ -47,4 +32,4 @@ returns-2 c =
 
 pub clear-end-spec : {M : Type 1} → statement M
 clear-end-spec =
-    tie.close (tie.spec mul-if1 add-if1 returns sub-least least-requires sub-result returns-2)
+    tie.close (tie.spec (λ c. search needs) (λ c. search needs) (λ c. search needs) (λ c. search needs) (λ c κs. search needs) sub-result returns-2)

@@ -51,12 +51,6 @@ slice-write-row c =
     let room = s .pre .2 in
     omega arith
 
-add-s : tie.Need-add-s Inv-loop μ-loop
-add-s c = search needs
-
-loop-less : tie.Need-loop-less Inv-loop μ-loop
-loop-less c = search needs
-
 loop-again : tie.Need-loop-again Inv-loop μ-loop
 loop-again c =
     let s = c .before .before .before .before .before in
@@ -88,8 +82,8 @@ seen-row-spec =
     cast-row
     sub-row
     slice-write-row
-    add-s
-    loop-less
+    (λ c. search needs)
+    (λ c. search needs)
     loop-again
     same-length
     returns)

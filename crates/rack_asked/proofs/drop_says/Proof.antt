@@ -8,9 +8,6 @@ use borrow.Author.Needs.{needs}
 use Rattle.rack_asked.proofs.drop_says.Statement.{statement}
 use Rattle.rack_asked.proofs.drop_says.Tie as tie
 
-missions-right-requires : tie.Need-missions-right-requires
-missions-right-requires c κs = search needs
-
 returns : tie.Need-returns
 returns c = say23 _ _ _ _ _ (search failed)
 
@@ -33,7 +30,7 @@ pub drop-says-spec : {M : Type 1} → statement M
 drop-says-spec =
     tie.close
     (tie.spec
-    missions-right-requires
+    (λ c κs. search needs)
     returns
     returns-2
     own-loaded-requires

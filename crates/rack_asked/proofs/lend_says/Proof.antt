@@ -6,17 +6,11 @@ use borrow.Author.Needs.{needs}
 use Rattle.rack_asked.proofs.lend_says.Statement.{statement}
 use Rattle.rack_asked.proofs.lend_says.Tie as tie
 
-loan-right-requires : tie.Need-loan-right-requires
-loan-right-requires c κs = search needs
-
 returns : tie.Need-returns
 returns c = say-loan _ _ _ _ _ (search failed)
-
-drop-says-requires : tie.Need-drop-says-requires
-drop-says-requires c κs = search needs
 
 returns-2 : tie.Need-returns-2
 returns-2 c = c .drop-says .ensures ∙ lend-as-drop _ _ _ _ _ (search passed)
 
 pub lend-says-spec : {M : Type 1} → statement M
-lend-says-spec = tie.close (tie.spec loan-right-requires returns drop-says-requires returns-2)
+lend-says-spec = tie.close (tie.spec (λ c κs. search needs) returns (λ c κs. search needs) returns-2)

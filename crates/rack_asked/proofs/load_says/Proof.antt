@@ -8,9 +8,6 @@ use borrow.Author.Needs.{needs}
 use Rattle.rack_asked.proofs.load_says.Statement.{statement}
 use Rattle.rack_asked.proofs.load_says.Tie as tie
 
-missions-right-requires : tie.Need-missions-right-requires
-missions-right-requires c κs = search needs
-
 returns : tie.Need-returns
 returns c = say23 _ _ _ _ _ (search failed)
 
@@ -20,15 +17,6 @@ returns-2 c = say24 _ _ _ _ _ refl (search passed) (omega arith)
 returns-3 : tie.Need-returns-3
 returns-3 c = let a = c .before .before .before .before .before .before .args in
     say25 _ _ _ _ _ refl (search passed) (omega arith) (ne-eqb (a .caller) (a .owner) (λ e. omega arith))
-
-header-says-requires : tie.Need-header-says-requires
-header-says-requires c κs = search needs
-
-enum-told : tie.Need-enum-told
-enum-told c = search needs
-
-enum-told-2 : tie.Need-enum-told-2
-enum-told-2 c = search needs
 
 returns-4 : tie.Need-returns-4
 returns-4 c = let a = c .before .before .before .before .before .before .before .before .before .args in
@@ -51,13 +39,13 @@ pub load-says-spec : {M : Type 1} → statement M
 load-says-spec =
     tie.close
     (tie.spec
-    missions-right-requires
+    (λ c κs. search needs)
     returns
     returns-2
     returns-3
-    header-says-requires
-    enum-told
-    enum-told-2
+    (λ c κs. search needs)
+    (λ c. search needs)
+    (λ c. search needs)
     returns-4
     returns-5
     returns-6)

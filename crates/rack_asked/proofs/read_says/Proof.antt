@@ -8,9 +8,6 @@ use borrow.Author.Needs.{needs}
 use Rattle.rack_asked.proofs.read_says.Statement.{statement}
 use Rattle.rack_asked.proofs.read_says.Tie as tie
 
-missions-right-requires : tie.Need-missions-right-requires
-missions-right-requires c κs = search needs
-
 returns : tie.Need-returns
 returns c = say23 _ _ _ _ _ (search failed)
 
@@ -42,7 +39,7 @@ pub read-says-spec : {M : Type 1} → statement M
 read-says-spec =
     tie.close
     (tie.spec
-    missions-right-requires
+    (λ c κs. search needs)
     returns
     returns-2
     readable-requires

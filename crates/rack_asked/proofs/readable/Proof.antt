@@ -10,9 +10,6 @@ use borrow.Author.Needs.{needs}
 use Rattle.rack_asked.proofs.readable.Statement.{statement}
 use Rattle.rack_asked.proofs.readable.Tie as tie
 
-status-requires : tie.Need-status-requires
-status-requires c κs = search needs
-
 returns : tie.Need-returns
 returns c = sym (rw (status-zero _ _ (c .before .status .ensures) (c .if1 .taken)) refl)
 
@@ -29,12 +26,6 @@ returns-3 c = let a = c .before .before .before .before .before .args in
     )
     refl)
 
-cast-result : tie.Need-cast-result
-cast-result c = search needs
-
-add-result : tie.Need-add-result
-add-result c = search needs
-
 returns-4 : tie.Need-returns-4
 unfolding lentTo
 returns-4 c = let a = c .before .before .before .before .before .args in
@@ -50,4 +41,4 @@ returns-4 c = let a = c .before .before .before .before .before .args in
 pub readable-spec : {M : Type 1} → statement M
 readable-spec =
     tie.close
-    (tie.spec status-requires returns returns-2 returns-3 cast-result add-result returns-4)
+    (tie.spec (λ c κs. search needs) returns returns-2 returns-3 (λ c. search needs) (λ c. search needs) returns-4)

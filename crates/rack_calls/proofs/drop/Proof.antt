@@ -6,26 +6,11 @@ use borrow.Author.Needs.{needs}
 use Rattle.rack_calls.proofs.drop.Statement.{statement}
 use Rattle.rack_calls.proofs.drop.Tie as tie
 
-drop-says-requires : tie.Need-drop-says-requires
-drop-says-requires c κs = search needs
-
-enum-told : tie.Need-enum-told
-enum-told c = search needs
-
-enum-told-2 : tie.Need-enum-told-2
-enum-told-2 c = search needs
-
-same-length : tie.Need-same-length
-same-length c = search needs
-
 returns : tie.Need-returns
 returns c = let a = c .before .before .before .before .before .args in
     let call : Call = callOf (a .caller) (a .owner) (a .place) Drop in
     let r = c .before .before .drop-says in
     (r .ensures, step-no (a .area .now) call (r .result) (r .ensures) (c .before .match .keys2))
-
-slice-aggregate-set-entry : tie.Need-slice-aggregate-set-entry
-slice-aggregate-set-entry c = search needs
 
 set-entry-requires : tie.Need-set-entry-requires
 set-entry-requires c κs = let a = c .before .before .before .before .before .before .before .args in
@@ -33,9 +18,6 @@ set-entry-requires c κs = let a = c .before .before .before .before .before .be
     let r = c .before .before .before .before .drop-says in
     let d = c .before .before .enum-told .given .1 in
     (named (a .area .now) call (r .result) (r .ensures) d, area-whole (a .area .now) call (r .result) (r .ensures) d, refl)
-
-same-length-2 : tie.Need-same-length-2
-same-length-2 c = search needs
 
 returns-2 : tie.Need-returns-2
 returns-2 c = let a = c .before .before .before .before .before .before .before .before .before .before .args in
@@ -47,12 +29,12 @@ pub drop-spec : {M : Type 1} → statement M
 drop-spec =
     tie.close
     (tie.spec
-    drop-says-requires
-    enum-told
-    enum-told-2
-    same-length
+    (λ c κs. search needs)
+    (λ c. search needs)
+    (λ c. search needs)
+    (λ c. search needs)
     returns
-    slice-aggregate-set-entry
+    (λ c. search needs)
     set-entry-requires
-    same-length-2
+    (λ c. search needs)
     returns-2)

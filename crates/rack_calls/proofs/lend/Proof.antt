@@ -7,18 +7,6 @@ use borrow.Author.Needs.{needs}
 use Rattle.rack_calls.proofs.lend.Statement.{statement}
 use Rattle.rack_calls.proofs.lend.Tie as tie
 
-lend-says-requires : tie.Need-lend-says-requires
-lend-says-requires c κs = search needs
-
-enum-told : tie.Need-enum-told
-enum-told c = search needs
-
-enum-told-2 : tie.Need-enum-told-2
-enum-told-2 c = search needs
-
-same-length : tie.Need-same-length
-same-length c = search needs
-
 returns : tie.Need-returns
 returns c = let a = c .before .before .before .before .before .args in
     let call : Call = callOf (a .caller) (a .owner) (a .place) (Lend (a .to)) in
@@ -42,9 +30,6 @@ set-status-requires c κs = let a = c .before .before .before .before .before .b
     let d = c .before .enum-told .given .1 in
     (named (a .area .now) call (r .result) (r .ensures) d, area-whole (a .area .now) call (r .result) (r .ensures) d)
 
-same-length-2 : tie.Need-same-length-2
-same-length-2 c = search needs
-
 returns-2 : tie.Need-returns-2
 returns-2 c = let a = c .before .before .before .before .before .before .before .before .before .args in
     let call : Call = callOf (a .caller) (a .owner) (a .place) (Lend (a .to)) in
@@ -55,13 +40,13 @@ pub lend-spec : {M : Type 1} → statement M
 lend-spec =
     tie.close
     (tie.spec
-    lend-says-requires
-    enum-told
-    enum-told-2
-    same-length
+    (λ c κs. search needs)
+    (λ c. search needs)
+    (λ c. search needs)
+    (λ c. search needs)
     returns
     cast-set-status
     add-set-status
     set-status-requires
-    same-length-2
+    (λ c. search needs)
     returns-2)

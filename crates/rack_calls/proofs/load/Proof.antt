@@ -8,18 +8,6 @@ use borrow.Author.Needs.{needs}
 use Rattle.rack_calls.proofs.load.Statement.{statement}
 use Rattle.rack_calls.proofs.load.Tie as tie
 
-load-says-requires : tie.Need-load-says-requires
-load-says-requires c κs = search needs
-
-enum-told : tie.Need-enum-told
-enum-told c = search needs
-
-enum-told-2 : tie.Need-enum-told-2
-enum-told-2 c = search needs
-
-same-length : tie.Need-same-length
-same-length c = search needs
-
 returns : tie.Need-returns
 returns c = let a = c .before .before .before .before .before .before .args in
     let call : Call = callOf (a .caller) (a .owner) (a .place) (Load (a .header .now)) in
@@ -32,9 +20,6 @@ status-requires c κs = let a = c .before .before .before .before .before .befor
     let r = c .before .before .before .load-says in
     named (a .area .now) call (r .result) (r .ensures) (c .before .enum-told .given .1)
 
-filled-requires : tie.Need-filled-requires
-filled-requires c κs = search needs
-
 set-entry-requires : tie.Need-set-entry-requires
 set-entry-requires c κs = let a = c .before .before .before .before .before .before .before .before .before .before .args in
     let call : Call = callOf (a .caller) (a .owner) (a .place) (Load (a .header .now)) in
@@ -44,9 +29,6 @@ set-entry-requires c κs = let a = c .before .before .before .before .before .be
       area-whole (a .area .now) call (r .result) (r .ensures) d,
       header-whole (a .area .now) (a .caller) (a .owner) (a .place) (a .header .now) (r .result) (r .ensures) d,
     )
-
-same-length-2 : tie.Need-same-length-2
-same-length-2 c = search needs
 
 returns-2 : tie.Need-returns-2
 returns-2 c = let a = c .before .before .before .before .before .before .before .before .before .before .before .before .before .args in
@@ -63,13 +45,13 @@ pub load-spec : {M : Type 1} → statement M
 load-spec =
     tie.close
     (tie.spec
-    load-says-requires
-    enum-told
-    enum-told-2
-    same-length
+    (λ c κs. search needs)
+    (λ c. search needs)
+    (λ c. search needs)
+    (λ c. search needs)
     returns
     status-requires
-    filled-requires
+    (λ c κs. search needs)
     set-entry-requires
-    same-length-2
+    (λ c. search needs)
     returns-2)

@@ -10,21 +10,6 @@ use borrow.Author.Needs.{needs}
 use Rattle.rack_calls.proofs.read.Statement.{statement}
 use Rattle.rack_calls.proofs.read.Tie as tie
 
-read-says-requires : tie.Need-read-says-requires
-read-says-requires c κs = search needs
-
-enum-told : tie.Need-enum-told
-enum-told c = search needs
-
-enum-told-2 : tie.Need-enum-told-2
-enum-told-2 c = search needs
-
-same-length : tie.Need-same-length
-same-length c = search needs
-
-returns : tie.Need-returns
-returns c = search needs
-
 get-header-requires : tie.Need-get-header-requires
 get-header-requires c κs = let a = c .before .before .before .before .before .before .before .args in
     let call : Call = callOf (a .caller) (a .owner) (a .place) (Read (a .header .now)) in
@@ -34,9 +19,6 @@ get-header-requires c κs = let a = c .before .before .before .before .before .b
       area-whole (a .area .now) call (r .result) (r .ensures) d,
       slice-whole (a .area .now) (a .caller) (a .owner) (a .place) (a .header .now) (r .result) (r .ensures) d,
     )
-
-same-length-2 : tie.Need-same-length-2
-same-length-2 c = search needs
 
 returns-2 : tie.Need-returns-2
 returns-2 c = let a = c .before .before .before .before .before .before .before .before .before .before .args in
@@ -48,11 +30,11 @@ pub read-spec : {M : Type 1} → statement M
 read-spec =
     tie.close
     (tie.spec
-    read-says-requires
-    enum-told
-    enum-told-2
-    same-length
-    returns
+    (λ c κs. search needs)
+    (λ c. search needs)
+    (λ c. search needs)
+    (λ c. search needs)
+    (λ c. search needs)
     get-header-requires
-    same-length-2
+    (λ c. search needs)
     returns-2)

@@ -4,18 +4,6 @@ use borrow.Author.Needs.{needs}
 use Rattle.rack_entries.proofs.get_header.Statement.{statement}
 use Rattle.rack_entries.proofs.get_header.Tie as tie
 
-start-requires : tie.Need-start-requires
-start-requires c κs = search needs
-
-add-copy-part : tie.Need-add-copy-part
-add-copy-part c = search needs
-
-copy-part-requires : tie.Need-copy-part-requires
-copy-part-requires c κs = search needs
-
-same-length : tie.Need-same-length
-same-length c = search needs
-
 returns : tie.Need-returns
 returns c = let s = c .before .before .before .before .before .before .before in
     let a = s .args in
@@ -24,4 +12,4 @@ returns c = let s = c .before .before .before .before .before .before .before in
 
 pub get-header-spec : {M : Type 1} → statement M
 get-header-spec =
-    tie.close (tie.spec start-requires add-copy-part copy-part-requires same-length returns)
+    tie.close (tie.spec (λ c κs. search needs) (λ c. search needs) (λ c κs. search needs) (λ c. search needs) returns)

@@ -7,15 +7,6 @@ use borrow.Author.Needs.{needs}
 use Rattle.rack_entries.proofs.set_entry.Statement.{statement}
 use Rattle.rack_entries.proofs.set_entry.Tie as tie
 
-start-requires : tie.Need-start-requires
-start-requires c κs = search needs
-
-slice-write-area : tie.Need-slice-write-area
-slice-write-area c = search needs
-
-add-write : tie.Need-add-write
-add-write c = search needs
-
 write-requires : tie.Need-write-requires
 write-requires c κs = let e = c .before .start .ensures in
     simp length-set (omega arith)
@@ -33,4 +24,4 @@ returns c = let s = c .before .before .before .before .before .before .before in
 pub set-entry-spec : {M : Type 1} → statement M
 set-entry-spec =
     tie.close
-    (tie.spec start-requires slice-write-area add-write write-requires same-length returns)
+    (tie.spec (λ c κs. search needs) (λ c. search needs) (λ c. search needs) write-requires same-length returns)

@@ -8,19 +8,10 @@ use borrow.Author.Needs.{needs}
 use Rattle.rack_entries.proofs.set_status.Statement.{statement}
 use Rattle.rack_entries.proofs.set_status.Tie as tie
 
-start-requires : tie.Need-start-requires
-start-requires c κs = search needs
-
-slice-write-area : tie.Need-slice-write-area
-slice-write-area c = search needs
-
-same-length : tie.Need-same-length
-same-length c = search needs
-
 returns : tie.Need-returns
 returns c = let a = c .before .before .args in
     let e = c .start .ensures in
     ap (λ (i : ℕ). set (a .area .now) i (a .status)) e ∙ status-put (a .area .now) (a .owner) (a .place) (a .status) (omega arith)
 
 pub set-status-spec : {M : Type 1} → statement M
-set-status-spec = tie.close (tie.spec start-requires slice-write-area same-length returns)
+set-status-spec = tie.close (tie.spec (λ c κs. search needs) (λ c. search needs) (λ c. search needs) returns)

@@ -8,12 +8,6 @@ use borrow.Author.Needs.{needs}
 use Rattle.rack_entries.proofs.status.Statement.{statement}
 use Rattle.rack_entries.proofs.status.Tie as tie
 
-start-requires : tie.Need-start-requires
-start-requires c κs = search needs
-
-shared-slice-read-result : tie.Need-shared-slice-read-result
-shared-slice-read-result c = search needs
-
 returns : tie.Need-returns
 returns c = let a = c .before .before .before .before .args in
     ap (λ (i : ℕ). getD (a .area .now) i 0) (c .before .before .start .ensures) ∙ sym (status-is (a .area .now) (a .owner) (a .place))
@@ -24,4 +18,4 @@ returns-2 c = let a = c .before .before .before .args in
     sym (status-is (a .area .now) (a .owner) (a .place) ∙ List·getD-eq-default (a .area .now) 0 (omega arith))
 
 pub status-spec : {M : Type 1} → statement M
-status-spec = tie.close (tie.spec start-requires shared-slice-read-result returns returns-2)
+status-spec = tie.close (tie.spec (λ c κs. search needs) (λ c. search needs) returns returns-2)

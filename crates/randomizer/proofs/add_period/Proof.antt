@@ -22,24 +22,6 @@ unfolding next window val
 loop-holds c =
     (search needs, table-right _ refl refl, rw (add-zero (c .args .start)) (added-none (c .args .bytes .now) (c .args .start)))
 
-add-j : tie.Need-add-j Inv-loop μ-loop
-add-j c = search needs
-
-slice-read-bytes : tie.Need-slice-read-bytes Inv-loop μ-loop
-slice-read-bytes c = search needs
-
-array-read-bytes : tie.Need-array-read-bytes Inv-loop μ-loop
-array-read-bytes c = search needs
-
-slice-write-bytes : tie.Need-slice-write-bytes Inv-loop μ-loop
-slice-write-bytes c = search needs
-
-add-i : tie.Need-add-i Inv-loop μ-loop
-add-i c = search needs
-
-loop-less : tie.Need-loop-less Inv-loop μ-loop
-loop-less c = search needs
-
 loop-again : tie.Need-loop-again Inv-loop μ-loop
 loop-again c =
     let l = c .before .before .loop in
@@ -49,9 +31,6 @@ loop-again c =
       l .inv .1,
       added-entry _ (s .args .bytes .now) (l .bytes) (s .args .start) (l .i) (l .inv .1) (s .pre .0) (omega arith) (omega arith) byte (l .inv .2),
     )
-
-same-length : tie.Need-same-length Inv-loop μ-loop
-same-length c = search needs
 
 returns : tie.Need-returns Inv-loop μ-loop
 returns c =
@@ -67,12 +46,12 @@ add-period-spec =
     Inv-loop
     μ-loop
     loop-holds
-    add-j
-    slice-read-bytes
-    array-read-bytes
-    slice-write-bytes
-    add-i
-    loop-less
+    (λ c. search needs)
+    (λ c. search needs)
+    (λ c. search needs)
+    (λ c. search needs)
+    (λ c. search needs)
+    (λ c. search needs)
     loop-again
-    same-length
+    (λ c. search needs)
     returns)

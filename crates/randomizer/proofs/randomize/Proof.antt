@@ -18,33 +18,12 @@ abbrev μ-loop : tie.MeasureT-loop
 loop-holds : tie.Need-loop-holds Inv-loop μ-loop
 loop-holds c = (search needs, search needs, added-none _ 0)
 
-sub-loop : tie.Need-sub-loop Inv-loop μ-loop
-sub-loop c = search needs
-
-add-period-requires : tie.Need-add-period-requires Inv-loop μ-loop
-add-period-requires c κs = search needs
-
-add-start : tie.Need-add-start Inv-loop μ-loop
-add-start c = search needs
-
-loop-less : tie.Need-loop-less Inv-loop μ-loop
-loop-less c = search needs
-
 loop-again : tie.Need-loop-again Inv-loop μ-loop
 loop-again c =
     let l = c .before .before .before .before .before .loop in
     let xs = c .before .before .before .before .before .before .before .args .bytes .now in
     let part = c .before .before .add-period in
     (omega arith, omega arith, added-part xs (l .bytes) (part .last .0) (l .start) (l .start + 255) (omega arith) (l .inv .2) (part .ensures))
-
-sub-add-period : tie.Need-sub-add-period Inv-loop μ-loop
-sub-add-period c = search needs
-
-add-period-requires-2 : tie.Need-add-period-requires-2 Inv-loop μ-loop
-add-period-requires-2 c κs = search needs
-
-same-length : tie.Need-same-length Inv-loop μ-loop
-same-length c = search needs
 
 returns : tie.Need-returns Inv-loop μ-loop
 returns c =
@@ -62,12 +41,12 @@ randomize-spec =
     Inv-loop
     μ-loop
     loop-holds
-    sub-loop
-    add-period-requires
-    add-start
-    loop-less
+    (λ c. search needs)
+    (λ c κs. search needs)
+    (λ c. search needs)
+    (λ c. search needs)
     loop-again
-    sub-add-period
-    add-period-requires-2
-    same-length
+    (λ c. search needs)
+    (λ c κs. search needs)
+    (λ c. search needs)
     returns)

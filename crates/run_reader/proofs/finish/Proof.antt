@@ -13,19 +13,10 @@ use borrow.Author.Needs.{needs}
 use Rattle.run_reader.proofs.finish.Statement.{statement}
 use Rattle.run_reader.proofs.finish.Tie as tie
 
-block-count-requires : tie.Need-block-count-requires
-block-count-requires c κs = search needs
-
 frames-say-requires : tie.Need-frames-say-requires
 frames-say-requires c κs =
     let s = c .before .before .before in
     frames-judged (s .args .f) (s .pre .valid) _ _ (c .block-count .ensures) (s .pre .blocks-fit)
-
-enum-told : tie.Need-enum-told
-enum-told c = search needs
-
-enum-told-2 : tie.Need-enum-told-2
-enum-told-2 c = search needs
 
 returns : tie.Need-returns
 returns c =
@@ -44,9 +35,6 @@ frames-out-requires c κs =
     let s = c .before .before .before .before .before .before .before in
     (frames-judged (s .args .f) (s .pre .valid) _ _ (c .before .before .before .before .block-count .ensures) (s .pre .blocks-fit), s .pre .frames-are)
 
-same-length : tie.Need-same-length
-same-length c = search needs
-
 returns-2 : tie.Need-returns-2
 returns-2 c =
     let s = c .before .before .before .before .before .before .before .before .before .before in
@@ -62,11 +50,11 @@ pub finish-spec : {M : Type 1} → statement M
 finish-spec =
     tie.close
     (tie.spec
-    block-count-requires
+    (λ c κs. search needs)
     frames-say-requires
-    enum-told
-    enum-told-2
+    (λ c. search needs)
+    (λ c. search needs)
     returns
     frames-out-requires
-    same-length
+    (λ c. search needs)
     returns-2)

@@ -29,15 +29,6 @@ module _ (header marker slots : List ℕ) (n : ℕ) (q : Parameters) (e : q ≡ 
   unfolding framesRead parametersOf
   gives = ap (λ (x : Parameters). framesOf (x .fields) (wordOut (planOf x) slots)) e
 
-check-requires : tie.Need-check-requires
-check-requires c κs = search needs
-
-enum-told : tie.Need-enum-told
-enum-told c = search needs
-
-enum-told-2 : tie.Need-enum-told-2
-enum-told-2 c = search needs
-
 returns : tie.Need-returns
 unfolding runReadSays
 returns c =
@@ -56,9 +47,6 @@ read-with-requires c κs =
     let done = c .before .enum-told .given .1 in
     entered (a .header .now) (a .marker .now) (length (a .frames .now)) (length (a .slots .now)) (k .result .parameters) (sym (k .ensures .0) ∙ done) (k .ensures .1 done)
 
-same-length : tie.Need-same-length
-same-length c = search needs
-
 returns-2 : tie.Need-returns-2
 returns-2 c =
     let a = c .before .before .before .before .before .before .before .before .before .before .before .args in
@@ -74,10 +62,10 @@ pub read-spec : {M : Type 1} → statement M
 read-spec =
     tie.close
     (tie.spec
-    check-requires
-    enum-told
-    enum-told-2
+    (λ c κs. search needs)
+    (λ c. search needs)
+    (λ c. search needs)
     returns
     read-with-requires
-    same-length
+    (λ c. search needs)
     returns-2)

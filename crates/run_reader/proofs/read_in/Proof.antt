@@ -17,23 +17,11 @@ use borrow.Author.Needs.{needs}
 use Rattle.run_reader.proofs.read_in.Statement.{statement}
 use Rattle.run_reader.proofs.read_in.Tie as tie
 
-plan-of-requires : tie.Need-plan-of-requires
-plan-of-requires c κs = search needs
-
 slots-say-requires : tie.Need-slots-say-requires
 slots-say-requires c κs =
     let s = c .before .before .before .before .before .before .before in
     let p = (c .before) .plan-of in
     (reading.plan-slots (s .args .q) _ (p .ensures) _ (s .pre .entered), reading.plan-cleared (s .args .q) _ (p .ensures) (s .args .slots .now) _ (s .pre .words-fit) (s .pre .empty))
-
-enum-told : tie.Need-enum-told
-enum-told c = search needs
-
-enum-told-2 : tie.Need-enum-told-2
-enum-told-2 c = search needs
-
-same-length : tie.Need-same-length
-same-length c = search needs
 
 returns : tie.Need-returns
 returns c =
@@ -55,18 +43,6 @@ read-words-requires c κs =
       words-fit = let k = j .kept .1 .1 .0 in let h = s .pre .words-fit in omega arith;
       blocks-fit = s .pre .blocks-fit;
     }
-
-enum-told-3 : tie.Need-enum-told-3
-enum-told-3 c = search needs
-
-enum-told-4 : tie.Need-enum-told-4
-enum-told-4 c = search needs
-
-same-length-2 : tie.Need-same-length-2
-same-length-2 c = search needs
-
-same-length-3 : tie.Need-same-length-3
-same-length-3 c = search needs
 
 returns-2 : tie.Need-returns-2
 returns-2 c =
@@ -94,15 +70,6 @@ finish-requires c κs =
       frames-are = s .pre .entered .frames-are;
     }
 
-same-length-4 : tie.Need-same-length-4
-same-length-4 c = search needs
-
-same-length-5 : tie.Need-same-length-5
-same-length-5 c = search needs
-
-same-length-6 : tie.Need-same-length-6
-same-length-6 c = search needs
-
 returns-3 : tie.Need-returns-3
 returns-3 c =
     let s = c .before .before .before .before .before .before .before .before .before .before .before .before .before .before .before .before .before .before .before .before .before .before .before .before in
@@ -127,20 +94,20 @@ pub read-in-spec : {M : Type 1} → statement M
 read-in-spec =
     tie.close
     (tie.spec
-    plan-of-requires
+    (λ c κs. search needs)
     slots-say-requires
-    enum-told
-    enum-told-2
-    same-length
+    (λ c. search needs)
+    (λ c. search needs)
+    (λ c. search needs)
     returns
     read-words-requires
-    enum-told-3
-    enum-told-4
-    same-length-2
-    same-length-3
+    (λ c. search needs)
+    (λ c. search needs)
+    (λ c. search needs)
+    (λ c. search needs)
     returns-2
     finish-requires
-    same-length-4
-    same-length-5
-    same-length-6
+    (λ c. search needs)
+    (λ c. search needs)
+    (λ c. search needs)
     returns-3)

@@ -61,12 +61,6 @@ mul-at c = let s = c .before .before .before .before .before .before in omega (a
 add-end : tie.Need-add-end Inv-loop μ-loop
 add-end c = let s = c .before .before .before .before .before .before in omega (arith, inside s _ _ _ ((c .before .before .before) .block-count .ensures) ((c .before .before) .block-bytes .ensures) (c .loop-test .taken) .1)
 
-sub-read-word : tie.Need-sub-read-word Inv-loop μ-loop
-sub-read-word c = search needs
-
-part-read-word-start : tie.Need-part-read-word-start Inv-loop μ-loop
-part-read-word-start c = search needs
-
 part-read-word-end : tie.Need-part-read-word-end Inv-loop μ-loop
 part-read-word-end c =
     let s = c .before .before .before .before .before .before in
@@ -85,15 +79,6 @@ read-word-requires c κs =
       inside = omega (arith, n .ensures, t, s .pre .words-fit);
       block-is = mid-len (l .j * h .result) (l .j * h .result + h .result) (l .blocks) (omega (arith, i, l .inv .1)) ∙ omega (arith, h .ensures);
     }
-
-enum-told : tie.Need-enum-told Inv-loop μ-loop
-enum-told c = search needs
-
-enum-told-2 : tie.Need-enum-told-2 Inv-loop μ-loop
-enum-told-2 c = search needs
-
-moved-to-requires : tie.Need-moved-to-requires Inv-loop μ-loop
-moved-to-requires c κs = search needs
 
 same-length : tie.Need-same-length Inv-loop μ-loop
 same-length c =
@@ -114,12 +99,6 @@ returns c =
     ((c .before .before .before .before .before .before .before) .loop-test .taken) (l .inv .3) (r .ensures .0) (is-not-done (r .result) keys) in
     let m = c .moved-to .ensures ∙ moved (r .result) (l .j) keys in
     (m ∙ e, λ d. absurd (no-done (sym m ∙ d)))
-
-add-j : tie.Need-add-j Inv-loop μ-loop
-add-j c = search needs
-
-loop-less : tie.Need-loop-less Inv-loop μ-loop
-loop-less c = search needs
 
 loop-again : tie.Need-loop-again Inv-loop μ-loop
 loop-again c =
@@ -170,17 +149,17 @@ read-words-spec =
     loop-holds
     mul-at
     add-end
-    sub-read-word
-    part-read-word-start
+    (λ c. search needs)
+    (λ c. search needs)
     part-read-word-end
     read-word-requires
-    enum-told
-    enum-told-2
-    moved-to-requires
+    (λ c. search needs)
+    (λ c. search needs)
+    (λ c κs. search needs)
     same-length
     returns
-    add-j
-    loop-less
+    (λ c. search needs)
+    (λ c. search needs)
     loop-again
     same-length-2
     returns-2)

@@ -24,9 +24,6 @@ part : (s : tie.Start) (h : ℕ) → h ≡ blockBytes (s .args .f .rate) → (xs
     → take h (xs ++ drop h (s .args .space .now)) ≡ xs
 part s h e xs k = take-at xs (drop h (s .args .space .now)) h (long s h e xs k)
 
-block-bytes-requires : tie.Need-block-bytes-requires
-block-bytes-requires c κs = search needs
-
 slice-relend-prefix-fill-block : tie.Need-slice-relend-prefix-fill-block
 slice-relend-prefix-fill-block c = room (c .before .before .before .before) _ (c .block-bytes .ensures)
 
@@ -59,15 +56,6 @@ slice-aggregate-write c =
     let e = d .before .before .block-bytes .ensures in
     sym (ap length (part s h e (d .fill-block .last .1 .1 .1 .1 .1 .0) (d .fill-block .kept .1 .1 .1 .1 .1 .0)) ∙ long s h e (d .fill-block .last .1 .1 .1 .1 .1 .0) (d .fill-block .kept .1 .1 .1 .1 .1 .0))
 
-write-requires : tie.Need-write-requires
-write-requires c κs = search needs
-
-same-length : tie.Need-same-length
-same-length c = search needs
-
-same-length-2 : tie.Need-same-length-2
-same-length-2 c = search needs
-
 returns : tie.Need-returns
 returns c =
     let s = c .before .before .before .before .before .before .before .before .before .before .before .before .before in
@@ -82,13 +70,13 @@ pub code-word-spec : {M : Type 1} → statement M
 code-word-spec =
     tie.close
     (tie.spec
-    block-bytes-requires
+    (λ c κs. search needs)
     slice-relend-prefix-fill-block
     slice-aggregate-fill-block
     fill-block-requires
     slice-reshare-prefix-write
     slice-aggregate-write
-    write-requires
-    same-length
-    same-length-2
+    (λ c κs. search needs)
+    (λ c. search needs)
+    (λ c. search needs)
     returns)

@@ -39,12 +39,6 @@ mul-at c = let s = c .before .before .before .before .before .before in omega (a
 add-end : tie.Need-add-end Inv-loop μ-loop
 add-end c = let s = c .before .before .before .before .before .before in omega (arith, few s _ (c .before .before .block-count .ensures))
 
-sub-code-word : tie.Need-sub-code-word Inv-loop μ-loop
-sub-code-word c = search needs
-
-part-code-word-start : tie.Need-part-code-word-start Inv-loop μ-loop
-part-code-word-start c = search needs
-
 part-code-word-end : tie.Need-part-code-word-end Inv-loop μ-loop
 part-code-word-end c =
     let l = c .before .before .loop in
@@ -63,12 +57,6 @@ code-word-requires c κs =
       space-is = l .inv .1;
       word-is = mid-len (l .j * wordBytes) (l .j * wordBytes + wordBytes) (l .words) (omega (arith, s .pre .words-fit, n .ensures, l .inv .2, c .before .before .loop-test .taken)) ∙ omega arith;
     }
-
-add-j : tie.Need-add-j Inv-loop μ-loop
-add-j c = search needs
-
-loop-less : tie.Need-loop-less Inv-loop μ-loop
-loop-less c = search needs
 
 loop-again : tie.Need-loop-again Inv-loop μ-loop
 loop-again c =
@@ -107,12 +95,12 @@ code-words-spec =
     loop-holds
     mul-at
     add-end
-    sub-code-word
-    part-code-word-start
+    (λ c. search needs)
+    (λ c. search needs)
     part-code-word-end
     code-word-requires
-    add-j
-    loop-less
+    (λ c. search needs)
+    (λ c. search needs)
     loop-again
     same-length
     same-length-2

@@ -21,15 +21,6 @@ run-is : (header marker frames : List _) (q : Parameters) → q ≡ parametersOf
 unfolding runOf parametersOf
 run-is header marker frames q e = ap (λ (x : Parameters). runSlots (planOf x) (wordAt (x .fields) frames)) e
 
-check-requires : tie.Need-check-requires
-check-requires c κs = search needs
-
-enum-told : tie.Need-enum-told
-enum-told c = search needs
-
-enum-told-2 : tie.Need-enum-told-2
-enum-told-2 c = search needs
-
 returns : tie.Need-returns
 unfolding runWriteSays
 returns c =
@@ -42,9 +33,6 @@ write-with-requires c κs =
     let k = c .before .before .before .check in
     let done = c .before .enum-told .given .1 in
     entered (a .header .now) (a .marker .now) (length (a .frames .now)) (length (a .slots .now)) (k .result .parameters) (sym (k .ensures .0) ∙ done) (k .ensures .1 done)
-
-same-length : tie.Need-same-length
-same-length c = search needs
 
 returns-2 : tie.Need-returns-2
 unfolding runWriteSays
@@ -62,10 +50,10 @@ pub write-spec : {M : Type 1} → statement M
 write-spec =
     tie.close
     (tie.spec
-    check-requires
-    enum-told
-    enum-told-2
+    (λ c κs. search needs)
+    (λ c. search needs)
+    (λ c. search needs)
     returns
     write-with-requires
-    same-length
+    (λ c. search needs)
     returns-2)

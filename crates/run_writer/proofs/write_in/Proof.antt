@@ -5,26 +5,11 @@ use borrow.Author.Needs.{needs}
 use Rattle.run_writer.proofs.write_in.Statement.{statement}
 use Rattle.run_writer.proofs.write_in.Tie as tie
 
-code-words-requires : tie.Need-code-words-requires
-code-words-requires c κs = search needs
-
-plan-of-requires : tie.Need-plan-of-requires
-plan-of-requires c κs = search needs
-
 write-requires : tie.Need-write-requires
 write-requires c κs =
     let s = c .before .before .before .before .before .before .before .before .before .before .before .before .before .before .before in
     let w = c .before .before .before .before .before .before .before .code-words in
     plan-lent (s .args .q) _ _ _ (c .before .before .plan-of .ensures) (s .pre .entered .fine) (let k = w .kept .1 .1 .1 .0 in let h = s .pre .words-fit in omega arith) (s .pre .entered .slots-are)
-
-same-length : tie.Need-same-length
-same-length c = search needs
-
-same-length-2 : tie.Need-same-length-2
-same-length-2 c = search needs
-
-same-length-3 : tie.Need-same-length-3
-same-length-3 c = search needs
 
 returns : tie.Need-returns
 returns c =
@@ -36,10 +21,10 @@ pub write-in-spec : {M : Type 1} → statement M
 write-in-spec =
     tie.close
     (tie.spec
-    code-words-requires
-    plan-of-requires
+    (λ c κs. search needs)
+    (λ c κs. search needs)
     write-requires
-    same-length
-    same-length-2
-    same-length-3
+    (λ c. search needs)
+    (λ c. search needs)
+    (λ c. search needs)
     returns)

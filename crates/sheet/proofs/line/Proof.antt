@@ -16,24 +16,6 @@ use Rattle.sheet.proofs.line.Tie as tie
 good : (c : tie.After-enum-told) → headerSays (c .before .before .before .before .before .args .header .now) ≡ Done
 good c = sym (c .before .before .header-says .ensures) ∙ c .enum-told .given .1
 
-header-says-requires : tie.Need-header-says-requires
-header-says-requires c κs = search needs
-
-enum-told : tie.Need-enum-told
-enum-told c = search needs
-
-enum-told-2 : tie.Need-enum-told-2
-enum-told-2 c = search needs
-
-number-requires : tie.Need-number-requires
-number-requires c κs = search needs
-
-put-no-requires : tie.Need-put-no-requires
-put-no-requires c κs = search needs
-
-same-length : tie.Need-same-length
-same-length c = search needs
-
 returns : tie.Need-returns
 returns c =
     let a = c .before .before .before .before .before .before .before .before .before .before .args in
@@ -55,9 +37,6 @@ put-run-requires c κs =
     let g = header-good header (good (c .before .before)) in
     (rw (c .before .read .ensures) (g .valid, copies-range (fieldsOf header .copies) (g .copies) .1), s .pre)
 
-same-length-2 : tie.Need-same-length-2
-same-length-2 c = search needs
-
 returns-2 : tie.Need-returns-2
 returns-2 c =
     let a = c .before .before .before .before .before .before .before .before .before .before .args in
@@ -72,14 +51,14 @@ pub line-spec : {M : Type 1} → statement M
 line-spec =
     tie.close
     (tie.spec
-    header-says-requires
-    enum-told
-    enum-told-2
-    number-requires
-    put-no-requires
-    same-length
+    (λ c κs. search needs)
+    (λ c. search needs)
+    (λ c. search needs)
+    (λ c κs. search needs)
+    (λ c κs. search needs)
+    (λ c. search needs)
     returns
     read-requires
     put-run-requires
-    same-length-2
+    (λ c. search needs)
     returns-2)

@@ -7,21 +7,6 @@ use borrow.Author.Needs.{needs}
 use Rattle.sheet.proofs.put_no.Statement.{statement}
 use Rattle.sheet.proofs.put_no.Tie as tie
 
-slice-aggregate-put : tie.Need-slice-aggregate-put
-slice-aggregate-put c = search needs
-
-put-requires : tie.Need-put-requires
-put-requires c κs = search needs
-
-slice-aggregate-put-items : tie.Need-slice-aggregate-put-items
-slice-aggregate-put-items c = search needs
-
-put-items-requires : tie.Need-put-items-requires
-put-items-requires c κs = search needs
-
-same-length : tie.Need-same-length
-same-length c = search needs
-
 returns : tie.Need-returns
 unfolding noLine
 returns c =
@@ -34,9 +19,9 @@ pub put-no-spec : {M : Type 1} → statement M
 put-no-spec =
     tie.close
     (tie.spec
-    slice-aggregate-put
-    put-requires
-    slice-aggregate-put-items
-    put-items-requires
-    same-length
+    (λ c. search needs)
+    (λ c κs. search needs)
+    (λ c. search needs)
+    (λ c κs. search needs)
+    (λ c. search needs)
     returns)

@@ -9,27 +9,6 @@ use borrow.Author.Needs.{needs}
 use Rattle.sheet.proofs.put_run.Statement.{statement}
 use Rattle.sheet.proofs.put_run.Tie as tie
 
-rate-text-requires : tie.Need-rate-text-requires
-rate-text-requires c κs = search needs
-
-slice-aggregate-put : tie.Need-slice-aggregate-put
-slice-aggregate-put c = search needs
-
-put-requires : tie.Need-put-requires
-put-requires c κs = search needs
-
-run-numbers-requires : tie.Need-run-numbers-requires
-run-numbers-requires c κs = search needs
-
-slice-aggregate-put-items : tie.Need-slice-aggregate-put-items
-slice-aggregate-put-items c = search needs
-
-put-items-requires : tie.Need-put-items-requires
-put-items-requires c κs = search needs
-
-same-length : tie.Need-same-length
-same-length c = search needs
-
 returns : tie.Need-returns
 unfolding runLine
 returns c =
@@ -46,11 +25,11 @@ pub put-run-spec : {M : Type 1} → statement M
 put-run-spec =
     tie.close
     (tie.spec
-    rate-text-requires
-    slice-aggregate-put
-    put-requires
-    run-numbers-requires
-    slice-aggregate-put-items
-    put-items-requires
-    same-length
+    (λ c κs. search needs)
+    (λ c. search needs)
+    (λ c κs. search needs)
+    (λ c κs. search needs)
+    (λ c. search needs)
+    (λ c κs. search needs)
+    (λ c. search needs)
     returns)

@@ -8,18 +8,6 @@ use borrow.Author.Needs.{needs}
 use Rattle.sheet.proofs.run_numbers.Statement.{statement}
 use Rattle.sheet.proofs.run_numbers.Tie as tie
 
-pulse-order-requires : tie.Need-pulse-order-requires
-pulse-order-requires c κs = search needs
-
-block-count-requires : tie.Need-block-count-requires
-block-count-requires c κs = search needs
-
-sent-symbols-requires : tie.Need-sent-symbols-requires
-sent-symbols-requires c κs = search needs
-
-slot-count-requires : tie.Need-slot-count-requires
-slot-count-requires c κs = search needs
-
 returns : tie.Need-returns
 unfolding runNumbers
 returns c =
@@ -34,8 +22,8 @@ pub run-numbers-spec : {M : Type 1} → statement M
 run-numbers-spec =
     tie.close
     (tie.spec
-    pulse-order-requires
-    block-count-requires
-    sent-symbols-requires
-    slot-count-requires
+    (λ c κs. search needs)
+    (λ c κs. search needs)
+    (λ c κs. search needs)
+    (λ c κs. search needs)
     returns)

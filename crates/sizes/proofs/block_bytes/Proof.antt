@@ -6,9 +6,6 @@ use Rattle.sizes.proofs.Laws.Rate.{info-le}
 use Rattle.sizes.proofs.block_bytes.Statement.{statement}
 use Rattle.sizes.proofs.block_bytes.Tie as tie
 
-info-bits-requires : tie.Need-info-bits-requires
-info-bits-requires c κs = search needs
-
 add-result : tie.Need-add-result
 add-result c = omega (arith, info-le (c .before .args .rate))
 
@@ -17,4 +14,4 @@ unfolding blockBytes
 returns c = search needs
 
 pub block-bytes-spec : {M : Type 1} → statement M
-block-bytes-spec = tie.close (tie.spec info-bits-requires add-result returns)
+block-bytes-spec = tie.close (tie.spec (λ c κs. search needs) add-result returns)

@@ -66,12 +66,6 @@ gather-some-requires c κs =
     let l = c .before .before .loop in
     part (c .before .before .before .before .before) (l .j) 4 (let m = l .inv .0 in omega arith) (l .row) (l .inv .1 .long)
 
-add-j : tie.Need-add-j Inv-loop μ-loop
-add-j c = search needs
-
-loop-less : tie.Need-loop-less Inv-loop μ-loop
-loop-less c = search needs
-
 loop-again : tie.Need-loop-again Inv-loop μ-loop
 loop-again c =
     let s = c .before .before .before .before .before .before .before .before in
@@ -125,8 +119,8 @@ gather-bytes-spec =
     mul-gather-some-2
     add-gather-some-2
     gather-some-requires
-    add-j
-    loop-less
+    (λ c. search needs)
+    (λ c. search needs)
     loop-again
     mul-gather-some-3
     add-gather-some-3

@@ -72,12 +72,6 @@ slice-write-row c =
     let e = c .before .before .loop .inv .1 .long in
     omega arith
 
-add-j : tie.Need-add-j Inv-loop μ-loop
-add-j c = search needs
-
-loop-less : tie.Need-loop-less Inv-loop μ-loop
-loop-less c = search needs
-
 loop-again : tie.Need-loop-again Inv-loop μ-loop
 loop-again c =
     let s = c .before .before .before .before .before in
@@ -119,8 +113,8 @@ gather-fields-spec =
     mul-row
     add-row
     slice-write-row
-    add-j
-    loop-less
+    (λ c. search needs)
+    (λ c. search needs)
     loop-again
     same-length
     returns)

@@ -7,9 +7,6 @@ use Rattle.slots_gather.proofs.Laws.Turns.{unpacked-column}
 use Rattle.slots_gather.proofs.gather_fours.Statement.{statement}
 use Rattle.slots_gather.proofs.gather_fours.Tie as tie
 
-packed-requires : tie.Need-packed-requires
-packed-requires c κs = search needs
-
 unpack-requires : tie.Need-unpack-requires
 unpack-requires c κs =
     let s = c .before .before .before .before .before in
@@ -25,12 +22,6 @@ unpack-requires c κs =
     let c4 = is .3 in
     (record { whole = refl; mask-is = refl }, omega arith, omega arith)
 
-gather-turns-requires : tie.Need-gather-turns-requires
-gather-turns-requires c κs = search needs
-
-same-length : tie.Need-same-length
-same-length c = search needs
-
 returns : tie.Need-returns
 returns c =
     let s = c .before .before .before .before .before .before .before .before in
@@ -40,20 +31,14 @@ returns c =
     let c4 = is .3 in
     unpacked-column 4 (a .words .now) (a .row .now) _ (a .from) (a .n) (a .count) (a .t) (a .t / 2) 2 (a .count / 2) (is .0) (omega arith) (omega arith) (c .before .before .unpack .ensures)
 
-same-length-2 : tie.Need-same-length-2
-same-length-2 c = search needs
-
-returns-2 : tie.Need-returns-2
-returns-2 c = search needs
-
 pub gather-fours-spec : {M : Type 1} → statement M
 gather-fours-spec =
     tie.close
     (tie.spec
-    packed-requires
+    (λ c κs. search needs)
     unpack-requires
-    gather-turns-requires
-    same-length
+    (λ c κs. search needs)
+    (λ c. search needs)
     returns
-    same-length-2
-    returns-2)
+    (λ c. search needs)
+    (λ c. search needs))

@@ -59,12 +59,6 @@ gather-bytes-requires c κs =
     let l = c .before .before .before .loop in
     turn-strides (a .m) (a .turn) (a .mask) (s .pre .1) (a .t) (a .n) (a .count) (a .words .now) (a .from) (a .row .now) (l .row) (s .pre .0) (l .u) (c .before .places .result) (omega arith) (c .before .places .ensures) (l .inv .1 .long)
 
-add-u : tie.Need-add-u Inv-loop μ-loop
-add-u c = search needs
-
-loop-less : tie.Need-loop-less Inv-loop μ-loop
-loop-less c = search needs
-
 loop-again : tie.Need-loop-again Inv-loop μ-loop
 loop-again c =
     let s = c .before .before .before .before .before .before .before .before .before in
@@ -105,8 +99,8 @@ gather-turns-spec =
     add-gather-bytes
     mul-gather-bytes-2
     gather-bytes-requires
-    add-u
-    loop-less
+    (λ c. search needs)
+    (λ c. search needs)
     loop-again
     same-length
     returns)

@@ -10,15 +10,6 @@ use Rattle.slots_gather.proofs.places.Tie as tie
 returns : tie.Need-returns
 returns c = places-none _ _ _ (omega arith)
 
-sub-result : tie.Need-sub-result
-sub-result c = search needs
-
-sub-result-2 : tie.Need-sub-result-2
-sub-result-2 c = search needs
-
-div-result : tie.Need-div-result
-div-result c = search needs
-
 add-result : tie.Need-add-result
 add-result c =
     let a = c .before .args in
@@ -31,4 +22,4 @@ returns-2 : tie.Need-returns-2
 returns-2 c = places-some (c .before .args .x) (c .before .args .end) (c .before .args .n) (c .before .pre) (omega arith)
 
 pub places-spec : {M : Type 1} → statement M
-places-spec = tie.close (tie.spec returns sub-result sub-result-2 div-result add-result returns-2)
+places-spec = tie.close (tie.spec returns (λ c. search needs) (λ c. search needs) (λ c. search needs) add-result returns-2)

@@ -29,9 +29,6 @@ loop-holds c =
     let none : 0 ≡ s .args .turn * 0 = omega arith in
     (omega arith, rw (sym none) (column-none _ _ _ _))
 
-add-unpack-byte : tie.Need-add-unpack-byte Inv-loop μ-loop
-add-unpack-byte c = search needs
-
 mul-unpack-byte : tie.Need-mul-unpack-byte Inv-loop μ-loop
 mul-unpack-byte c =
     let s = c .before .before .before .before .before in
@@ -55,12 +52,6 @@ unpack-byte-requires c κs =
     let e = l .inv .1 .long in
     let k = within s (l .i) (omega arith) in
     (s .pre .0, omega arith, omega arith)
-
-add-i : tie.Need-add-i Inv-loop μ-loop
-add-i c = search needs
-
-loop-less : tie.Need-loop-less Inv-loop μ-loop
-loop-less c = search needs
 
 loop-again : tie.Need-loop-again Inv-loop μ-loop
 loop-again c =
@@ -92,12 +83,12 @@ unpack-spec =
     Inv-loop
     μ-loop
     loop-holds
-    add-unpack-byte
+    (λ c. search needs)
     mul-unpack-byte
     add-unpack-byte-2
     unpack-byte-requires
-    add-i
-    loop-less
+    (λ c. search needs)
+    (λ c. search needs)
     loop-again
     same-length
     returns)

@@ -18,9 +18,6 @@ Inv-loop words b m turn mask row₀ at w q₀ row q = (q ≤ turn) × Column row
 abbrev μ-loop : tie.MeasureT-loop
 μ-loop words b m turn mask row₀ at w q₀ row q = turn - q
 
-shared-slice-read-w : tie.Need-shared-slice-read-w Inv-loop μ-loop
-shared-slice-read-w c = search needs
-
 cast-w : tie.Need-cast-w Inv-loop μ-loop
 cast-w c = omega (arith, c .shared-slice-known .given (c .before .args .b))
 
@@ -46,17 +43,8 @@ cast-row c =
     let v = and-le-r (getD (s .args .words .now) (s .args .b) 0 / 2 ^ (8 - s .args .m - s .args .m * c .before .loop .q)) (s .args .mask) in
     omega arith
 
-add-row : tie.Need-add-row Inv-loop μ-loop
-add-row c = search needs
-
 slice-write-row : tie.Need-slice-write-row Inv-loop μ-loop
 slice-write-row c = let s = c .before .before .before in let h = s .pre .2 in let e = c .before .loop .inv .1 .long in omega arith
-
-add-q : tie.Need-add-q Inv-loop μ-loop
-add-q c = search needs
-
-loop-less : tie.Need-loop-less Inv-loop μ-loop
-loop-less c = search needs
 
 loop-again : tie.Need-loop-again Inv-loop μ-loop
 loop-again c =
@@ -85,7 +73,7 @@ unpack-byte-spec =
     (tie.spec
     Inv-loop
     μ-loop
-    shared-slice-read-w
+    (λ c. search needs)
     cast-w
     loop-holds
     sub-row
@@ -93,10 +81,10 @@ unpack-byte-spec =
     sub-row-2
     shr-row
     cast-row
-    add-row
+    (λ c. search needs)
     slice-write-row
-    add-q
-    loop-less
+    (λ c. search needs)
+    (λ c. search needs)
     loop-again
     same-length
     returns)

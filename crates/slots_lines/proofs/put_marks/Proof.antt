@@ -38,12 +38,6 @@ mul-first c =
 loop-holds : tie.Need-loop-holds Inv-loop μ-loop
 loop-holds c = (search needs, refl, λ word end h. holds-is (c .before .args .t1) word _ _ end _ (omega arith) h)
 
-element-copy-out-mark : tie.Need-element-copy-out-mark Inv-loop μ-loop
-element-copy-out-mark c = search needs
-
-cast-mark : tie.Need-cast-mark Inv-loop μ-loop
-cast-mark c = search needs
-
 add-move-symbol : tie.Need-add-move-symbol Inv-loop μ-loop
 add-move-symbol c =
     let s = c .before .before .before .before in
@@ -59,12 +53,6 @@ move-symbol-requires c κs =
     let l = c .before .before .before .loop in
     let q : getD (p .marks) (l .k) 0 < p .group = let b = s .pre .0 .marks-below (l .k) in omega arith in
     copied p (s .pre .0) (s .args .line * unit (p .layout) + l .k) (getD (p .marks) (l .k) 0) (l .slots) (l .inv .1 ∙ s .pre .2) (omega arith) q
-
-add-k : tie.Need-add-k Inv-loop μ-loop
-add-k c = search needs
-
-loop-less : tie.Need-loop-less Inv-loop μ-loop
-loop-less c = search needs
 
 loop-again : tie.Need-loop-again Inv-loop μ-loop
 loop-again c =
@@ -98,12 +86,12 @@ put-marks-spec =
     add-first
     mul-first
     loop-holds
-    element-copy-out-mark
-    cast-mark
+    (λ c. search needs)
+    (λ c. search needs)
     add-move-symbol
     move-symbol-requires
-    add-k
-    loop-less
+    (λ c. search needs)
+    (λ c. search needs)
     loop-again
     same-length
     returns)

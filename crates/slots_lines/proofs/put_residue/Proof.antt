@@ -53,9 +53,6 @@ add-skip c =
     let z = sizes (s .args .p) (s .pre .0 .given .fine) (s .args .line) (s .args .r) (s .pre .1 .inside) in
     omega (arith, z)
 
-rem-delay : tie.Need-rem-delay Inv-loop μ-loop
-rem-delay c = search needs
-
 mul-delay : tie.Need-mul-delay Inv-loop μ-loop
 mul-delay c =
     let s = c .before .before .before in
@@ -80,12 +77,6 @@ add-least-2 c =
     let z = sizes (s .args .p) (s .pre .0 .given .fine) (s .args .line) (s .args .r) (s .pre .1 .inside) in
     omega (arith, z)
 
-least-requires : tie.Need-least-requires Inv-loop μ-loop
-least-requires c κs = search needs
-
-stride-of-requires : tie.Need-stride-of-requires Inv-loop μ-loop
-stride-of-requires c κs = search needs
-
 first-place-requires : tie.Need-first-place-requires Inv-loop μ-loop
 first-place-requires c κs =
     let s = c .before .before .before .before .before in
@@ -99,9 +90,6 @@ add-most c =
     let z = sizes (s .args .p) (s .pre .0 .given .fine) (s .args .line) (s .args .r) (s .pre .1 .inside) in
     let n = s .pre .1 .small in
     omega (arith, z)
-
-most-requires : tie.Need-most-requires Inv-loop μ-loop
-most-requires c κs = search needs
 
 add-back : tie.Need-add-back Inv-loop μ-loop
 add-back c =
@@ -281,18 +269,18 @@ put-residue-spec =
     mul-start
     mul-skip
     add-skip
-    rem-delay
+    (λ c. search needs)
     mul-delay
     mul-delay-2
     add-least
     add-least-2
-    least-requires
-    stride-of-requires
+    (λ c κs. search needs)
+    (λ c κs. search needs)
     add-back
     add-last
     first-place-requires
     add-most
-    most-requires
+    (λ c κs. search needs)
     add-s
     loop-holds
     sub-data-at

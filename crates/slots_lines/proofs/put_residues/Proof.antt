@@ -24,9 +24,6 @@ Inv-loop p words line slots₀ rows step symbols n start c to from r₀ slots r 
 abbrev μ-loop : tie.MeasureT-loop
 μ-loop p words line slots₀ rows step symbols n start c to from r₀ slots r = to - r
 
-stride-of-requires : tie.Need-stride-of-requires Inv-loop μ-loop
-stride-of-requires c κs = search needs
-
 mul-start : tie.Need-mul-start Inv-loop μ-loop
 mul-start c =
     let s = c .before .before .before in
@@ -66,9 +63,6 @@ residues-from-requires c κs =
     let z = sizes (s .args .p) f (s .args .line) 0 (s .pre .1) in
     (f .rows-most, f .step-most, omega arith)
 
-least-requires : tie.Need-least-requires Inv-loop μ-loop
-least-requires c κs = search needs
-
 loop-holds : tie.Need-loop-holds Inv-loop μ-loop
 loop-holds c =
     let s = c .before .before .before .before .before .before .before in
@@ -95,12 +89,6 @@ put-residue-requires c κs =
       record { given = s .pre .0 .given; room = l .inv .1 ∙ s .pre .0 .room },
       record { inside = s .pre .1; start = ap (λ (m : ℕ). s .args .line * p .layout .symbols % m) n; small = rw (sym n) (omega arith) },
     )
-
-add-r : tie.Need-add-r Inv-loop μ-loop
-add-r c = search needs
-
-loop-less : tie.Need-loop-less Inv-loop μ-loop
-loop-less c = search needs
 
 loop-again : tie.Need-loop-again Inv-loop μ-loop
 loop-again c =
@@ -134,18 +122,18 @@ put-residues-spec =
     (tie.spec
     Inv-loop
     μ-loop
-    stride-of-requires
+    (λ c κs. search needs)
     mul-start
     rem-c
     add-residues-to
     residues-to-requires
     mul-residues-from
     residues-from-requires
-    least-requires
+    (λ c κs. search needs)
     loop-holds
     put-residue-requires
-    add-r
-    loop-less
+    (λ c. search needs)
+    (λ c. search needs)
     loop-again
     same-length
     returns)

@@ -13,9 +13,6 @@ returns c r l = absurd (omega arith)
 mul-most : tie.Need-mul-most
 mul-most c = let h = (c .before) .pre in let m : (c .before) .args .step * (c .before) .args .rows ≤ 256 * 128 = mul-le-mul (h .1) (h .0) in omega arith
 
-most-requires : tie.Need-most-requires
-most-requires c κs = search needs
-
 div-result : tie.Need-div-result
 div-result c = let e = c .most .ensures in omega arith
 
@@ -49,4 +46,4 @@ returns-2 c r l =
     omega arith
 
 pub residues-from-spec : {M : Type 1} → statement M
-residues-from-spec = tie.close (tie.spec returns mul-most most-requires div-result add-result returns-2)
+residues-from-spec = tie.close (tie.spec returns mul-most (λ c κs. search needs) div-result add-result returns-2)

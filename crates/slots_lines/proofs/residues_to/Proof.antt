@@ -34,9 +34,6 @@ add-least c =
     let one = (c .before .before) .pre .2 in
     omega arith
 
-least-requires : tie.Need-least-requires
-least-requires c κs = search needs
-
 returns-3 : tie.Need-returns-3
 returns-3 c =
     let s = c .before .before .before in
@@ -59,4 +56,4 @@ returns-3 c =
     )
 
 pub residues-to-spec : {M : Type 1} → statement M
-residues-to-spec = tie.close (tie.spec mul-back returns returns-2 sub-least div-least add-least least-requires returns-3)
+residues-to-spec = tie.close (tie.spec mul-back returns returns-2 sub-least div-least add-least (λ c κs. search needs) returns-3)

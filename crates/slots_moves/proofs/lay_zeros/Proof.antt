@@ -19,14 +19,8 @@ abbrev μ-loop : tie.MeasureT-loop
 loop-holds : tie.Need-loop-holds Inv-loop μ-loop
 loop-holds c = (search needs, search needs, laid-none _ _ _)
 
-sub-least : tie.Need-sub-least Inv-loop μ-loop
-sub-least c = search needs
-
 sub-least-2 : tie.Need-sub-least-2 Inv-loop μ-loop
 sub-least-2 c = let least = c .before .before .before .before .pre .0 .least in omega arith
-
-least-requires : tie.Need-least-requires Inv-loop μ-loop
-least-requires c κs = search needs
 
 copy-part-requires : tie.Need-copy-part-requires Inv-loop μ-loop
 copy-part-requires c κs =
@@ -81,9 +75,9 @@ lay-zeros-spec =
     Inv-loop
     μ-loop
     loop-holds
-    sub-least
+    (λ c. search needs)
     sub-least-2
-    least-requires
+    (λ c κs. search needs)
     copy-part-requires
     add-i
     loop-less

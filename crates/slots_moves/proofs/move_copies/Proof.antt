@@ -65,12 +65,6 @@ move-pulse-requires c κs =
     let k = inside s (l .c) (omega arith) in
     (omega arith, omega arith)
 
-add-c : tie.Need-add-c Inv-loop μ-loop
-add-c c = search needs
-
-loop-less : tie.Need-loop-less Inv-loop μ-loop
-loop-less c = search needs
-
 loop-again : tie.Need-loop-again Inv-loop μ-loop
 loop-again c =
     let s = c .before .before .before .before .before .before .before in
@@ -108,8 +102,8 @@ move-copies-spec =
     add-move-pulse
     mul-move-pulse-2
     move-pulse-requires
-    add-c
-    loop-less
+    (λ c. search needs)
+    (λ c. search needs)
     loop-again
     same-length
     returns)

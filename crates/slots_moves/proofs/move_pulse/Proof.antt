@@ -6,20 +6,8 @@ use Rattle.bits.specs.Pack.{flipBit}
 use Rattle.slots_moves.proofs.move_pulse.Statement.{statement}
 use Rattle.slots_moves.proofs.move_pulse.Tie as tie
 
-flip-requires : tie.Need-flip-requires
-flip-requires c κs = search needs
-
-add-flip : tie.Need-add-flip
-add-flip c = search needs
-
-flip-requires-2 : tie.Need-flip-requires-2
-flip-requires-2 c κs = search needs
-
-same-length : tie.Need-same-length
-same-length c = search needs
-
 returns : tie.Need-returns
 returns c = let x = c .before .before .before .before .before .before .before .before .before .args .x in c .before .before .flip2 .ensures ∙ ap (λ xs. flipBit xs (x + c .before .before .before .before .before .before .before .before .before .args .q)) (c .before .before .before .before .before .before .flip .ensures)
 
 pub move-pulse-spec : {M : Type 1} → statement M
-move-pulse-spec = tie.close (tie.spec flip-requires add-flip flip-requires-2 same-length returns)
+move-pulse-spec = tie.close (tie.spec (λ c κs. search needs) (λ c. search needs) (λ c κs. search needs) (λ c. search needs) returns)

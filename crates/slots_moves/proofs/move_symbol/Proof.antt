@@ -24,23 +24,11 @@ mul-move-pulse c = let k = known (c .before .before .before) (c .before .if1 .ta
 move-pulse-requires : tie.Need-move-pulse-requires
 move-pulse-requires c κs = let s = c .before .before .before in let k = known s (c .before .if1 .taken) in let q = s .pre .small in (omega arith, omega arith)
 
-move-copies-requires : tie.Need-move-copies-requires
-move-copies-requires c κs = search needs
-
-same-length : tie.Need-same-length
-same-length c = search needs
-
 returns : tie.Need-returns
 returns c =
     let a = c .before .before .before .before .before .before .args in
     let m = c .before .before .move-pulse in
     λ p o. one-moved p (a .copies) (a .group) (a .s) (a .q) o (c .before .before .before .before .if1 .taken) (a .slots .now) _ (m .ensures) (λ i. omega (arith, c .slice-known2 .given i))
-
-same-length-2 : tie.Need-same-length-2
-same-length-2 c = search needs
-
-returns-2 : tie.Need-returns-2
-returns-2 c = search needs
 
 pub move-symbol-spec : {M : Type 1} → statement M
 move-symbol-spec =
@@ -48,8 +36,8 @@ move-symbol-spec =
     (tie.spec
     mul-move-pulse
     move-pulse-requires
-    move-copies-requires
-    same-length
+    (λ c κs. search needs)
+    (λ c. search needs)
     returns
-    same-length-2
-    returns-2)
+    (λ c. search needs)
+    (λ c. search needs))

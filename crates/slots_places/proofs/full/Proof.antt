@@ -7,29 +7,14 @@ use Rattle.slots.proofs.Laws.Bounds.{bounds}
 use Rattle.slots_places.proofs.full.Statement.{statement}
 use Rattle.slots_places.proofs.full.Tie as tie
 
-sub-if1 : tie.Need-sub-if1
-sub-if1 c = search needs
-
-mul-if1 : tie.Need-mul-if1
-mul-if1 c = search needs
-
 returns : tie.Need-returns
 returns c = λ e. absurd (false≢true e)
-
-sub-if2 : tie.Need-sub-if2
-sub-if2 c = search needs
 
 mul-if2 : tie.Need-mul-if2
 mul-if2 c = let k = bounds (c .before .before .args .p) (c .before .before .pre .0) in omega arith
 
-mul-if2-2 : tie.Need-mul-if2-2
-mul-if2-2 c = search needs
-
 returns-2 : tie.Need-returns-2
 returns-2 c = λ e. absurd (false≢true e)
-
-mul-result : tie.Need-mul-result
-mul-result c = search needs
 
 returns-3 : tie.Need-returns-3
 returns-3 c =
@@ -41,4 +26,4 @@ returns-3 c =
 pub full-spec : {M : Type 1} → statement M
 full-spec =
     tie.close
-    (tie.spec sub-if1 mul-if1 returns sub-if2 mul-if2 mul-if2-2 returns-2 mul-result returns-3)
+    (tie.spec (λ c. search needs) (λ c. search needs) returns (λ c. search needs) mul-if2 (λ c. search needs) returns-2 (λ c. search needs) returns-3)

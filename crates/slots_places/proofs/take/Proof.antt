@@ -54,9 +54,6 @@ mul-end c = let r = known (c .before .before .before) in omega arith
 add-end : tie.Need-add-end
 add-end c = let r = known (c .before .before .before) in omega arith
 
-least-requires : tie.Need-least-requires
-least-requires c κs = search needs
-
 take-line-requires : tie.Need-take-line-requires
 take-line-requires c κs =
     let s = c .before .before .before .before .before in
@@ -68,9 +65,6 @@ take-line-requires c κs =
     let most = h .most in
     let near = h .near in
     (record { fine = h .fine; start = le-refl (s .args .from); order = omega arith; most = omega arith; near = omega arith; room = let room = h .room in omega arith; small = λ k l. h .small k (omega arith) }, r .1, r .2, omega arith, s .pre .2)
-
-same-length : tie.Need-same-length
-same-length c = search needs
 
 returns : tie.Need-returns
 returns c =
@@ -108,9 +102,6 @@ take-line-requires-2 c κs =
     ⊎-elim (λ (l : line + 1 < p .layout .lines). l) (λ (l : p .layout .lines ≤ line + 1). let q : p .layout .lines * unit (p .layout) ≤ (line + 1) * unit (p .layout) = mul-le-mul l (le-refl (unit (p .layout))) in absurd (omega arith)) (lt-or-le (line + 1) (p .layout .lines)) in
     (record { fine = h .fine; start = omega arith; order = omega arith; most = omega arith; near = omega arith; room = h .room; small = h .small }, next, omega arith, omega arith, (let room = s .pre .2 in let k = (c .before .before .before .before .before) .take-line .kept .1 .1 .1 .1 .1 .1 .0 in omega arith))
 
-same-length-2 : tie.Need-same-length-2
-same-length-2 c = search needs
-
 returns-2 : tie.Need-returns-2
 returns-2 c =
     let s = c .before .before .before .before .before .before .before .before .before .before .before .before .before .before in
@@ -128,9 +119,6 @@ returns-2 c =
           ∙ part-passes (restZero (a .p .layout) (pooledIn (a .p) b)) (a .from) (least .result) (a .to) (first .result) (omega arith) (omega arith) (first .ensures .first b (part row (omega arith)) took) left;
       took = λ b row took q. second .ensures .took b row (half b row took) q;
     }
-
-same-length-3 : tie.Need-same-length-3
-same-length-3 c = search needs
 
 returns-3 : tie.Need-returns-3
 returns-3 c =
@@ -161,13 +149,13 @@ take-spec =
     div-line
     mul-end
     add-end
-    least-requires
+    (λ c κs. search needs)
     take-line-requires
-    same-length
+    (λ c. search needs)
     returns
     add-take-line
     take-line-requires-2
-    same-length-2
+    (λ c. search needs)
     returns-2
-    same-length-3
+    (λ c. search needs)
     returns-3)

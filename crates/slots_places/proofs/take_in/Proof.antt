@@ -85,9 +85,6 @@ mul-most c = let r = known (c .before .before .before .before) in omega arith
 add-most : tie.Need-add-most Inv-loop μ-loop
 add-most c = let r = known (c .before .before .before .before) in omega arith
 
-most-requires : tie.Need-most-requires Inv-loop μ-loop
-most-requires c κs = search needs
-
 sub-delay : tie.Need-sub-delay Inv-loop μ-loop
 sub-delay c = let e = c .most .ensures in omega arith
 
@@ -147,9 +144,6 @@ take-place-requires c κs =
     let long = l .inv .3 in
     λ t hit. puts p (h .0 .fine) (l .words) t _ hit (h .0 .small (l .s - s .args .base) (omega arith)) (let room = h .4 in omega arith)
 
-same-length : tie.Need-same-length Inv-loop μ-loop
-same-length c = search needs
-
 returns : tie.Need-returns Inv-loop μ-loop
 returns c =
     let s = c .before .before .before .before .before .before .before .before .before .before .before .before .before in
@@ -176,12 +170,6 @@ next-delay-requires c κs =
     let d = late s (c .before .before .before .before .before .before .before .loop .s - (s .args .line * s .args .p .layout .markers + s .args .p .layout .markers)) in
     (omega arith, omega arith)
 
-add-s : tie.Need-add-s Inv-loop μ-loop
-add-s c = search needs
-
-loop-less : tie.Need-loop-less Inv-loop μ-loop
-loop-less c = search needs
-
 loop-again : tie.Need-loop-again Inv-loop μ-loop
 loop-again c =
     let s = c .before .before .before .before .before .before .before .before .before .before .before .before .before .before in
@@ -206,9 +194,6 @@ loop-again c =
           let m : l .s + 1 ≡ min (l .s + 1) (a .to) = omega arith in
           (λ k f u n. ⊎-elim (λ (q : k ≡ l .s). ap t q ∙ here) (λ (q : k ≡ l .s → ⊥). i .0 k f (omega arith) n) (eq-or-ne k (l .s)), rw m at (z .1)),
     )
-
-same-length-2 : tie.Need-same-length-2 Inv-loop μ-loop
-same-length-2 c = search needs
 
 returns-2 : tie.Need-returns-2 Inv-loop μ-loop
 returns-2 c =
@@ -236,7 +221,7 @@ take-in-spec =
     add-skip
     mul-most
     add-most
-    most-requires
+    (λ c κs. search needs)
     sub-delay
     rem-delay
     mul-delay
@@ -246,11 +231,11 @@ take-in-spec =
     cast-q
     sub-take-place
     take-place-requires
-    same-length
+    (λ c. search needs)
     returns
     next-delay-requires
-    add-s
-    loop-less
+    (λ c. search needs)
+    (λ c. search needs)
     loop-again
-    same-length-2
+    (λ c. search needs)
     returns-2)

@@ -5,23 +5,14 @@ use borrow.Author.Needs.{needs}
 use Rattle.slots_places.proofs.take_place.Statement.{statement}
 use Rattle.slots_places.proofs.take_place.Tie as tie
 
-same-requires : tie.Need-same-requires
-same-requires c κs = search needs
-
 returns : tie.Need-returns
 returns c = let l = c .before .if1 .taken in record { hit = λ a b. absurd (omega arith); unhit = λ n. (c .same .ensures, refl) }
-
-same-requires-2 : tie.Need-same-requires-2
-same-requires-2 c κs = search needs
 
 returns-2 : tie.Need-returns-2
 returns-2 c = let l = c .before .if2 .taken in record { hit = λ a b. absurd (omega arith); unhit = λ n. (c .same2 .ensures, refl) }
 
 put-symbol-requires : tie.Need-put-symbol-requires
 put-symbol-requires c κs = c .before .before .before .before .pre _ (c .before .if2 .left)
-
-same-length : tie.Need-same-length
-same-length c = search needs
 
 returns-3 : tie.Need-returns-3
 returns-3 c =
@@ -33,10 +24,10 @@ pub take-place-spec : {M : Type 1} → statement M
 take-place-spec =
     tie.close
     (tie.spec
-    same-requires
+    (λ c κs. search needs)
     returns
-    same-requires-2
+    (λ c κs. search needs)
     returns-2
     put-symbol-requires
-    same-length
+    (λ c. search needs)
     returns-3)

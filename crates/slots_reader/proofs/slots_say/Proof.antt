@@ -17,9 +17,6 @@ use Rattle.slots_reader.proofs.slots_say.Tie as tie
 add-n : tie.Need-add-n
 add-n c = let k = bounds ((c .before .before .before) .args .p) ((c .before .before .before) .pre .0 .fine) in omega arith
 
-mul-n : tie.Need-mul-n
-mul-n c = search needs
-
 mul-end : tie.Need-mul-end
 mul-end c = let s = c .before .before .before .before in let k = bounds (s .args .p) (s .pre .0 .fine) in let l = s .pre .0 .long in omega arith
 
@@ -28,9 +25,6 @@ mul-first-one c = let s = c .before .before .before .before .before in let k = b
 
 mul-first-one-2 : tie.Need-mul-first-one-2
 mul-first-one-2 c = let s = c .before .before .before .before .before .before in let k = bounds (s .args .p) (s .pre .0 .fine) in let l = s .pre .0 .long in omega arith
-
-first-one-requires : tie.Need-first-one-requires
-first-one-requires c κs = search needs
 
 returns : tie.Need-returns
 returns c =
@@ -42,9 +36,6 @@ find-requires : tie.Need-find-requires
 find-requires c κs =
     let s = c .before .before .before .before .before .before .before .before .before in
     (s .pre .0, took-start (s .args .p) (s .pre .0 .fine) (s .args .b .now) (s .args .words .now) (s .pre .1))
-
-same-length : tie.Need-same-length
-same-length c = search needs
 
 returns-2 : tie.Need-returns-2
 returns-2 c =
@@ -59,9 +50,6 @@ first-bad-mark-requires c κs =
     let h = (c .before .before .before .before .before .before .before .before .before .before .before .before .before) .pre .0 in
     record { fine = h .fine; long = h .long; passed = each-decided (a .b .now) (a .p .copies) (a .p .group) (a .p .order) (layoutSymbols (a .p .layout)) (sym ((c .before .before .before) .find .ensures .0) ∙ c .if2 .left) }
 
-same-length-2 : tie.Need-same-length-2
-same-length-2 c = search needs
-
 returns-3 : tie.Need-returns-3
 returns-3 c =
     let a = (c .before .before .before .before .before .before .before .before .before .before .before .before .before .before .before) .args in
@@ -69,9 +57,6 @@ returns-3 c =
     let spare = spare-empty (a .p) (a .b .now) (o .result) (o .ensures) ((c .before .before .before .before .before .before .before) .if1 .left) in
     let groups : firstBadSymbol (a .p) (a .b .now) ≡ layoutSymbols (a .p .layout) = sym ((c .before .before .before .before .before) .find .ensures .0) ∙ (c .before .before) .if2 .left in
     (say-mark (a .p) (a .b .now) spare groups _ ((c .before) .first-bad-mark .ensures) (c .if3 .taken), λ q. absurd (no-done q))
-
-same-length-3 : tie.Need-same-length-3
-same-length-3 c = search needs
 
 returns-4 : tie.Need-returns-4
 returns-4 c =
@@ -83,9 +68,6 @@ returns-4 c =
     let groups : firstBadSymbol (a .p) (a .b .now) ≡ layoutSymbols (a .p .layout) = sym (f .ensures .0) ∙ (c .before .before .before) .if2 .left in
     let marks : firstBadMark (a .p) (a .b .now) ≡ layoutSymbols (a .p .layout) = sym ((c .before .before) .first-bad-mark .ensures) ∙ (c .before) .if3 .left in
     (say-rest (a .p) (a .b .now) spare groups marks _ (known-end (a .p) fine (a .b .now) _ _ (f .ensures .1 ((c .before .before .before) .if2 .left))) (c .if4 .taken), λ q. absurd (no-done q))
-
-same-length-4 : tie.Need-same-length-4
-same-length-4 c = search needs
 
 returns-5 : tie.Need-returns-5
 returns-5 c =
@@ -105,19 +87,19 @@ slots-say-spec =
     tie.close
     (tie.spec
     add-n
-    mul-n
+    (λ c. search needs)
     mul-end
     mul-first-one
     mul-first-one-2
-    first-one-requires
+    (λ c κs. search needs)
     returns
     find-requires
-    same-length
+    (λ c. search needs)
     returns-2
     first-bad-mark-requires
-    same-length-2
+    (λ c. search needs)
     returns-3
-    same-length-3
+    (λ c. search needs)
     returns-4
-    same-length-4
+    (λ c. search needs)
     returns-5)

@@ -9,21 +9,6 @@ use borrow.Author.Needs.{needs}
 use Rattle.slots_residues.proofs.add_at.Statement.{statement}
 use Rattle.slots_residues.proofs.add_at.Tie as tie
 
-slice-read-words : tie.Need-slice-read-words
-slice-read-words c = search needs
-
-shl-words : tie.Need-shl-words
-shl-words c = search needs
-
-cast-words : tie.Need-cast-words
-cast-words c = search needs
-
-slice-write-words : tie.Need-slice-write-words
-slice-write-words c = search needs
-
-same-length : tie.Need-same-length
-same-length c = search needs
-
 returns : tie.Need-returns
 returns c =
     let a = c .before .args in
@@ -33,4 +18,4 @@ returns c =
 pub add-at-spec : {M : Type 1} → statement M
 add-at-spec =
     tie.close
-    (tie.spec slice-read-words shl-words cast-words slice-write-words same-length returns)
+    (tie.spec (λ c. search needs) (λ c. search needs) (λ c. search needs) (λ c. search needs) (λ c. search needs) returns)

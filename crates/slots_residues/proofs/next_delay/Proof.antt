@@ -34,9 +34,6 @@ module _ (x n back : ℕ) (least : 1 ≤ n) where
       (λ (q : x % n + 1 ≡ n → ⊥). let k : (x + 1) % n * back ≡ (x % n + 1) * back = ap (λ (v : ℕ). v * back) (more q) in omega arith)
       (eq-or-ne (x % n + 1) n)
 
-add-next : tie.Need-add-next
-add-next c = search needs
-
 returns : tie.Need-returns
 returns c x n least wrap late = let e = c .if1 .taken in around x n (c .before .args .back) least (omega arith)
 
@@ -47,4 +44,4 @@ returns-2 c x n least wrap late =
     omega arith
 
 pub next-delay-spec : {M : Type 1} → statement M
-next-delay-spec = tie.close (tie.spec add-next returns returns-2)
+next-delay-spec = tie.close (tie.spec (λ c. search needs) returns returns-2)

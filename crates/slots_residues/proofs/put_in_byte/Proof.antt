@@ -11,9 +11,6 @@ use Rattle.slots_residues.proofs.put_in_byte.Tie as tie
 mul-y : tie.Need-mul-y
 mul-y c = let h = c .before .pre .0 in omega (arith, mul-le-mul (h .bits-most) (le-refl (c .before .args .t)), h .bound)
 
-sub-last : tie.Need-sub-last
-sub-last c = search needs
-
 add-at-requires : tie.Need-add-at-requires
 add-at-requires c κs =
     let a = c .before .before .args in
@@ -24,9 +21,6 @@ add-at-requires c κs =
     let l : 8 - a .m - a .m * a .t % 8 < 8 = omega arith in
     (omega arith, rw e l, rw e (byte-small (a .t) (a .m) (a .q) (a .words .now) (h .0) (whole-within (a .t) (a .m) (a .q) (a .words .now) (h .0) (h .1))))
 
-same-length : tie.Need-same-length
-same-length c = search needs
-
 returns : tie.Need-returns
 returns c =
     let s = c .before .before .before .before .before in
@@ -35,4 +29,4 @@ returns c =
     rw (c .before .before .add-at .ensures, shift (a .t) (a .m) (a .q) (a .words .now) (h .0) (h .1)) (put-one (a .t) (a .m) (a .q) (a .words .now) (h .0) (whole-within (a .t) (a .m) (a .q) (a .words .now) (h .0) (h .1)))
 
 pub put-in-byte-spec : {M : Type 1} → statement M
-put-in-byte-spec = tie.close (tie.spec mul-y sub-last add-at-requires same-length returns)
+put-in-byte-spec = tie.close (tie.spec mul-y (λ c. search needs) add-at-requires (λ c. search needs) returns)

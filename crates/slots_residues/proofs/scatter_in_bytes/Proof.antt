@@ -36,9 +36,6 @@ loop-holds c =
     let none : a .from - a .from ≡ 0 = omega arith in
     (omega arith, ap (λ (v : ℕ). v % a .n) none ∙ zero-mod (a .n), omega arith, omega arith, refl, rw none (scattered-none (a .row .now) (a .from) (a .n) (a .m) (a .t) (a .words .now)))
 
-shared-slice-read-put-in-byte : tie.Need-shared-slice-read-put-in-byte Inv-loop μ-loop
-shared-slice-read-put-in-byte c = search needs
-
 cast-put-in-byte : tie.Need-cast-put-in-byte Inv-loop μ-loop
 cast-put-in-byte c =
     let s = c .before .before .before .before .before .before in
@@ -70,9 +67,6 @@ add-i c =
     let n = s .pre .0 .most in
     omega arith
 
-loop-less : tie.Need-loop-less Inv-loop μ-loop
-loop-less c = search needs
-
 loop-again : tie.Need-loop-again Inv-loop μ-loop
 loop-again c =
     let s = c .before .before .before .before .before .before .before .before .before in
@@ -92,9 +86,6 @@ loop-again c =
       rw on at (scattered-more (a .row .now) (a .from) (a .n) (a .m) (a .t) (a .words .now) (h .least) (l .i - a .from) (l .inv .1) (l .words) (l .inv .5) (o .last .0) (rw here (rw same at (o .ensures)))),
     )
 
-same-length : tie.Need-same-length Inv-loop μ-loop
-same-length c = search needs
-
 returns : tie.Need-returns Inv-loop μ-loop
 returns c =
     let s = c .before .before .before .before in
@@ -110,12 +101,12 @@ scatter-in-bytes-spec =
     Inv-loop
     μ-loop
     loop-holds
-    shared-slice-read-put-in-byte
+    (λ c. search needs)
     cast-put-in-byte
     put-in-byte-requires
     add-u
     add-i
-    loop-less
+    (λ c. search needs)
     loop-again
-    same-length
+    (λ c. search needs)
     returns)

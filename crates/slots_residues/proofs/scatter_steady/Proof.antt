@@ -58,9 +58,6 @@ loop-holds c =
       rw none (scattered-none (a .row .now) (a .from) (a .n) (a .m) (a .t) (a .words .now)),
     )
 
-shared-slice-read-add-at : tie.Need-shared-slice-read-add-at Inv-loop μ-loop
-shared-slice-read-add-at c = search needs
-
 cast-add-at : tie.Need-cast-add-at Inv-loop μ-loop
 cast-add-at c =
     let s = c .before .before .before .before .before .before in
@@ -101,9 +98,6 @@ add-i c =
     let n = s .pre .0 .most in
     omega arith
 
-loop-less : tie.Need-loop-less Inv-loop μ-loop
-loop-less c = search needs
-
 loop-again : tie.Need-loop-again Inv-loop μ-loop
 loop-again c =
     let s = c .before .before .before .before .before .before .before .before .before in
@@ -131,9 +125,6 @@ loop-again c =
       rw on at (scattered-more (a .row .now) (a .from) (a .n) (a .m) (a .t) (a .words .now) (h .0 .least) (l .i - a .from) (l .inv .1) (l .words) (l .inv .6) (o .last .0) (rw here put)),
     )
 
-same-length : tie.Need-same-length Inv-loop μ-loop
-same-length c = search needs
-
 returns : tie.Need-returns Inv-loop μ-loop
 returns c =
     let s = c .before .before .before .before in
@@ -153,12 +144,12 @@ scatter-steady-spec =
     sub-k-2
     mul-turn
     loop-holds
-    shared-slice-read-add-at
+    (λ c. search needs)
     cast-add-at
     add-at-requires
     add-at
     add-i
-    loop-less
+    (λ c. search needs)
     loop-again
-    same-length
+    (λ c. search needs)
     returns)

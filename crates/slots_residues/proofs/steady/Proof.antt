@@ -16,11 +16,5 @@ returns c = λ e. absurd (false≢true e)
 mul-result : tie.Need-mul-result
 mul-result c = let s = c .before in let h = s .pre in let k : s .args .m * s .args .t ≤ 8 * 2 ^ 32 = mul-le-mul (h .1) (let q : s .args .t ≤ 2 ^ 32 = omega arith in q) in omega arith
 
-add-result : tie.Need-add-result
-add-result c = search needs
-
-returns-2 : tie.Need-returns-2
-returns-2 c = search needs
-
 pub steady-spec : {M : Type 1} → statement M
-steady-spec = tie.close (tie.spec mul-if1 returns mul-result add-result returns-2)
+steady-spec = tie.close (tie.spec mul-if1 returns mul-result (λ c. search needs) (λ c. search needs))

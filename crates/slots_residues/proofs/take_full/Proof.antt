@@ -142,9 +142,6 @@ loop-again c =
           (o .ensures .0) low (o .ensures .2) (l .inv .1) (l .words) _ (rw left at (w .ensures)) (l .inv .3 at shown laid),
     )
 
-same-length : tie.Need-same-length Inv-loop μ-loop
-same-length c = search needs
-
 returns : tie.Need-returns Inv-loop μ-loop
 returns c =
     let a = c .before .before .before .before .before .before .args in
@@ -172,5 +169,5 @@ take-full-spec =
     add-r
     loop-less
     loop-again
-    same-length
+    (λ c. search needs)
     returns)

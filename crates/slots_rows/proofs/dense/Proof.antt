@@ -22,17 +22,8 @@ mul-per-forty c =
     let m : s .args .p .copies * s .args .p .group ≤ 32 * 320 = mul-le-mul (k .copies-most) (k .group-most) in
     omega arith
 
-per-forty-requires : tie.Need-per-forty-requires
-per-forty-requires c κs = search needs
-
 returns-3 : tie.Need-returns-3
 returns-3 c e = absurd (false≢true e)
-
-sub-result : tie.Need-sub-result
-sub-result c = search needs
-
-mul-result : tie.Need-mul-result
-mul-result c = search needs
 
 returns-4 : tie.Need-returns-4
 returns-4 c e = let some = c .before .if3 .left in let is = c .before .before .per-forty .ensures in (omega arith, omega arith)
@@ -44,8 +35,8 @@ dense-spec =
     returns
     returns-2
     mul-per-forty
-    per-forty-requires
+    (λ c κs. search needs)
     returns-3
-    sub-result
-    mul-result
+    (λ c. search needs)
+    (λ c. search needs)
     returns-4)

@@ -19,9 +19,6 @@ few s =
     let f = s .pre .0 .given .fine in
     (lines.sizes (s .args .p) f (s .args .line) 0 (s .pre .1) .symbols, bounds (s .args .p) f .symbols-bound)
 
-row-residues-requires : tie.Need-row-residues-requires
-row-residues-requires c κs = search needs
-
 add-lay-row : tie.Need-add-lay-row
 add-lay-row c = let k = few (c .before .before .before .before .before .before .before .before) in omega arith
 
@@ -38,12 +35,6 @@ lay-row-requires c κs =
     let f = s .pre .0 .given .fine in
     (row-is p f (piece wordBytes (s .args .words .now)) (s .args .line) (s .args .to) _ (s .pre .1) (c .before .before .before .before .row-residues .ensures), many p f, s .pre .6, s .pre .0 .room)
 
-same-length : tie.Need-same-length
-same-length c = search needs
-
-same-length-2 : tie.Need-same-length-2
-same-length-2 c = search needs
-
 returns : tie.Need-returns
 returns c end h =
     let s = c .before .before .before .before .before .before .before .before .before .before .before .before in
@@ -58,11 +49,11 @@ pub put-gathered-spec : {M : Type 1} → statement M
 put-gathered-spec =
     tie.close
     (tie.spec
-    row-residues-requires
+    (λ c κs. search needs)
     add-lay-row
     mul-lay-row
     add-lay-row-2
     lay-row-requires
-    same-length
-    same-length-2
+    (λ c. search needs)
+    (λ c. search needs)
     returns)

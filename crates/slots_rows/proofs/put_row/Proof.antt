@@ -26,12 +26,6 @@ put-gathered-requires c κs =
       s .pre .6,
     )
 
-same-length : tie.Need-same-length
-same-length c = search needs
-
-returns : tie.Need-returns
-returns c = search needs
-
 pub put-row-spec : {M : Type 1} → statement M
 put-row-spec =
-    tie.close (tie.spec slice-aggregate-put-gathered put-gathered-requires same-length returns)
+    tie.close (tie.spec slice-aggregate-put-gathered put-gathered-requires (λ c. search needs) (λ c. search needs))

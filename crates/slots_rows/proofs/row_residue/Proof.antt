@@ -40,9 +40,6 @@ known s =
     let bound = k .symbols-bound in
     record { of-plan = k; places = z; late = omega arith; all = omega arith; small = omega arith }
 
-mul-all : tie.Need-mul-all
-mul-all c = search needs
-
 mul-start : tie.Need-mul-start
 mul-start c = let k = known (c .before .before .before) .places in omega arith
 
@@ -58,9 +55,6 @@ add-least c = let k = known (c .before .before .before .before) .places in omega
 add-least-2 : tie.Need-add-least-2
 add-least-2 c = let k = known (c .before .before .before .before) .late in let a = known (c .before .before .before .before) .all in omega arith
 
-least-requires : tie.Need-least-requires
-least-requires c κs = search needs
-
 first-place-requires : tie.Need-first-place-requires
 first-place-requires c κs =
     let s = c .before .before .before .before .before in
@@ -69,18 +63,6 @@ first-place-requires c κs =
 
 add-most : tie.Need-add-most
 add-most c = let k = known (c .before .before .before .before .before .before) .late in let r = known (c .before .before .before .before .before .before) .small in omega arith
-
-most-requires : tie.Need-most-requires
-most-requires c κs = search needs
-
-places-requires : tie.Need-places-requires
-places-requires c κs = search needs
-
-sub-gather : tie.Need-sub-gather
-sub-gather c = search needs
-
-sub-gather-2 : tie.Need-sub-gather-2
-sub-gather-2 c = search needs
 
 gather-requires : tie.Need-gather-requires
 gather-requires c κs =
@@ -124,9 +106,6 @@ gather-requires c κs =
       room = λ j l. let b = some j l in omega arith;
     }
 
-same-length : tie.Need-same-length
-same-length c = search needs
-
 returns : tie.Need-returns
 returns c =
     let s = c .before .before .before .before .before .before .before .before .before .before .before .before in
@@ -145,19 +124,19 @@ pub row-residue-spec : {M : Type 1} → statement M
 row-residue-spec =
     tie.close
     (tie.spec
-    mul-all
+    (λ c. search needs)
     mul-start
     mul-delay
     mul-delay-2
     add-least
     add-least-2
-    least-requires
+    (λ c κs. search needs)
     first-place-requires
     add-most
-    most-requires
-    places-requires
-    sub-gather
-    sub-gather-2
+    (λ c κs. search needs)
+    (λ c κs. search needs)
+    (λ c. search needs)
+    (λ c. search needs)
     gather-requires
-    same-length
+    (λ c. search needs)
     returns)

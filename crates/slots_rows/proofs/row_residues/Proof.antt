@@ -35,12 +35,6 @@ row-residue-requires c κs =
     let most = s .pre .3 in
     (s .pre .0, s .pre .1, refl, omega arith, c .before .before .loop .inv .3)
 
-add-r : tie.Need-add-r Inv-loop μ-loop
-add-r c = search needs
-
-loop-less : tie.Need-loop-less Inv-loop μ-loop
-loop-less c = search needs
-
 loop-again : tie.Need-loop-again Inv-loop μ-loop
 loop-again c =
     let l = c .before .before .before .before .before .loop in
@@ -66,8 +60,8 @@ row-residues-spec =
     rem-c
     loop-holds
     row-residue-requires
-    add-r
-    loop-less
+    (λ c. search needs)
+    (λ c. search needs)
     loop-again
     same-length
     returns)

@@ -57,12 +57,6 @@ returns c =
     let end : ℕ = first + a .p .layout .markers in
     sym (first-here t end (first + l .w) (omega arith) (bool-no (t (first + l .w)) (sym (c .before .mark-right .ensures) ∙ c .if1 .taken))) ∙ l .inv .1
 
-add-w : tie.Need-add-w Inv-loop μ-loop
-add-w c = search needs
-
-loop-less : tie.Need-loop-less Inv-loop μ-loop
-loop-less c = search needs
-
 loop-again : tie.Need-loop-again Inv-loop μ-loop
 loop-again c =
     let a = c .before .before .before .before .before .before .args in
@@ -104,8 +98,8 @@ bad-mark-in-spec =
     mark-right-requires
     add-result
     returns
-    add-w
-    loop-less
+    (λ c. search needs)
+    (λ c. search needs)
     loop-again
     add-result-2
     returns-2)

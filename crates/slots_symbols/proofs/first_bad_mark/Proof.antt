@@ -46,12 +46,6 @@ returns c =
     let r = known s (l .line) (omega arith) in
     sought-fails _ _ _ _ (l .line) (l .inv) (l .line * unit (p .layout) + p .layout .markers) _ (omega arith) (omega arith) (omega arith) (c .before .bad-mark-in .ensures) (omega arith)
 
-add-line : tie.Need-add-line Inv-loop μ-loop
-add-line c = search needs
-
-loop-less : tie.Need-loop-less Inv-loop μ-loop
-loop-less c = search needs
-
 loop-again : tie.Need-loop-again Inv-loop μ-loop
 loop-again c =
     let s = c .before .before .before .before .before .before in
@@ -87,8 +81,8 @@ first-bad-mark-spec =
     mul-if1
     add-if1
     returns
-    add-line
-    loop-less
+    (λ c. search needs)
+    (λ c. search needs)
     loop-again
     mul-result
     returns-2)

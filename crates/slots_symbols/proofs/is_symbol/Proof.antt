@@ -47,9 +47,6 @@ pooled-requires c κs =
     let next : s .args .s + 1 ≤ layoutSymbols (s .args .p .layout) = let l = s .pre .0 .among in omega arith in
     sent-in (s .args .p) (s .args .b .now) (s .pre .0 .slots) (s .args .s + 1) next
 
-same-requires : tie.Need-same-requires
-same-requires c κs = search needs
-
 returns-2 : tie.Need-returns-2
 returns-2 c = c .same .ensures ∙ ap (λ (v : ℕ). bool (eqb (c .before .before .before .before .before .args .q) v)) (c .before .pooled .ensures)
 
@@ -62,5 +59,5 @@ is-symbol-spec =
     bit-at-requires
     returns
     pooled-requires
-    same-requires
+    (λ c κs. search needs)
     returns-2)

@@ -28,12 +28,6 @@ mul-s c = let r = known (c .before) in omega arith
 add-s-2 : tie.Need-add-s-2
 add-s-2 c = let r = known (c .before) in omega arith
 
-element-copy-out-q : tie.Need-element-copy-out-q
-element-copy-out-q c = search needs
-
-cast-q : tie.Need-cast-q
-cast-q c = search needs
-
 is-symbol-requires : tie.Need-is-symbol-requires
 is-symbol-requires c κs =
     let s = c .before .before in
@@ -56,7 +50,7 @@ mark-right-spec =
     add-s
     mul-s
     add-s-2
-    element-copy-out-q
-    cast-q
+    (λ c. search needs)
+    (λ c. search needs)
     is-symbol-requires
     returns)

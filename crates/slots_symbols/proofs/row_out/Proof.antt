@@ -15,9 +15,6 @@ row-out-requires c κs =
     let one : a .p .copies ≡ 1 = omega arith in
     (groups-in (a .p) (a .b .now) (h .0) one (a .to) (h .2), h .1, h .3)
 
-same-length : tie.Need-same-length
-same-length c = search needs
-
 returns : tie.Need-returns
 returns c =
     let s = c .before .before .before .before .before .before .before .before in
@@ -33,13 +30,10 @@ row-out-requires-2 c κs =
     let h = s .pre in
     (sent-in (s .args .p) (s .args .b .now) (h .0) (s .args .to) (h .2), h .1, h .3)
 
-same-length-2 : tie.Need-same-length-2
-same-length-2 c = search needs
-
 returns-2 : tie.Need-returns-2
 returns-2 c =
     let o = c .before .before .row-out2 .ensures in
     (o .0, λ l. record { symbols = o .1 .0 l })
 
 pub row-out-spec : {M : Type 1} → statement M
-row-out-spec = tie.close (tie.spec row-out-requires same-length returns row-out-requires-2 same-length-2 returns-2)
+row-out-spec = tie.close (tie.spec row-out-requires (λ c. search needs) returns row-out-requires-2 (λ c. search needs) returns-2)

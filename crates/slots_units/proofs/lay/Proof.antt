@@ -64,12 +64,6 @@ put-forty-requires c κs =
     let e = c .before .before .before .loop .inv .1 in
     omega arith
 
-add-u : tie.Need-add-u Inv-loop μ-loop
-add-u c = search needs
-
-loop-less : tie.Need-loop-less Inv-loop μ-loop
-loop-less c = search needs
-
 loop-again : tie.Need-loop-again Inv-loop μ-loop
 loop-again c =
     let a = c .before .before .before .before .before .before .before .before .before .args in
@@ -109,8 +103,8 @@ lay-spec =
     add-unit
     unit-requires
     put-forty-requires
-    add-u
-    loop-less
+    (λ c. search needs)
+    (λ c. search needs)
     loop-again
     same-length
     returns)

@@ -27,9 +27,6 @@ few s = let k = bounds (s .args .p) (s .pre .0 .fine) .symbols-bound in let i = 
 mul-per-forty : tie.Need-mul-per-forty
 mul-per-forty c = let k = whole (c .before .before) .width-most in omega arith
 
-per-forty-requires : tie.Need-per-forty-requires
-per-forty-requires c κs = search needs
-
 add-units : tie.Need-add-units
 add-units c =
     let s = c .before .before .before in
@@ -87,18 +84,12 @@ lay-split-requires c κs =
     let e = c .before .per-forty .ensures in
     (s .pre .0, split (s .args .p) per (s .args .first) (s .args .n) _ _ _ (s .pre .2) (whole s) e (sizes s per e), s .pre .3)
 
-same-length : tie.Need-same-length
-same-length c = search needs
-
-returns : tie.Need-returns
-returns c = search needs
-
 pub lay-row-spec : {M : Type 1} → statement M
 lay-row-spec =
     tie.close
     (tie.spec
     mul-per-forty
-    per-forty-requires
+    (λ c κs. search needs)
     add-units
     sub-units
     div-units
@@ -109,5 +100,5 @@ lay-row-spec =
     mul-lay-split
     add-lay-split
     lay-split-requires
-    same-length
-    returns)
+    (λ c. search needs)
+    (λ c. search needs))

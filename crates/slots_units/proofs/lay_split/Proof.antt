@@ -86,9 +86,6 @@ move-row-requires-2 c κs =
     let s = c .before .before .before .before .before .before .before .before .before .before .before .before in
     (s .pre .0, known s .last-most, c .before .before .before .lay-units .kept .1 .1 .1 .1 .1 .0 ∙ (c .before .before .before .before .before .before .before .move-row .kept .1 .1 .1 .1 .1 .0 ∙ s .pre .2))
 
-same-length : tie.Need-same-length
-same-length c = search needs
-
 returns : tie.Need-returns
 returns c word end same h =
     let s = c .before .before .before .before .before .before .before .before .before .before .before .before .before .before .before in
@@ -119,5 +116,5 @@ lay-split-spec =
     mul-lay-units-2
     lay-units-requires
     move-row-requires-2
-    same-length
+    (λ c. search needs)
     returns)

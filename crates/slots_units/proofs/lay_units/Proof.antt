@@ -17,9 +17,6 @@ lay-requires c κs =
     let h = s .pre .0 in
     (omega arith, omega arith, s .pre .2, s .pre .3)
 
-same-length : tie.Need-same-length
-same-length c = search needs
-
 returns : tie.Need-returns
 returns c copies group z b =
     let s = c .before .before .before .before .before .before .before in
@@ -35,9 +32,6 @@ lay-requires-2 c κs =
     let e : 4 * s .args .n ≡ perForty (s .args .width) * s .args .n = ap (λ (x : ℕ). x * s .args .n) n in
     let h = s .pre .0 in
     (omega arith, omega arith, s .pre .2, s .pre .3)
-
-same-length-2 : tie.Need-same-length-2
-same-length-2 c = search needs
 
 returns-2 : tie.Need-returns-2
 returns-2 c copies group z b =
@@ -55,9 +49,6 @@ lay-requires-3 c κs =
     let h = s .pre .0 in
     (omega arith, omega arith, s .pre .2, s .pre .3)
 
-same-length-3 : tie.Need-same-length-3
-same-length-3 c = search needs
-
 returns-3 : tie.Need-returns-3
 returns-3 c copies group z b =
     let s = c .before .before .before .before .before .before .before .before .before in
@@ -74,9 +65,6 @@ lay-requires-4 c κs =
     let h = s .pre .0 in
     (omega arith, omega arith, s .pre .2, s .pre .3)
 
-same-length-4 : tie.Need-same-length-4
-same-length-4 c = search needs
-
 returns-4 : tie.Need-returns-4
 returns-4 c copies group z b =
     let s = c .before .before .before .before .before .before .before .before .before in
@@ -89,14 +77,14 @@ lay-units-spec =
     tie.close
     (tie.spec
     lay-requires
-    same-length
+    (λ c. search needs)
     returns
     lay-requires-2
-    same-length-2
+    (λ c. search needs)
     returns-2
     lay-requires-3
-    same-length-3
+    (λ c. search needs)
     returns-3
     lay-requires-4
-    same-length-4
+    (λ c. search needs)
     returns-4)

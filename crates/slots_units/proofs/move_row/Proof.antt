@@ -47,12 +47,6 @@ move-symbol-requires c κs =
     let i = r .inside in
     copied (s .args .p) (r .fine) (s .args .first + l .i) (getD (s .args .row .now) (l .i) 0) (l .slots) (l .inv .2 ∙ s .pre .2) (omega arith) (r .small (l .i))
 
-add-i : tie.Need-add-i Inv-loop μ-loop
-add-i c = search needs
-
-loop-less : tie.Need-loop-less Inv-loop μ-loop
-loop-less c = search needs
-
 loop-again : tie.Need-loop-again Inv-loop μ-loop
 loop-again c =
     let s = c .before .before .before .before .before .before .before .before .before in
@@ -94,8 +88,8 @@ move-row-spec =
     shared-slice-read-move-symbol
     cast-move-symbol
     move-symbol-requires
-    add-i
-    loop-less
+    (λ c. search needs)
+    (λ c. search needs)
     loop-again
     same-length
     returns)

@@ -20,29 +20,11 @@ abbrev μ-loop : tie.MeasureT-loop
 loop-holds : tie.Need-loop-holds Inv-loop μ-loop
 loop-holds c = (search needs, laid-none _ _ _)
 
-mul-slots : tie.Need-mul-slots Inv-loop μ-loop
-mul-slots c = search needs
-
-sub-slots : tie.Need-sub-slots Inv-loop μ-loop
-sub-slots c = search needs
-
-shr-slots : tie.Need-shr-slots Inv-loop μ-loop
-shr-slots c = search needs
-
 cast-slots : tie.Need-cast-slots Inv-loop μ-loop
 cast-slots c = omega (arith, mask-lt (c .before .before .args .v / 2 ^ (32 - 8 * c .before .loop .t)) 8)
 
-add-slots : tie.Need-add-slots Inv-loop μ-loop
-add-slots c = search needs
-
 slice-write-slots : tie.Need-slice-write-slots Inv-loop μ-loop
 slice-write-slots c = let e = c .before .loop .inv .1 .long in omega arith
-
-add-t : tie.Need-add-t Inv-loop μ-loop
-add-t c = search needs
-
-loop-less : tie.Need-loop-less Inv-loop μ-loop
-loop-less c = search needs
 
 loop-again : tie.Need-loop-again Inv-loop μ-loop
 loop-again c =
@@ -73,14 +55,14 @@ put-forty-spec =
     Inv-loop
     μ-loop
     loop-holds
-    mul-slots
-    sub-slots
-    shr-slots
+    (λ c. search needs)
+    (λ c. search needs)
+    (λ c. search needs)
     cast-slots
-    add-slots
+    (λ c. search needs)
     slice-write-slots
-    add-t
-    loop-less
+    (λ c. search needs)
+    (λ c. search needs)
     loop-again
     same-length
     returns)

@@ -22,26 +22,11 @@ loop-holds : tie.Need-loop-holds Inv-loop μ-loop
 unfolding val
 loop-holds c = (omega arith, λ copies group z b l. let e : 0 * c .args .width ≡ 0 = omega arith in sym (ap (val (rowSlot group (c .args .width) (c .args .row .now) (c .args .i))) e))
 
-shl-v : tie.Need-shl-v Inv-loop μ-loop
-shl-v c = search needs
-
-add-v : tie.Need-add-v Inv-loop μ-loop
-add-v c = search needs
-
-shared-slice-read-v : tie.Need-shared-slice-read-v Inv-loop μ-loop
-shared-slice-read-v c = search needs
-
 cast-v : tie.Need-cast-v Inv-loop μ-loop
 cast-v c = omega (arith, c .before .before .before .pre .2 (c .before .before .before .args .i + c .before .before .loop .j))
 
 shr-v : tie.Need-shr-v Inv-loop μ-loop
 shr-v c = omega (arith, c .before .before .before .pre .2 (c .before .before .before .args .i + c .before .before .loop .j))
-
-add-j : tie.Need-add-j Inv-loop μ-loop
-add-j c = search needs
-
-loop-less : tie.Need-loop-less Inv-loop μ-loop
-loop-less c = search needs
 
 loop-again : tie.Need-loop-again Inv-loop μ-loop
 loop-again c =
@@ -68,12 +53,12 @@ unit-spec =
     Inv-loop
     μ-loop
     loop-holds
-    shl-v
-    add-v
-    shared-slice-read-v
+    (λ c. search needs)
+    (λ c. search needs)
+    (λ c. search needs)
     cast-v
     shr-v
-    add-j
-    loop-less
+    (λ c. search needs)
+    (λ c. search needs)
     loop-again
     returns)

@@ -29,17 +29,8 @@ loop-holds c = (omega arith, let e : 0 * c .args .group ≡ 0 = omega arith in s
 shl-v : tie.Need-shl-v Inv-loop μ-loop
 shl-v c = let k = fits (c .before .before) in omega arith
 
-sub-v : tie.Need-sub-v Inv-loop μ-loop
-sub-v c = search needs
-
 shl-v-2 : tie.Need-shl-v-2 Inv-loop μ-loop
 shl-v-2 c = let k = fits (c .before .before) in omega arith
-
-add-c : tie.Need-add-c Inv-loop μ-loop
-add-c c = search needs
-
-loop-less : tie.Need-loop-less Inv-loop μ-loop
-loop-less c = search needs
 
 loop-again : tie.Need-loop-again Inv-loop μ-loop
 loop-again c =
@@ -64,4 +55,4 @@ returns c =
 pub zero-of-spec : {M : Type 1} → statement M
 zero-of-spec =
     tie.close
-    (tie.spec Inv-loop μ-loop loop-holds shl-v sub-v shl-v-2 add-c loop-less loop-again returns)
+    (tie.spec Inv-loop μ-loop loop-holds shl-v (λ c. search needs) shl-v-2 (λ c. search needs) (λ c. search needs) loop-again returns)

@@ -98,9 +98,6 @@ put-marks-requires c κs = let s = c .before .before .before .before .before .be
 put-symbols-requires : tie.Need-put-symbols-requires
 put-symbols-requires c κs = let s = c .before .before .before .before .before .before .before .before .before .before .before .before .before in (record { given = s .pre .0; room = c .before .before .before .put-marks .kept .1 .1 .0 ∙ (c .before .before .before .before .before .before .before .lay-zeros .ensures .long ∙ s .pre .3 .room) }, s .pre .2)
 
-same-length : tie.Need-same-length
-same-length c = search needs
-
 returns : tie.Need-returns
 returns c =
     let s = c .before .before .before .before .before .before .before .before .before .before .before .before .before .before .before .before in
@@ -130,5 +127,5 @@ put-line-spec =
     lay-zeros-requires
     put-marks-requires
     put-symbols-requires
-    same-length
+    (λ c. search needs)
     returns)

@@ -26,12 +26,6 @@ loop-holds c =
 put-line-requires : tie.Need-put-line-requires Inv-loop μ-loop
 put-line-requires c κs = let s = c .before .before .before .before .before .before in (s .pre .0 .given, s .pre .1, c .before .loop-test .taken, c .before .before .loop .inv .1)
 
-add-line : tie.Need-add-line Inv-loop μ-loop
-add-line c = search needs
-
-loop-less : tie.Need-loop-less Inv-loop μ-loop
-loop-less c = search needs
-
 loop-again : tie.Need-loop-again Inv-loop μ-loop
 loop-again c = (search needs, c .before .before .put-line .ensures)
 
@@ -52,8 +46,8 @@ put-lines-spec =
     μ-loop
     loop-holds
     put-line-requires
-    add-line
-    loop-less
+    (λ c. search needs)
+    (λ c. search needs)
     loop-again
     same-length
     returns)

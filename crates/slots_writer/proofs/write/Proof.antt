@@ -11,32 +11,14 @@ use Rattle.sizes.specs.Sizes.{wordBytes}
 add-end : tie.Need-add-end
 add-end c = let s = c .before .before .before in let k = bounds (s .args .p) (s .pre .given .fine) in omega arith
 
-mul-end : tie.Need-mul-end
-mul-end c = search needs
-
 mul-end-2 : tie.Need-mul-end-2
 mul-end-2 c = let s = c .before .before .before .before .before in let k = bounds (s .args .p) (s .pre .given .fine) in omega arith
 
 mul-end-3 : tie.Need-mul-end-3
 mul-end-3 c = let s = c .before .before .before .before .before in let k = bounds (s .args .p) (s .pre .given .fine) in omega arith
 
-slice-aggregate-fill-zeros : tie.Need-slice-aggregate-fill-zeros
-slice-aggregate-fill-zeros c = search needs
-
 fill-zeros-requires : tie.Need-fill-zeros-requires
 fill-zeros-requires c κs = let s = c .before .before .before .before .before .before in let k = bounds (s .args .p) (s .pre .given .fine) in (omega arith, omega arith, omega arith)
-
-slice-aggregate-put-lines : tie.Need-slice-aggregate-put-lines
-slice-aggregate-put-lines c = search needs
-
-put-lines-requires : tie.Need-put-lines-requires
-put-lines-requires c κs = search needs
-
-clear-spare-requires : tie.Need-clear-spare-requires
-clear-spare-requires c κs = search needs
-
-same-length : tie.Need-same-length
-same-length c = search needs
 
 returns : tie.Need-returns
 returns c = let s = c .before .before .before .before .before .before .before .before .before .before .before .before .before .before .before .before .before in holds-all (s .args .p) (s .pre .given .fine) (piece wordBytes (s .args .words .now)) _ _ (c .before .before .before .before .before .before .put-lines .ensures) (c .before .before .clear-spare .ensures) (λ i. omega (arith, c .slice-known3 .given i))
@@ -46,13 +28,13 @@ write-spec =
     tie.close
     (tie.spec
     add-end
-    mul-end
+    (λ c. search needs)
     mul-end-2
     mul-end-3
-    slice-aggregate-fill-zeros
+    (λ c. search needs)
     fill-zeros-requires
-    slice-aggregate-put-lines
-    put-lines-requires
-    clear-spare-requires
-    same-length
+    (λ c. search needs)
+    (λ c κs. search needs)
+    (λ c κs. search needs)
+    (λ c. search needs)
     returns)

@@ -10,21 +10,6 @@ use borrow.Author.Needs.{needs}
 use Rattle.spread.proofs.change_coded.Statement.{statement}
 use Rattle.spread.proofs.change_coded.Tie as tie
 
-change-input-requires : tie.Need-change-input-requires
-change-input-requires c κs = search needs
-
-encode-requires : tie.Need-encode-requires
-encode-requires c κs = search needs
-
-same-length : tie.Need-same-length
-same-length c = search needs
-
-same-length-2 : tie.Need-same-length-2
-same-length-2 c = search needs
-
-same-length-3 : tie.Need-same-length-3
-same-length-3 c = search needs
-
 returns : tie.Need-returns
 returns c =
     let s = c .before .before .before .before .before .before .before .before .before .before .before .before .before .before .before in
@@ -38,9 +23,9 @@ pub change-coded-spec : {M : Type 1} → statement M
 change-coded-spec =
     tie.close
     (tie.spec
-    change-input-requires
-    encode-requires
-    same-length
-    same-length-2
-    same-length-3
+    (λ c κs. search needs)
+    (λ c κs. search needs)
+    (λ c. search needs)
+    (λ c. search needs)
+    (λ c. search needs)
     returns)

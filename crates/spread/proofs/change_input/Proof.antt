@@ -7,9 +7,6 @@ use borrow.Author.Needs.{needs}
 use Rattle.spread.proofs.change_input.Statement.{statement}
 use Rattle.spread.proofs.change_input.Tie as tie
 
-info-bits-requires : tie.Need-info-bits-requires
-info-bits-requires c κs = search needs
-
 check-requires : tie.Need-check-requires
 check-requires c κs = let s = c .before .before .before .before in omega (arith, info-le (s .args .rate), s .pre .block-is)
 
@@ -31,12 +28,6 @@ put-end-requires c κs =
     let s = c .before .before .before .before .before .before .before .before .before .before .before .before .before .before .before .before in
     omega (arith, info-ge (s .args .rate), s .pre .input-is, c .before .before .before .flip2 .kept .0)
 
-same-length : tie.Need-same-length
-same-length c = search needs
-
-same-length-2 : tie.Need-same-length-2
-same-length-2 c = search needs
-
 returns : tie.Need-returns
 returns c =
     let s = c .before .before .before .before .before .before .before .before .before .before .before .before .before .before .before .before .before .before .before in
@@ -52,12 +43,12 @@ pub change-input-spec : {M : Type 1} → statement M
 change-input-spec =
     tie.close
     (tie.spec
-    info-bits-requires
+    (λ c κs. search needs)
     check-requires
     flip-requires
     check-requires-2
     flip-requires-2
     put-end-requires
-    same-length
-    same-length-2
+    (λ c. search needs)
+    (λ c. search needs)
     returns)

@@ -28,23 +28,14 @@ size : (s : tie.Start) (n : ℕ) → n ≡ blockBytes (s .args .rate) → 8 * (n
 unfolding inputBits
 size s n e = omega (arith, block-size (s .args .rate) (s .pre .rate-is))
 
-block-bytes-requires : tie.Need-block-bytes-requires
-block-bytes-requires c κs = search needs
-
 add-n : tie.Need-add-n
 add-n c = omega (arith, fits (c .before .before) _ (c .block-bytes .ensures))
-
-slice-aggregate-change-coded : tie.Need-slice-aggregate-change-coded
-slice-aggregate-change-coded c = search needs
 
 array-borrow-prefix-room : tie.Need-array-borrow-prefix-room
 array-borrow-prefix-room c = fits (c .before .before .before) _ (c .before .block-bytes .ensures)
 
 slice-aggregate-change-coded-2 : tie.Need-slice-aggregate-change-coded-2
 slice-aggregate-change-coded-2 c = sym (length-take-le _ _ (fits (c .before .before .before .before) _ (c .before .before .block-bytes .ensures)))
-
-slice-aggregate-change-coded-3 : tie.Need-slice-aggregate-change-coded-3
-slice-aggregate-change-coded-3 c = search needs
 
 change-coded-requires : tie.Need-change-coded-requires
 change-coded-requires c κs =
@@ -61,9 +52,6 @@ change-coded-requires c κs =
       coded-is = length-replicate {A = ℕ} 15120 0;
     }
 
-slice-aggregate-pack : tie.Need-slice-aggregate-pack
-slice-aggregate-pack c = search needs
-
 pack-requires : tie.Need-pack-requires
 pack-requires c κs =
     let s = c .before .before .before .before .before .before .before .before .before .before .before in
@@ -72,9 +60,6 @@ pack-requires c κs =
       omega (arith, s .pre .places-are),
       λ i. rw (c .before .before .before .before .before .change-coded .ensures) (tab-bits wordBits (encode r δ) (encode-bits r δ (change-input-bits r (s .args .bit))) i),
     )
-
-same-length : tie.Need-same-length
-same-length c = search needs
 
 returns : tie.Need-returns
 returns c =
@@ -93,14 +78,14 @@ pub fill-spec : {M : Type 1} → statement M
 fill-spec =
     tie.close
     (tie.spec
-    block-bytes-requires
+    (λ c κs. search needs)
     add-n
-    slice-aggregate-change-coded
+    (λ c. search needs)
     array-borrow-prefix-room
     slice-aggregate-change-coded-2
-    slice-aggregate-change-coded-3
+    (λ c. search needs)
     change-coded-requires
-    slice-aggregate-pack
+    (λ c. search needs)
     pack-requires
-    same-length
+    (λ c. search needs)
     returns)

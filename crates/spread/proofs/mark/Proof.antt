@@ -9,26 +9,11 @@ use borrow.Author.Needs.{needs}
 use Rattle.spread.proofs.mark.Statement.{statement}
 use Rattle.spread.proofs.mark.Tie as tie
 
-spread-says-requires : tie.Need-spread-says-requires
-spread-says-requires c κs = search needs
-
-enum-told : tie.Need-enum-told
-enum-told c = search needs
-
-enum-told-2 : tie.Need-enum-told-2
-enum-told-2 c = search needs
-
-returns : tie.Need-returns
-returns c = search needs
-
 fill-requires : tie.Need-fill-requires
 fill-requires c κs =
     let s = c .before .before .before .before .before in
     let j = c .before .before .before .spread-says in
     spread-accepted (s .args .rate) (s .args .bit) (length (s .args .places .now)) (sym (j .ensures) ∙ c .before .enum-told .given .1)
-
-same-length : tie.Need-same-length
-same-length c = search needs
 
 returns-2 : tie.Need-returns-2
 returns-2 c =
@@ -43,4 +28,4 @@ returns-2 c =
 pub mark-spec : {M : Type 1} → statement M
 mark-spec =
     tie.close
-    (tie.spec spread-says-requires enum-told enum-told-2 returns fill-requires same-length returns-2)
+    (tie.spec (λ c κs. search needs) (λ c. search needs) (λ c. search needs) (λ c. search needs) fill-requires (λ c. search needs) returns-2)

@@ -16,9 +16,6 @@ returns-2 c =
     let a = c .before .before .args in
     sym (says-length (a .rate) (a .bit) (a .places-length) (omega arith) (c .if2 .taken))
 
-info-bits-requires : tie.Need-info-bits-requires
-info-bits-requires c κs = search needs
-
 returns-3 : tie.Need-returns-3
 returns-3 c =
     let a = c .before .before .before .before .args in
@@ -30,4 +27,4 @@ returns-4 c =
     sym (says-done (a .rate) (a .bit) (a .places-length) (omega arith) (omega arith) (omega arith))
 
 pub spread-says-spec : {M : Type 1} → statement M
-spread-says-spec = tie.close (tie.spec returns returns-2 info-bits-requires returns-3 returns-4)
+spread-says-spec = tie.close (tie.spec returns returns-2 (λ c κs. search needs) returns-3 returns-4)

@@ -17,9 +17,6 @@ use borrow.Author.Needs.{needs}
 use Rattle.stream_blocks.proofs.fill_block.Statement.{statement}
 use Rattle.stream_blocks.proofs.fill_block.Tie as tie
 
-info-bits-requires : tie.Need-info-bits-requires
-info-bits-requires c κs = search needs
-
 mul-fill-bytes : tie.Need-mul-fill-bytes
 mul-fill-bytes c =
     let s = c .before .before .before in
@@ -60,9 +57,6 @@ slice-write-block c =
     let w = block-size (s .args .rate) (s .pre .1 .0) in
     omega (arith, s .pre .1 .2)
 
-same-length : tie.Need-same-length
-same-length c = search needs
-
 returns : tie.Need-returns
 unfolding blockAt
 returns c =
@@ -85,11 +79,11 @@ pub fill-block-spec : {M : Type 1} → statement M
 fill-block-spec =
     tie.close
     (tie.spec
-    info-bits-requires
+    (λ c κs. search needs)
     mul-fill-bytes
     fill-bytes-requires
     sub-last
     slice-read-block
     slice-write-block
-    same-length
+    (λ c. search needs)
     returns)

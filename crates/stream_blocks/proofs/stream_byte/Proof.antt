@@ -18,19 +18,10 @@ returns c =
     let a = c .before .before .args in
     zeros-byte (a .size) (a .count) (a .frames .now) (a .at .piece) (a .at .bit) (omega arith)
 
-add-if2 : tie.Need-add-if2
-add-if2 c = search needs
-
-marker-byte-requires : tie.Need-marker-byte-requires
-marker-byte-requires c κs = search needs
-
 returns-2 : tie.Need-returns-2
 returns-2 c =
     let a = c .before .before .before .before .args in
     c .marker-byte .ensures ∙ marker-byte (a .size) (a .count) (a .frames .now) (a .at .piece) (a .at .bit) (omega arith) (omega arith)
-
-span-requires : tie.Need-span-requires
-span-requires c κs = search needs
 
 mul-eight-bits : tie.Need-mul-eight-bits
 mul-eight-bits c =
@@ -73,10 +64,10 @@ stream-byte-spec =
     tie.close
     (tie.spec
     returns
-    add-if2
-    marker-byte-requires
+    (λ c. search needs)
+    (λ c κs. search needs)
     returns-2
-    span-requires
+    (λ c κs. search needs)
     mul-eight-bits
     add-eight-bits
     eight-bits-requires

@@ -7,19 +7,10 @@ use borrow.Author.Needs.{needs}
 use Rattle.stream_frames.proofs.some_bytes.Statement.{statement}
 use Rattle.stream_frames.proofs.some_bytes.Tie as tie
 
-whole-bytes-requires : tie.Need-whole-bytes-requires
-whole-bytes-requires c κs = search needs
-
 joined-byte-requires : tie.Need-joined-byte-requires
 joined-byte-requires c κs =
     let s = c .before .before .before .before in
     record { inside = s .pre .0 .inside; held = held-part (s .pre .0 .held) _ 8 (omega arith) }
-
-slice-write-frames : tie.Need-slice-write-frames
-slice-write-frames c = search needs
-
-same-length : tie.Need-same-length
-same-length c = search needs
 
 returns : tie.Need-returns
 returns c =
@@ -41,9 +32,6 @@ bytes-from-requires c κs =
     let l = stretch-in (a .rate) (8 * a .most) (a .blocks .now) (a .at) (s .pre .0) (omega arith) (c .before .before .before .whole-bytes .result) (w .1) in
     rw (c .before .packed-bit .ensures) (l, omega arith)
 
-same-length-2 : tie.Need-same-length-2
-same-length-2 c = search needs
-
 returns-2 : tie.Need-returns-2
 returns-2 c =
     let s = c .before .before .before .before .before .before .before .before .before in
@@ -57,12 +45,12 @@ pub some-bytes-spec : {M : Type 1} → statement M
 some-bytes-spec =
     tie.close
     (tie.spec
-    whole-bytes-requires
+    (λ c κs. search needs)
     joined-byte-requires
-    slice-write-frames
-    same-length
+    (λ c. search needs)
+    (λ c. search needs)
     returns
     packed-bit-requires
     bytes-from-requires
-    same-length-2
+    (λ c. search needs)
     returns-2)

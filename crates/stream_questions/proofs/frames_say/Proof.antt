@@ -12,26 +12,17 @@ use borrow.Author.Needs.{needs}
 use Rattle.stream_questions.proofs.frames_say.Statement.{statement}
 use Rattle.stream_questions.proofs.frames_say.Tie as tie
 
-first-unmarked-requires : tie.Need-first-unmarked-requires
-first-unmarked-requires c κs = search needs
-
 returns : tie.Need-returns
 returns c =
     let a = c .before .before .before .args in
     let st : ℕ → ℕ = joined (a .rate) (piece (blockBytes (a .rate)) (a .blocks .now)) in
     say-unmarked (a .size) (a .count) (a .pieces * infoBits (a .rate)) (c .before .first-unmarked .result) st (c .before .first-unmarked .ensures) (c .if1 .taken)
 
-info-bits-requires : tie.Need-info-bits-requires
-info-bits-requires c κs = search needs
-
 mul-end : tie.Need-mul-end
 mul-end c =
     let s = c .before .before .before .before in
     let room = pieces-room (s .args .rate) (s .args .pieces) (s .pre .pieces2) in
     rw (c .info-bits .ensures) (record { fits = omega arith })
-
-span-requires : tie.Need-span-requires
-span-requires c κs = search needs
 
 mul-first-fill : tie.Need-mul-first-fill
 mul-first-fill c =
@@ -76,11 +67,11 @@ pub frames-say-spec : {M : Type 1} → statement M
 frames-say-spec =
     tie.close
     (tie.spec
-    first-unmarked-requires
+    (λ c κs. search needs)
     returns
-    info-bits-requires
+    (λ c κs. search needs)
     mul-end
-    span-requires
+    (λ c κs. search needs)
     mul-first-fill
     first-fill-requires
     returns-2

@@ -15,50 +15,11 @@ Inv-loop s₀ at d e m up i₀ s i = (i ≤ d) × Exchanged e m d at i s₀ s
 abbrev μ-loop : tie.MeasureT-loop
 μ-loop s₀ at d e m up i₀ s i = d - i
 
-cast-up : tie.Need-cast-up Inv-loop μ-loop
-cast-up c = search needs
-
-shl-up : tie.Need-shl-up Inv-loop μ-loop
-shl-up c = search needs
-
 loop-holds : tie.Need-loop-holds Inv-loop μ-loop
 loop-holds c = (search needs, exchanged-none _ _ _ _ _)
 
-add-x : tie.Need-add-x Inv-loop μ-loop
-add-x c = search needs
-
-add-y : tie.Need-add-y Inv-loop μ-loop
-add-y c = search needs
-
-slice-read-a : tie.Need-slice-read-a Inv-loop μ-loop
-slice-read-a c = search needs
-
-slice-read-b : tie.Need-slice-read-b Inv-loop μ-loop
-slice-read-b c = search needs
-
-cast-s : tie.Need-cast-s Inv-loop μ-loop
-cast-s c = search needs
-
-shl-s : tie.Need-shl-s Inv-loop μ-loop
-shl-s c = search needs
-
-slice-write-s : tie.Need-slice-write-s Inv-loop μ-loop
-slice-write-s c = search needs
-
-cast-s-2 : tie.Need-cast-s-2 Inv-loop μ-loop
-cast-s-2 c = search needs
-
-shr-s : tie.Need-shr-s Inv-loop μ-loop
-shr-s c = search needs
-
 slice-write-s-2 : tie.Need-slice-write-s-2 Inv-loop μ-loop
 slice-write-s-2 c = let e = c .before .before .before .loop .inv .1 .long in simp length-set (omega arith)
-
-add-i : tie.Need-add-i Inv-loop μ-loop
-add-i c = search needs
-
-loop-less : tie.Need-loop-less Inv-loop μ-loop
-loop-less c = search needs
 
 loop-again : tie.Need-loop-again Inv-loop μ-loop
 unfolding lowOf highOf
@@ -83,21 +44,21 @@ exchanged-spec =
     (tie.spec
     Inv-loop
     μ-loop
-    cast-up
-    shl-up
+    (λ c. search needs)
+    (λ c. search needs)
     loop-holds
-    add-x
-    add-y
-    slice-read-a
-    slice-read-b
-    cast-s
-    shl-s
-    slice-write-s
-    cast-s-2
-    shr-s
+    (λ c. search needs)
+    (λ c. search needs)
+    (λ c. search needs)
+    (λ c. search needs)
+    (λ c. search needs)
+    (λ c. search needs)
+    (λ c. search needs)
+    (λ c. search needs)
+    (λ c. search needs)
     slice-write-s-2
-    add-i
-    loop-less
+    (λ c. search needs)
+    (λ c. search needs)
     loop-again
     same-length
     returns)

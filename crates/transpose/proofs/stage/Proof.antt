@@ -44,12 +44,6 @@ exchanged-requires c κs =
     let e = c .before .before .loop .inv .1 .long in
     (s .pre .0, omega (arith, stage-fits (s .args .w) (s .args .e) (s .args .n) (c .before .before .loop .k) (length (s .args .s .now)) (s .pre .1) (omega arith) (s .pre .2)))
 
-add-k : tie.Need-add-k Inv-loop μ-loop
-add-k c = search needs
-
-loop-less : tie.Need-loop-less Inv-loop μ-loop
-loop-less c = search needs
-
 loop-again : tie.Need-loop-again Inv-loop μ-loop
 loop-again c =
     let l = c .before .before .before .before .before .loop in
@@ -78,8 +72,8 @@ stage-spec =
     mul-exchanged-3
     mul-exchanged-4
     exchanged-requires
-    add-k
-    loop-less
+    (λ c. search needs)
+    (λ c. search needs)
     loop-again
     same-length
     returns)

@@ -14,9 +14,6 @@ stage-requires-2 c κs = (mask-right 2 0x33 (omega arith) (omega arith) tt, omeg
 stage-requires-3 : tie.Need-stage-requires-3
 stage-requires-3 c κs = (mask-right 1 0x55 (omega arith) (omega arith) tt, omega arith, omega arith)
 
-same-length : tie.Need-same-length
-same-length c = search needs
-
 returns : tie.Need-returns
 returns c =
     let third = c .before .before in
@@ -27,4 +24,4 @@ returns c =
 
 pub transposed-spec : {M : Type 1} → statement M
 transposed-spec =
-    tie.close (tie.spec stage-requires stage-requires-2 stage-requires-3 same-length returns)
+    tie.close (tie.spec stage-requires stage-requires-2 stage-requires-3 (λ c. search needs) returns)

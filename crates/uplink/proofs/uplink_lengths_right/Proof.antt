@@ -17,9 +17,6 @@ returns-2 c =
     let a = c .before .before .args in
     sym (rw (le-leb 1 (a .count) (c .before .if1 .left), lt-leb (a .count) 64 (c .if2 .taken)) refl)
 
-mul-if3 : tie.Need-mul-if3
-mul-if3 c = search needs
-
 returns-3 : tie.Need-returns-3
 unfolding uplinkLengthsRight
 returns-3 c =
@@ -29,9 +26,6 @@ returns-3 c =
       le-leb (a .count) 64 (c .before .if2 .left),
       ne-eqb (a .frames-length) (8 * a .count) (c .if3 .taken),
     ) refl)
-
-mul-result : tie.Need-mul-result
-mul-result c = search needs
 
 returns-4 : tie.Need-returns-4
 unfolding uplinkLengthsRight
@@ -44,4 +38,4 @@ returns-4 c =
     ) refl)
 
 pub uplink-lengths-right-spec : {M : Type 1} → statement M
-uplink-lengths-right-spec = tie.close (tie.spec returns returns-2 mul-if3 returns-3 mul-result returns-4)
+uplink-lengths-right-spec = tie.close (tie.spec returns returns-2 (λ c. search needs) returns-3 (λ c. search needs) returns-4)

@@ -18,21 +18,6 @@ loop-holds : tie.Need-loop-holds Inv-loop μ-loop
 unfolding val
 loop-holds c = (search needs, refl)
 
-add-two-bits : tie.Need-add-two-bits Inv-loop μ-loop
-add-two-bits c = search needs
-
-shared-slice-read-two-bits : tie.Need-shared-slice-read-two-bits Inv-loop μ-loop
-shared-slice-read-two-bits c = search needs
-
-two-bits-requires : tie.Need-two-bits-requires Inv-loop μ-loop
-two-bits-requires c κs = search needs
-
-add-q : tie.Need-add-q Inv-loop μ-loop
-add-q c = search needs
-
-loop-less : tie.Need-loop-less Inv-loop μ-loop
-loop-less c = search needs
-
 loop-again : tie.Need-loop-again Inv-loop μ-loop
 loop-again c =
     let l = c .before .before .before .loop in
@@ -53,10 +38,10 @@ heard-spec =
     Inv-loop
     μ-loop
     loop-holds
-    add-two-bits
-    shared-slice-read-two-bits
-    two-bits-requires
-    add-q
-    loop-less
+    (λ c. search needs)
+    (λ c. search needs)
+    (λ c κs. search needs)
+    (λ c. search needs)
+    (λ c. search needs)
     loop-again
     returns)

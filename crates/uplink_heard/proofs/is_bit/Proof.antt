@@ -5,21 +5,6 @@ use Rattle.uplink_heard.proofs.Reading.{group-is, group-lt, bit-tested}
 use Rattle.uplink_heard.proofs.is_bit.Statement.{statement}
 use Rattle.uplink_heard.proofs.is_bit.Tie as tie
 
-shared-slice-read-group : tie.Need-shared-slice-read-group
-shared-slice-read-group c = search needs
-
-mul-group : tie.Need-mul-group
-mul-group c = search needs
-
-sub-group : tie.Need-sub-group
-sub-group c = search needs
-
-cast-group : tie.Need-cast-group
-cast-group c = search needs
-
-shr-group : tie.Need-shr-group
-shr-group c = search needs
-
 cast-result : tie.Need-cast-result
 cast-result c = let a = c .before .args in omega (arith, group-lt (a .slots .now) (a .g))
 
@@ -34,4 +19,4 @@ returns c =
 pub is-bit-spec : {M : Type 1} → statement M
 is-bit-spec =
     tie.close
-    (tie.spec shared-slice-read-group mul-group sub-group cast-group shr-group cast-result shr-result returns)
+    (tie.spec (λ c. search needs) (λ c. search needs) (λ c. search needs) (λ c. search needs) (λ c. search needs) cast-result shr-result returns)

@@ -4,21 +4,6 @@ use borrow.Author.Needs.{needs}
 use Rattle.uplink_heard.proofs.passes.Statement.{statement}
 use Rattle.uplink_heard.proofs.passes.Tie as tie
 
-mul-heard : tie.Need-mul-heard
-mul-heard c = search needs
-
-add-heard : tie.Need-add-heard
-add-heard c = search needs
-
-heard-requires : tie.Need-heard-requires
-heard-requires c κs = search needs
-
-frame-in-requires : tie.Need-frame-in-requires
-frame-in-requires c κs = search needs
-
-parity-requires : tie.Need-parity-requires
-parity-requires c κs = search needs
-
 returns : tie.Need-returns
 returns c =
     let a = c .before .before .before .before .args in
@@ -30,4 +15,4 @@ returns c =
 pub passes-spec : {M : Type 1} → statement M
 passes-spec =
     tie.close
-    (tie.spec mul-heard add-heard heard-requires frame-in-requires parity-requires returns)
+    (tie.spec (λ c. search needs) (λ c. search needs) (λ c κs. search needs) (λ c κs. search needs) (λ c κs. search needs) returns)

@@ -39,12 +39,6 @@ returns c =
     sym (ap (upTo good 0) end ∙ sym (l .inv .1)
     ∙ first-here good (a .count) (l .i) (omega arith) (sym (c .before .passes .ensures) ∙ not-true (c .before .passes .result) (c .if1 .taken)))
 
-add-i : tie.Need-add-i Inv-loop μ-loop
-add-i c = search needs
-
-loop-less : tie.Need-loop-less Inv-loop μ-loop
-loop-less c = search needs
-
 loop-again : tie.Need-loop-again Inv-loop μ-loop
 loop-again c =
     let l = c .before .before .before .loop in
@@ -74,7 +68,7 @@ first-bad-block-spec =
     loop-holds
     passes-requires
     returns
-    add-i
-    loop-less
+    (λ c. search needs)
+    (λ c. search needs)
     loop-again
     returns-2)

@@ -38,12 +38,6 @@ returns c =
     ∙ first-here (isBit (a .slots .now)) (128 * a .count) (l .g) (omega arith) (sym (c .before .is-bit .ensures)
     ∙ not-true (c .before .is-bit .result) (c .if1 .taken)))
 
-add-g : tie.Need-add-g Inv-loop μ-loop
-add-g c = search needs
-
-loop-less : tie.Need-loop-less Inv-loop μ-loop
-loop-less c = search needs
-
 loop-again : tie.Need-loop-again Inv-loop μ-loop
 loop-again c =
     let l = c .before .before .before .loop in
@@ -73,7 +67,7 @@ first-bad-group-spec =
     loop-holds
     is-bit-requires
     returns
-    add-g
-    loop-less
+    (λ c. search needs)
+    (λ c. search needs)
     loop-again
     returns-2)

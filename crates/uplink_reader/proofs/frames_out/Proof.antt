@@ -36,12 +36,6 @@ put-eight-requires c κs =
     let same = c .before .before .before .loop .inv .1 .long in
     omega arith
 
-add-j : tie.Need-add-j Inv-loop μ-loop
-add-j c = search needs
-
-loop-less : tie.Need-loop-less Inv-loop μ-loop
-loop-less c = search needs
-
 loop-again : tie.Need-loop-again Inv-loop μ-loop
 loop-again c =
     let l = c .before .before .before .before .before .before .loop in
@@ -76,8 +70,8 @@ frames-out-spec =
     mul-put-eight
     frame-in-requires
     put-eight-requires
-    add-j
-    loop-less
+    (λ c. search needs)
+    (λ c. search needs)
     loop-again
     same-length
     returns)

@@ -11,9 +11,6 @@ use borrow.Author.Needs.{needs}
 use Rattle.uplink_reader.proofs.read.Statement.{statement}
 use Rattle.uplink_reader.proofs.read.Tie as tie
 
-uplink-lengths-right-requires : tie.Need-uplink-lengths-right-requires
-uplink-lengths-right-requires c κs = search needs
-
 returns : tie.Need-returns
 returns c =
     let a = c .before .before .before .before .args in
@@ -25,12 +22,6 @@ uplink-slots-say-requires c κs =
     let a = c .before .before .before .before .args in
     let t = c .before .uplink-lengths-right in
     slotted (a .slots .now) (length (a .frames .now)) (t .result) (t .ensures) (not-false (t .result) (c .if1 .left))
-
-enum-told : tie.Need-enum-told
-enum-told c = search needs
-
-enum-told-2 : tie.Need-enum-told-2
-enum-told-2 c = search needs
 
 returns-2 : tie.Need-returns-2
 returns-2 c =
@@ -50,9 +41,6 @@ frames-out-requires c κs =
     let m = length (a .frames .now) in
     (slotted (a .slots .now) m (t .result) (t .ensures) yes, frames-slotted (a .slots .now) m (t .result) (t .ensures) (a .frames .now) refl yes)
 
-same-length : tie.Need-same-length
-same-length c = search needs
-
 returns-3 : tie.Need-returns-3
 returns-3 c =
     let a = c .before .before .before .before .before .before .before .before .before .before .before .args in
@@ -68,12 +56,12 @@ pub read-spec : {M : Type 1} → statement M
 read-spec =
     tie.close
     (tie.spec
-    uplink-lengths-right-requires
+    (λ c κs. search needs)
     returns
     uplink-slots-say-requires
-    enum-told
-    enum-told-2
+    (λ c. search needs)
+    (λ c. search needs)
     returns-2
     frames-out-requires
-    same-length
+    (λ c. search needs)
     returns-3)

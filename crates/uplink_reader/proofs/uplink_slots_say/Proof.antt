@@ -7,12 +7,6 @@ use borrow.Author.Needs.{needs}
 use Rattle.uplink_reader.proofs.uplink_slots_say.Statement.{statement}
 use Rattle.uplink_reader.proofs.uplink_slots_say.Tie as tie
 
-first-bad-group-requires : tie.Need-first-bad-group-requires
-first-bad-group-requires c κs = search needs
-
-mul-if1 : tie.Need-mul-if1
-mul-if1 c = search needs
-
 returns : tie.Need-returns
 returns c =
     let s = c .before .before .before in
@@ -20,9 +14,6 @@ returns c =
     let g = c .before .first-bad-group in
     let count : a .count ≡ codeblockCount (a .slots .now) = let long = s .pre .long in omega arith in
     say-group (a .slots .now) (a .count) (g .result) count (g .ensures) (c .if1 .taken)
-
-first-bad-block-requires : tie.Need-first-bad-block-requires
-first-bad-block-requires c κs = search needs
 
 returns-2 : tie.Need-returns-2
 returns-2 c =
@@ -46,9 +37,9 @@ pub uplink-slots-say-spec : {M : Type 1} → statement M
 uplink-slots-say-spec =
     tie.close
     (tie.spec
-    first-bad-group-requires
-    mul-if1
+    (λ c κs. search needs)
+    (λ c. search needs)
     returns
-    first-bad-block-requires
+    (λ c κs. search needs)
     returns-2
     returns-3)

@@ -29,12 +29,6 @@ put-codeblock-requires c κs =
     let same = c .before .before .loop .inv .1 .long in
     (omega arith, omega arith, omega arith)
 
-add-i : tie.Need-add-i Inv-loop μ-loop
-add-i c = search needs
-
-loop-less : tie.Need-loop-less Inv-loop μ-loop
-loop-less c = search needs
-
 loop-again : tie.Need-loop-again Inv-loop μ-loop
 loop-again c =
     let l = c .before .before .before .before .before .loop in
@@ -63,8 +57,8 @@ codeblocks-spec =
     μ-loop
     loop-holds
     put-codeblock-requires
-    add-i
-    loop-less
+    (λ c. search needs)
+    (λ c. search needs)
     loop-again
     same-length
     returns)

@@ -7,24 +7,6 @@ use borrow.Author.Needs.{needs}
 use Rattle.uplink_writer.proofs.pair.Statement.{statement}
 use Rattle.uplink_writer.proofs.pair.Tie as tie
 
-mul-first : tie.Need-mul-first
-mul-first c = search needs
-
-sub-first : tie.Need-sub-first
-sub-first c = search needs
-
-shr-first : tie.Need-shr-first
-shr-first c = search needs
-
-mul-second : tie.Need-mul-second
-mul-second c = search needs
-
-sub-second : tie.Need-sub-second
-sub-second c = search needs
-
-shr-second : tie.Need-shr-second
-shr-second c = search needs
-
 cast-result : tie.Need-cast-result
 cast-result c = omega (arith, mask-lt (c .args .v / 2 ^ (63 - 2 * c .args .q)) 1)
 
@@ -44,12 +26,12 @@ pub pair-spec : {M : Type 1} → statement M
 pair-spec =
     tie.close
     (tie.spec
-    mul-first
-    sub-first
-    shr-first
-    mul-second
-    sub-second
-    shr-second
+    (λ c. search needs)
+    (λ c. search needs)
+    (λ c. search needs)
+    (λ c. search needs)
+    (λ c. search needs)
+    (λ c. search needs)
     cast-result
     shr-result
     cast-result-2

@@ -7,9 +7,6 @@ use borrow.Author.Needs.{needs}
 use Rattle.uplink_writer.proofs.write.Statement.{statement}
 use Rattle.uplink_writer.proofs.write.Tie as tie
 
-uplink-lengths-right-requires : tie.Need-uplink-lengths-right-requires
-uplink-lengths-right-requires c κs = search needs
-
 returns : tie.Need-returns
 returns c =
     let a = c .before .before .before .before .args in
@@ -24,9 +21,6 @@ codeblocks-requires c κs =
     let m = length (a .slots .now) in
     (framed (a .frames .now) m (t .result) (t .ensures) yes, slots-framed (a .frames .now) m (t .result) (t .ensures) (a .slots .now) refl yes)
 
-same-length : tie.Need-same-length
-same-length c = search needs
-
 returns-2 : tie.Need-returns-2
 returns-2 c =
     let a = c .before .before .before .before .before .before .before .before .args in
@@ -38,4 +32,4 @@ returns-2 c =
 
 pub write-spec : {M : Type 1} → statement M
 write-spec =
-    tie.close (tie.spec uplink-lengths-right-requires returns codeblocks-requires same-length returns-2)
+    tie.close (tie.spec (λ c κs. search needs) returns codeblocks-requires (λ c. search needs) returns-2)

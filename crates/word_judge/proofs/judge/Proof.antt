@@ -25,12 +25,6 @@ x s = decode (s .args .rate) (y s)
 size : (s : tie.Start) (input : List ℕ) → length input ≡ length (s .args .input .now) → 8 * length input ≡ inputBits (s .args .rate)
 size s input e = ap (λ (n : ℕ). 8 * n) e ∙ s .pre .input-size
 
-read-requires : tie.Need-read-requires
-read-requires c κs = search needs
-
-same-length : tie.Need-same-length
-same-length c = search needs
-
 returns : tie.Need-returns
 unfolding y x
 returns c =
@@ -45,9 +39,6 @@ end-of-requires c κs =
     let r = c .before .before .before .before .read in
     omega (arith, size s (r .last .1 .1 .0) (r .kept .1 .1 .0), info-ge (s .args .rate))
 
-same-length-2 : tie.Need-same-length-2
-same-length-2 c = search needs
-
 returns-2 : tie.Need-returns-2
 unfolding y x
 returns-2 c =
@@ -59,21 +50,12 @@ returns-2 c =
       r .ensures .1,
     )
 
-info-bits-requires : tie.Need-info-bits-requires
-info-bits-requires c κs = search needs
-
 check-requires : tie.Need-check-requires
 unfolding inputBits
 check-requires c κs =
     let s = c .before .before .before .before .before .before .before .before .before .before .before .before in
     let r = c .before .before .before .before .before .before .before .before .read in
     omega (arith, size s (r .last .1 .1 .0) (r .kept .1 .1 .0), c .info-bits .ensures)
-
-cast-check : tie.Need-cast-check
-cast-check c = search needs
-
-same-length-3 : tie.Need-same-length-3
-same-length-3 c = search needs
 
 returns-3 : tie.Need-returns-3
 unfolding y x
@@ -85,9 +67,6 @@ returns-3 c =
           _ (c .before .before .before .before .before .end-of .ensures) (omega arith) _ _ (c .before .before .info-bits .ensures) (c .before .check .ensures) (λ e. omega arith),
       r .ensures .1,
     )
-
-same-length-4 : tie.Need-same-length-4
-same-length-4 c = search needs
 
 returns-4 : tie.Need-returns-4
 unfolding y x
@@ -104,16 +83,16 @@ pub judge-spec : {M : Type 1} → statement M
 judge-spec =
     tie.close
     (tie.spec
-    read-requires
-    same-length
+    (λ c κs. search needs)
+    (λ c. search needs)
     returns
     end-of-requires
-    same-length-2
+    (λ c. search needs)
     returns-2
-    info-bits-requires
+    (λ c κs. search needs)
     check-requires
-    cast-check
-    same-length-3
+    (λ c. search needs)
+    (λ c. search needs)
     returns-3
-    same-length-4
+    (λ c. search needs)
     returns-4)

@@ -15,21 +15,6 @@ use borrow.Author.Needs.{needs}
 use Rattle.word_reader.proofs.decode.Statement.{statement}
 use Rattle.word_reader.proofs.decode.Tie as tie
 
-slice-aggregate-take-out : tie.Need-slice-aggregate-take-out
-slice-aggregate-take-out c = search needs
-
-slice-aggregate-take-out-2 : tie.Need-slice-aggregate-take-out-2
-slice-aggregate-take-out-2 c = search needs
-
-take-out-requires : tie.Need-take-out-requires
-take-out-requires c κs = search needs
-
-add-n : tie.Need-add-n
-add-n c = search needs
-
-slice-aggregate-read-coded : tie.Need-slice-aggregate-read-coded
-slice-aggregate-read-coded c = search needs
-
 array-borrow-prefix-room : tie.Need-array-borrow-prefix-room
 array-borrow-prefix-room c =
     let s = c .before .before .before .before .before .before .before .before in
@@ -55,9 +40,6 @@ read-coded-requires c κs =
       block-is = s .pre .block-is;
     }
 
-same-length : tie.Need-same-length
-same-length c = search needs
-
 returns : tie.Need-returns
 returns c =
     let s = c .before .before .before .before .before .before .before .before .before .before .before .before .before .before in
@@ -71,13 +53,13 @@ pub decode-spec : {M : Type 1} → statement M
 decode-spec =
     tie.close
     (tie.spec
-    slice-aggregate-take-out
-    slice-aggregate-take-out-2
-    take-out-requires
-    add-n
-    slice-aggregate-read-coded
+    (λ c. search needs)
+    (λ c. search needs)
+    (λ c κs. search needs)
+    (λ c. search needs)
+    (λ c. search needs)
     array-borrow-prefix-room
     slice-aggregate-read-coded-2
     read-coded-requires
-    same-length
+    (λ c. search needs)
     returns)

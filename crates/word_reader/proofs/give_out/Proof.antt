@@ -17,12 +17,6 @@ copy-part-requires c κs =
     let b = s .pre .block-is in
     (omega arith, omega arith)
 
-randomize-requires : tie.Need-randomize-requires
-randomize-requires c κs = search needs
-
-info-bits-requires : tie.Need-info-bits-requires
-info-bits-requires c κs = search needs
-
 clear-spare-requires : tie.Need-clear-spare-requires
 clear-spare-requires c κs =
     let s = c .before .before .before .before .before .before .before .before .before .before .before .before in
@@ -30,9 +24,6 @@ clear-spare-requires c κs =
     let k = c .info-bits .ensures in
     let size = block-size (s .args .rate) (s .pre .rate-is) in
     (omega arith, omega arith)
-
-same-length : tie.Need-same-length
-same-length c = search needs
 
 returns : tie.Need-returns
 returns c =
@@ -49,8 +40,8 @@ give-out-spec =
     tie.close
     (tie.spec
     copy-part-requires
-    randomize-requires
-    info-bits-requires
+    (λ c κs. search needs)
+    (λ c κs. search needs)
     clear-spare-requires
-    same-length
+    (λ c. search needs)
     returns)

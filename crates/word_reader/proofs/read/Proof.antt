@@ -19,20 +19,11 @@ returns-2 c =
     let e = read-word-length (s .args .rate) (s .args .word .now) (length (s .args .block .now)) (omega arith) (c .if2 .taken) in
     (sym e, refl)
 
-block-bytes-requires : tie.Need-block-bytes-requires
-block-bytes-requires c κs = search needs
-
 returns-3 : tie.Need-returns-3
 returns-3 c =
     let s = c .before .before .before .before .before .before in
     let e = read-block-length (s .args .rate) (s .args .word .now) (length (s .args .block .now)) (omega arith) (omega arith) (λ q. c .if3 .taken (q ∙ sym (c .before .block-bytes .ensures))) in
     (sym e, refl)
-
-decode-requires : tie.Need-decode-requires
-decode-requires c κs = search needs
-
-same-length : tie.Need-same-length
-same-length c = search needs
 
 returns-4 : tie.Need-returns-4
 returns-4 c =
@@ -49,8 +40,8 @@ read-spec =
     (tie.spec
     returns
     returns-2
-    block-bytes-requires
+    (λ c κs. search needs)
     returns-3
-    decode-requires
-    same-length
+    (λ c κs. search needs)
+    (λ c. search needs)
     returns-4)

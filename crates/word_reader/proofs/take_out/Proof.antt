@@ -4,18 +4,6 @@ use borrow.Author.Needs.{needs}
 use Rattle.word_reader.proofs.take_out.Statement.{statement}
 use Rattle.word_reader.proofs.take_out.Tie as tie
 
-differentiate-requires : tie.Need-differentiate-requires
-differentiate-requires c κs = search needs
-
-deinterleave-requires : tie.Need-deinterleave-requires
-deinterleave-requires c κs = search needs
-
-same-length : tie.Need-same-length
-same-length c = search needs
-
-same-length-2 : tie.Need-same-length-2
-same-length-2 c = search needs
-
 returns : tie.Need-returns
 returns c =
     let w1 = c .before .before .before .before .before .before .before .differentiate in
@@ -24,4 +12,4 @@ returns c =
     coded-made (s .args .word .now) (w1 .last .1 .0) (w2 .last .1 .0) (s .pre .word-is) (w1 .ensures) (w2 .ensures)
 
 pub take-out-spec : {M : Type 1} → statement M
-take-out-spec = tie.close (tie.spec differentiate-requires deinterleave-requires same-length same-length-2 returns)
+take-out-spec = tie.close (tie.spec (λ c κs. search needs) (λ c κs. search needs) (λ c. search needs) (λ c. search needs) returns)

@@ -7,9 +7,6 @@ use borrow.Author.Needs.{needs}
 use Rattle.word_writer.proofs.add_check.Statement.{statement}
 use Rattle.word_writer.proofs.add_check.Tie as tie
 
-info-bits-requires : tie.Need-info-bits-requires
-info-bits-requires c κs = search needs
-
 check-requires : tie.Need-check-requires
 unfolding inputBits
 check-requires c κs = let s = c .before .before .before in omega (arith, s .pre .input-is, c .info-bits .ensures)
@@ -17,9 +14,6 @@ check-requires c κs = let s = c .before .before .before in omega (arith, s .pre
 put-end-requires : tie.Need-put-end-requires
 unfolding inputBits
 put-end-requires c κs = let s = c .before .before .before .before .before in omega (arith, s .pre .input-is, info-ge (s .args .rate))
-
-same-length : tie.Need-same-length
-same-length c = search needs
 
 returns : tie.Need-returns
 returns c =
@@ -29,4 +23,4 @@ returns c =
 
 pub add-check-spec : {M : Type 1} → statement M
 add-check-spec =
-    tie.close (tie.spec info-bits-requires check-requires put-end-requires same-length returns)
+    tie.close (tie.spec (λ c κs. search needs) check-requires put-end-requires (λ c. search needs) returns)

@@ -12,9 +12,6 @@ use borrow.Author.Needs.{needs}
 use Rattle.word_writer.proofs.code.Statement.{statement}
 use Rattle.word_writer.proofs.code.Tie as tie
 
-add-n : tie.Need-add-n
-add-n c = search needs
-
 array-borrow-prefix-room : tie.Need-array-borrow-prefix-room
 array-borrow-prefix-room c =
     let s = c .before .before in
@@ -24,9 +21,6 @@ slice-aggregate-encode : tie.Need-slice-aggregate-encode
 slice-aggregate-encode c =
     let s = c .before .before .before in
     sym (length-take-le _ _ (input-fits (s .args .rate) _ (s .pre .rate-is) (s .pre .block-is)))
-
-slice-aggregate-encode-2 : tie.Need-slice-aggregate-encode-2
-slice-aggregate-encode-2 c = search needs
 
 encode-requires : tie.Need-encode-requires
 encode-requires c κs =
@@ -41,9 +35,6 @@ encode-requires c κs =
       coded-is = refl;
     }
 
-slice-aggregate-shuffle : tie.Need-slice-aggregate-shuffle
-slice-aggregate-shuffle c = search needs
-
 shuffle-requires : tie.Need-shuffle-requires
 shuffle-requires c κs =
     let s = c .before .before .before .before .before .before .before .before .before in
@@ -56,9 +47,6 @@ shuffle-requires c κs =
       word-is = s .pre .word-is;
     }
 
-same-length : tie.Need-same-length
-same-length c = search needs
-
 returns : tie.Need-returns
 returns c =
     let s = c .before .before .before .before .before .before .before .before .before .before .before .before in
@@ -69,12 +57,12 @@ pub code-spec : {M : Type 1} → statement M
 code-spec =
     tie.close
     (tie.spec
-    add-n
+    (λ c. search needs)
     array-borrow-prefix-room
     slice-aggregate-encode
-    slice-aggregate-encode-2
+    (λ c. search needs)
     encode-requires
-    slice-aggregate-shuffle
+    (λ c. search needs)
     shuffle-requires
-    same-length
+    (λ c. search needs)
     returns)

@@ -5,15 +5,6 @@ use borrow.Author.Needs.{needs}
 use Rattle.word_writer.proofs.shuffle.Statement.{statement}
 use Rattle.word_writer.proofs.shuffle.Tie as tie
 
-interleave-requires : tie.Need-interleave-requires
-interleave-requires c κs = search needs
-
-accumulate-requires : tie.Need-accumulate-requires
-accumulate-requires c κs = search needs
-
-same-length : tie.Need-same-length
-same-length c = search needs
-
 returns : tie.Need-returns
 returns c =
     let s = c .before .before .before .before .before .before .before .before .before .before in
@@ -24,4 +15,4 @@ returns c =
 pub shuffle-spec : {M : Type 1} → statement M
 shuffle-spec =
     tie.close
-    (tie.spec interleave-requires accumulate-requires same-length returns)
+    (tie.spec (λ c κs. search needs) (λ c κs. search needs) (λ c. search needs) returns)

@@ -14,15 +14,6 @@ copy-requires c κs =
     let s = c .before .before .before in
     omega (arith, s .pre .block-is, s .pre .input-is, block-size (s .args .rate) (s .pre .rate-is))
 
-randomize-requires : tie.Need-randomize-requires
-randomize-requires c κs = search needs
-
-add-check-requires : tie.Need-add-check-requires
-add-check-requires c κs = search needs
-
-same-length : tie.Need-same-length
-same-length c = search needs
-
 returns : tie.Need-returns
 returns c =
     let s = c .before .before .before .before .before .before .before .before .before .before .before .before .before .before in
@@ -35,4 +26,4 @@ returns c =
 pub take-in-spec : {M : Type 1} → statement M
 take-in-spec =
     tie.close
-    (tie.spec copy-requires randomize-requires add-check-requires same-length returns)
+    (tie.spec copy-requires (λ c κs. search needs) (λ c κs. search needs) (λ c. search needs) returns)

@@ -10,15 +10,6 @@ use borrow.Author.Needs.{needs}
 use Rattle.word_writer.proofs.write.Statement.{statement}
 use Rattle.word_writer.proofs.write.Tie as tie
 
-write-says-requires : tie.Need-write-says-requires
-write-says-requires c κs = search needs
-
-enum-told : tie.Need-enum-told
-enum-told c = search needs
-
-enum-told-2 : tie.Need-enum-told-2
-enum-told-2 c = search needs
-
 returns : tie.Need-returns
 returns c =
     let s = c .before .before .before .before .before in
@@ -33,9 +24,6 @@ code-requires c κs =
     let j = c .before .before .before .write-says in
     write-accepted (s .args .rate) (s .args .block .now) (length (s .args .word .now)) (sym (j .ensures) ∙ c .before .enum-told .given .1)
 
-same-length : tie.Need-same-length
-same-length c = search needs
-
 returns-2 : tie.Need-returns-2
 returns-2 c =
     let s = c .before .before .before .before .before .before .before .before .before in
@@ -48,4 +36,4 @@ returns-2 c =
 
 pub write-spec : {M : Type 1} → statement M
 write-spec =
-    tie.close (tie.spec write-says-requires enum-told enum-told-2 returns code-requires same-length returns-2)
+    tie.close (tie.spec (λ c κs. search needs) (λ c. search needs) (λ c. search needs) returns code-requires (λ c. search needs) returns-2)

@@ -11,9 +11,6 @@ returns c =
     let a = c .before .before .args in
     sym (Answers.write-rate (a .rate) (a .block .now) (a .word-length) (c .if1 .taken))
 
-block-bytes-requires : tie.Need-block-bytes-requires
-block-bytes-requires c κs = search needs
-
 returns-2 : tie.Need-returns-2
 returns-2 c =
     let a = c .before .before .before .before .args in
@@ -34,7 +31,7 @@ write-says-spec =
     tie.close
     (tie.spec
     returns
-    block-bytes-requires
+    (λ c κs. search needs)
     returns-2
     returns-3
     returns-4)

@@ -7,30 +7,6 @@ use Rattle.bits.proofs.Changing.{ends-whole, ends-cut}
 use Rattle.bits.proofs.change.clear_spare.Statement.{statement}
 use Rattle.bits.proofs.change.clear_spare.Tie as tie
 
-sub-spare : tie.Need-sub-spare
-sub-spare c = search needs
-
-slice-read-packed : tie.Need-slice-read-packed
-slice-read-packed c = search needs
-
-cast-packed : tie.Need-cast-packed
-cast-packed c = search needs
-
-shr-packed : tie.Need-shr-packed
-shr-packed c = search needs
-
-cast-packed-2 : tie.Need-cast-packed-2
-cast-packed-2 c = search needs
-
-shl-packed : tie.Need-shl-packed
-shl-packed c = search needs
-
-slice-write-packed : tie.Need-slice-write-packed
-slice-write-packed c = search needs
-
-same-length : tie.Need-same-length
-same-length c = search needs
-
 returns : tie.Need-returns
 returns c =
     let s = c .before .before in
@@ -45,13 +21,13 @@ pub clear-spare-spec : {M : Type 1} → statement M
 clear-spare-spec =
     tie.close
     (tie.spec
-    sub-spare
-    slice-read-packed
-    cast-packed
-    shr-packed
-    cast-packed-2
-    shl-packed
-    slice-write-packed
-    same-length
+    (λ c. search needs)
+    (λ c. search needs)
+    (λ c. search needs)
+    (λ c. search needs)
+    (λ c. search needs)
+    (λ c. search needs)
+    (λ c. search needs)
+    (λ c. search needs)
     returns
     returns-2)

@@ -10,20 +10,8 @@ use Rattle.bits.proofs.Changing.{one-byte}
 use Rattle.bits.proofs.change.flip.Statement.{statement}
 use Rattle.bits.proofs.change.flip.Tie as tie
 
-slice-read-packed : tie.Need-slice-read-packed
-slice-read-packed c = search needs
-
-shr-packed : tie.Need-shr-packed
-shr-packed c = search needs
-
 cast-packed : tie.Need-cast-packed
 cast-packed c = omega (arith, mask-lt (128 / 2 ^ (c .before .args .x % 8)) 8)
-
-slice-write-packed : tie.Need-slice-write-packed
-slice-write-packed c = search needs
-
-same-length : tie.Need-same-length
-same-length c = search needs
 
 returns : tie.Need-returns
 unfolding flipBit
@@ -35,4 +23,4 @@ returns c =
 pub flip-spec : {M : Type 1} → statement M
 flip-spec =
     tie.close
-    (tie.spec slice-read-packed shr-packed cast-packed slice-write-packed same-length returns)
+    (tie.spec (λ c. search needs) (λ c. search needs) cast-packed (λ c. search needs) (λ c. search needs) returns)

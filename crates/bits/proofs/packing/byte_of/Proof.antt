@@ -9,15 +9,6 @@ use borrow.Author.Needs.{needs}
 use Rattle.bits.proofs.packing.byte_of.Statement.{statement}
 use Rattle.bits.proofs.packing.byte_of.Tie as tie
 
-mul-at : tie.Need-mul-at
-mul-at c = search needs
-
-add-if1 : tie.Need-add-if1
-add-if1 c = search needs
-
-number-requires : tie.Need-number-requires
-number-requires c κs = search needs
-
 cast-result : tie.Need-cast-result
 cast-result c = omega (arith, mask-lt (c .number .result) 8)
 
@@ -26,9 +17,6 @@ returns c =
     let a = c .before .before .before .args in
     ap (λ (v : ℕ). bitAnd v 255) (c .number .ensures)
     ∙ byte-mask (λ t. getD (a .bits .now) (8 * a .i + t) 0) (λ t. c .before .before .before .pre .1 (8 * a .i + t))
-
-last-byte-requires : tie.Need-last-byte-requires
-last-byte-requires c κs = search needs
 
 cast-result-2 : tie.Need-cast-result-2
 cast-result-2 c = omega (arith, mask-lt (c .last-byte .result) 8)
@@ -43,11 +31,11 @@ pub byte-of-spec : {M : Type 1} → statement M
 byte-of-spec =
     tie.close
     (tie.spec
-    mul-at
-    add-if1
-    number-requires
+    (λ c. search needs)
+    (λ c. search needs)
+    (λ c κs. search needs)
     cast-result
     returns
-    last-byte-requires
+    (λ c κs. search needs)
     cast-result-2
     returns-2)

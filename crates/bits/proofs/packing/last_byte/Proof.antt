@@ -20,18 +20,6 @@ loop-holds : tie.Need-loop-holds Inv-loop μ-loop
 unfolding val
 loop-holds c = (search needs, refl)
 
-add-bit-or-zero : tie.Need-add-bit-or-zero Inv-loop μ-loop
-add-bit-or-zero c = search needs
-
-bit-or-zero-requires : tie.Need-bit-or-zero-requires Inv-loop μ-loop
-bit-or-zero-requires c κs = search needs
-
-add-t : tie.Need-add-t Inv-loop μ-loop
-add-t c = search needs
-
-loop-less : tie.Need-loop-less Inv-loop μ-loop
-loop-less c = search needs
-
 loop-again : tie.Need-loop-again Inv-loop μ-loop
 loop-again c =
     let a = c .before .before .before .before .args in
@@ -56,9 +44,9 @@ last-byte-spec =
     Inv-loop
     μ-loop
     loop-holds
-    add-bit-or-zero
-    bit-or-zero-requires
-    add-t
-    loop-less
+    (λ c. search needs)
+    (λ c κs. search needs)
+    (λ c. search needs)
+    (λ c. search needs)
     loop-again
     returns)

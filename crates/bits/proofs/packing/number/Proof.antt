@@ -21,20 +21,8 @@ loop-holds : tie.Need-loop-holds Inv-loop μ-loop
 unfolding val
 loop-holds c = (search needs, refl)
 
-add-v : tie.Need-add-v Inv-loop μ-loop
-add-v c = search needs
-
-shared-slice-read-v : tie.Need-shared-slice-read-v Inv-loop μ-loop
-shared-slice-read-v c = search needs
-
 cast-v : tie.Need-cast-v Inv-loop μ-loop
 cast-v c = omega (arith, c .shared-slice-known .given (c .before .before .before .args .at + c .before .before .loop .t))
-
-add-t : tie.Need-add-t Inv-loop μ-loop
-add-t c = search needs
-
-loop-less : tie.Need-loop-less Inv-loop μ-loop
-loop-less c = search needs
 
 loop-again : tie.Need-loop-again Inv-loop μ-loop
 loop-again c =
@@ -60,10 +48,10 @@ number-spec =
     Inv-loop
     μ-loop
     loop-holds
-    add-v
-    shared-slice-read-v
+    (λ c. search needs)
+    (λ c. search needs)
     cast-v
-    add-t
-    loop-less
+    (λ c. search needs)
+    (λ c. search needs)
     loop-again
     returns)

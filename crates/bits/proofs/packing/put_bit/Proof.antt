@@ -5,21 +5,6 @@ use Rattle.bits.specs.Inner.{withBit}
 use Rattle.bits.proofs.packing.put_bit.Statement.{statement}
 use Rattle.bits.proofs.packing.put_bit.Tie as tie
 
-slice-read-packed : tie.Need-slice-read-packed
-slice-read-packed c = search needs
-
-cast-packed : tie.Need-cast-packed
-cast-packed c = search needs
-
-shr-packed : tie.Need-shr-packed
-shr-packed c = search needs
-
-slice-write-packed : tie.Need-slice-write-packed
-slice-write-packed c = search needs
-
-same-length : tie.Need-same-length
-same-length c = search needs
-
 returns : tie.Need-returns
 unfolding withBit
 returns c = refl
@@ -27,4 +12,4 @@ returns c = refl
 pub put-bit-spec : {M : Type 1} → statement M
 put-bit-spec =
     tie.close
-    (tie.spec slice-read-packed cast-packed shr-packed slice-write-packed same-length returns)
+    (tie.spec (λ c. search needs) (λ c. search needs) (λ c. search needs) (λ c. search needs) (λ c. search needs) returns)

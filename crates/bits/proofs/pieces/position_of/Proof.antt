@@ -4,16 +4,10 @@ use borrow.Author.Needs.{needs}
 use Rattle.bits.proofs.pieces.position_of.Statement.{statement}
 use Rattle.bits.proofs.pieces.position_of.Tie as tie
 
-div-t3 : tie.Need-div-t3
-div-t3 c = search needs
-
-rem-t4 : tie.Need-rem-t4
-rem-t4 c = search needs
-
 returns : tie.Need-returns
 returns c =
     let a = c .args in
     record { place = div-add-mod' (a .x) (a .k); inside = mod-lt (a .x) (c .pre) }
 
 pub position-of-spec : {M : Type 1} → statement M
-position-of-spec = tie.close (tie.spec div-t3 rem-t4 returns)
+position-of-spec = tie.close (tie.spec (λ c. search needs) (λ c. search needs) returns)

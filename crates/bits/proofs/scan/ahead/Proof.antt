@@ -7,16 +7,10 @@ use Rattle.bits.proofs.Windows.{window-from}
 use Rattle.bits.proofs.scan.ahead.Statement.{statement}
 use Rattle.bits.proofs.scan.ahead.Tie as tie
 
-window-requires : tie.Need-window-requires
-window-requires c κs = search needs
-
-shl-result : tie.Need-shl-result
-shl-result c = search needs
-
 returns : tie.Need-returns
 returns c =
     let a = c .before .before .args in
     ap (λ (v : ℕ). v * 2 ^ (a .x % 8) % 2 ^ 64) (c .window .ensures) ∙ window-from (a .b .now) (length (a .b .now)) (a .x)
 
 pub ahead-spec : {M : Type 1} → statement M
-ahead-spec = tie.close (tie.spec window-requires shl-result returns)
+ahead-spec = tie.close (tie.spec (λ c κs. search needs) (λ c. search needs) returns)

@@ -28,12 +28,6 @@ ahead-requires c κs = let h = c .before .before .before .pre .room in omega ari
 leading-requires : tie.Need-leading-requires Inv-loop μ-loop
 leading-requires c κs = let n = c .if1 .taken in omega arith
 
-sub-least : tie.Need-sub-least Inv-loop μ-loop
-sub-least c = search needs
-
-least-requires : tie.Need-least-requires Inv-loop μ-loop
-least-requires c κs = search needs
-
 add-result : tie.Need-add-result Inv-loop μ-loop
 add-result c =
     let a = c .before .before .before .before .before .before .before .args in
@@ -55,12 +49,6 @@ returns c =
 
 reach-of-requires : tie.Need-reach-of-requires Inv-loop μ-loop
 reach-of-requires c κs = let h = c .before .before .before .before .before .pre .room in omega arith
-
-sub-least-2 : tie.Need-sub-least-2 Inv-loop μ-loop
-sub-least-2 c = search needs
-
-least-requires-2 : tie.Need-least-requires-2 Inv-loop μ-loop
-least-requires-2 c κs = search needs
 
 add-at : tie.Need-add-at Inv-loop μ-loop
 add-at c =
@@ -111,13 +99,13 @@ first-one-spec =
     loop-holds
     ahead-requires
     leading-requires
-    sub-least
-    least-requires
+    (λ c. search needs)
+    (λ c κs. search needs)
     add-result
     returns
     reach-of-requires
-    sub-least-2
-    least-requires-2
+    (λ c. search needs)
+    (λ c κs. search needs)
     add-at
     loop-less
     loop-again

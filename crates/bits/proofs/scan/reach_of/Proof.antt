@@ -9,15 +9,6 @@ use Rattle.bits.specs.Inner.{shown, reach}
 use Rattle.bits.proofs.scan.reach_of.Statement.{statement}
 use Rattle.bits.proofs.scan.reach_of.Tie as tie
 
-sub-if1 : tie.Need-sub-if1
-sub-if1 c = search needs
-
-sub-result : tie.Need-sub-result
-sub-result c = search needs
-
-sub-result-2 : tie.Need-sub-result-2
-sub-result-2 c = search needs
-
 returns : tie.Need-returns
 unfolding shown reach
 returns c =
@@ -31,4 +22,4 @@ returns-2 c =
     rw (lt-leb (a .x / 8 + 8) (length (a .b .now)) (omega arith)) refl
 
 pub reach-of-spec : {M : Type 1} → statement M
-reach-of-spec = tie.close (tie.spec sub-if1 sub-result sub-result-2 returns returns-2)
+reach-of-spec = tie.close (tie.spec (λ c. search needs) (λ c. search needs) (λ c. search needs) returns returns-2)

@@ -11,18 +11,6 @@ use Rattle.bits.proofs.Stretches.{eight-of}
 use Rattle.bits.proofs.stretch.byte_from.Statement.{statement}
 use Rattle.bits.proofs.stretch.byte_from.Tie as tie
 
-shared-slice-read-eight-of : tie.Need-shared-slice-read-eight-of
-shared-slice-read-eight-of c = search needs
-
-add-eight-of : tie.Need-add-eight-of
-add-eight-of c = search needs
-
-shared-slice-read-eight-of-2 : tie.Need-shared-slice-read-eight-of-2
-shared-slice-read-eight-of-2 c = search needs
-
-eight-of-requires : tie.Need-eight-of-requires
-eight-of-requires c κs = search needs
-
 returns : tie.Need-returns
 returns c =
     let a = c .before .before .before .before .args in
@@ -36,8 +24,8 @@ pub byte-from-spec : {M : Type 1} → statement M
 byte-from-spec =
     tie.close
     (tie.spec
-    shared-slice-read-eight-of
-    add-eight-of
-    shared-slice-read-eight-of-2
-    eight-of-requires
+    (λ c. search needs)
+    (λ c. search needs)
+    (λ c. search needs)
+    (λ c κs. search needs)
     returns)

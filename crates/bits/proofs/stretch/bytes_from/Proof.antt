@@ -19,35 +19,8 @@ abbrev μ-loop : tie.MeasureT-loop
 loop-holds : tie.Need-loop-holds Inv-loop μ-loop
 loop-holds c = (search needs, laid-none _ _ _)
 
-add-eight-of : tie.Need-add-eight-of Inv-loop μ-loop
-add-eight-of c = search needs
-
-shared-slice-read-eight-of : tie.Need-shared-slice-read-eight-of Inv-loop μ-loop
-shared-slice-read-eight-of c = search needs
-
-add-eight-of-2 : tie.Need-add-eight-of-2 Inv-loop μ-loop
-add-eight-of-2 c = search needs
-
-add-eight-of-3 : tie.Need-add-eight-of-3 Inv-loop μ-loop
-add-eight-of-3 c = search needs
-
-shared-slice-read-eight-of-2 : tie.Need-shared-slice-read-eight-of-2 Inv-loop μ-loop
-shared-slice-read-eight-of-2 c = search needs
-
-eight-of-requires : tie.Need-eight-of-requires Inv-loop μ-loop
-eight-of-requires c κs = search needs
-
-add-out : tie.Need-add-out Inv-loop μ-loop
-add-out c = search needs
-
 slice-write-out : tie.Need-slice-write-out Inv-loop μ-loop
 slice-write-out c = let e = c .before .before .before .before .loop .inv .1 .long in omega arith
-
-add-t : tie.Need-add-t Inv-loop μ-loop
-add-t c = search needs
-
-loop-less : tie.Need-loop-less Inv-loop μ-loop
-loop-less c = search needs
 
 loop-again : tie.Need-loop-again Inv-loop μ-loop
 loop-again c =
@@ -78,16 +51,16 @@ bytes-from-spec =
     Inv-loop
     μ-loop
     loop-holds
-    add-eight-of
-    shared-slice-read-eight-of
-    add-eight-of-2
-    add-eight-of-3
-    shared-slice-read-eight-of-2
-    eight-of-requires
-    add-out
+    (λ c. search needs)
+    (λ c. search needs)
+    (λ c. search needs)
+    (λ c. search needs)
+    (λ c. search needs)
+    (λ c κs. search needs)
+    (λ c. search needs)
     slice-write-out
-    add-t
-    loop-less
+    (λ c. search needs)
+    (λ c. search needs)
     loop-again
     same-length
     returns)

@@ -7,15 +7,6 @@ use borrow.Author.Needs.{needs}
 use Rattle.bits.proofs.stretch.eight_of.Statement.{statement}
 use Rattle.bits.proofs.stretch.eight_of.Tie as tie
 
-sub-result : tie.Need-sub-result
-sub-result c = search needs
-
-cast-result : tie.Need-cast-result
-cast-result c = search needs
-
-shr-result : tie.Need-shr-result
-shr-result c = search needs
-
 cast-result-2 : tie.Need-cast-result-2
 cast-result-2 c =
     let a = c .args in
@@ -30,4 +21,4 @@ returns c =
     ∙ and-mask ((a .hi * 256 + a .lo) / 2 ^ (8 - a .r)) 8
 
 pub eight-of-spec : {M : Type 1} → statement M
-eight-of-spec = tie.close (tie.spec sub-result cast-result shr-result cast-result-2 returns)
+eight-of-spec = tie.close (tie.spec (λ c. search needs) (λ c. search needs) (λ c. search needs) cast-result-2 returns)

@@ -11,12 +11,6 @@ use Rattle.convolution.proofs.Ending.{end-value}
 use Rattle.convolution.proofs.ends.end_of.Statement.{statement}
 use Rattle.convolution.proofs.ends.end_of.Tie as tie
 
-sub-eight : tie.Need-sub-eight
-sub-eight c = search needs
-
-eight-requires : tie.Need-eight-requires
-eight-requires c κs = search needs
-
 returns : tie.Need-returns
 returns c =
     let xs = c .before .before .args .input .now in
@@ -26,4 +20,4 @@ returns c =
     ∙ val-same (λ t. bitAt xs (at + (30 + t))) (λ t. bitAt xs (at + 30 + t)) 34 (λ t l. ap (bitAt xs) (omega arith))
 
 pub end-of-spec : {M : Type 1} → statement M
-end-of-spec = tie.close (tie.spec sub-eight eight-requires returns)
+end-of-spec = tie.close (tie.spec (λ c. search needs) (λ c κs. search needs) returns)

@@ -7,18 +7,6 @@ use Rattle.convolution.proofs.Ending.{end-put}
 use Rattle.convolution.proofs.ends.put_end.Statement.{statement}
 use Rattle.convolution.proofs.ends.put_end.Tie as tie
 
-sub-at : tie.Need-sub-at
-sub-at c = search needs
-
-eight-requires : tie.Need-eight-requires
-eight-requires c κs = search needs
-
-put-eight-requires : tie.Need-put-eight-requires
-put-eight-requires c κs = search needs
-
-same-length : tie.Need-same-length
-same-length c = search needs
-
 returns : tie.Need-returns
 returns c =
     let s = c .before .before .before .before .before .before .before in
@@ -28,4 +16,4 @@ returns c =
     end-put (s .args .input .now) (p .last .0) (s .args .check) at (omega arith) (omega (arith, s .pre)) (rw (e .ensures) at (p .ensures))
 
 pub put-end-spec : {M : Type 1} → statement M
-put-end-spec = tie.close (tie.spec sub-at eight-requires put-eight-requires same-length returns)
+put-end-spec = tie.close (tie.spec (λ c. search needs) (λ c κs. search needs) (λ c κs. search needs) (λ c. search needs) returns)

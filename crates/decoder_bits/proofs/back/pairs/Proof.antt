@@ -20,44 +20,8 @@ abbrev μ-loop : tie.MeasureT-loop
 loop-holds : tie.Need-loop-holds Inv-loop μ-loop
 loop-holds c = (search needs, (filled-none _ 10080 _ (c .pre .input-size), carried-none _))
 
-mul-older : tie.Need-mul-older Inv-loop μ-loop
-mul-older c = search needs
-
-add-older : tie.Need-add-older Inv-loop μ-loop
-add-older c = search needs
-
-shared-slice-read-older : tie.Need-shared-slice-read-older Inv-loop μ-loop
-shared-slice-read-older c = search needs
-
-mul-input : tie.Need-mul-input Inv-loop μ-loop
-mul-input c = search needs
-
-slice-write-input : tie.Need-slice-write-input Inv-loop μ-loop
-slice-write-input c = search needs
-
-mul-newer : tie.Need-mul-newer Inv-loop μ-loop
-mul-newer c = search needs
-
-add-newer : tie.Need-add-newer Inv-loop μ-loop
-add-newer c = search needs
-
-shared-slice-read-newer : tie.Need-shared-slice-read-newer Inv-loop μ-loop
-shared-slice-read-newer c = search needs
-
-mul-input-2 : tie.Need-mul-input-2 Inv-loop μ-loop
-mul-input-2 c = search needs
-
-add-input : tie.Need-add-input Inv-loop μ-loop
-add-input c = search needs
-
 slice-write-input-2 : tie.Need-slice-write-input-2 Inv-loop μ-loop
 slice-write-input-2 c = simp length-set (omega arith)
-
-add-q : tie.Need-add-q Inv-loop μ-loop
-add-q c = search needs
-
-loop-less : tie.Need-loop-less Inv-loop μ-loop
-loop-less c = search needs
 
 loop-again : tie.Need-loop-again Inv-loop μ-loop
 loop-again c =
@@ -82,19 +46,19 @@ pairs-spec =
     Inv-loop
     μ-loop
     loop-holds
-    mul-older
-    add-older
-    shared-slice-read-older
-    mul-input
-    slice-write-input
-    mul-newer
-    add-newer
-    shared-slice-read-newer
-    mul-input-2
-    add-input
+    (λ c. search needs)
+    (λ c. search needs)
+    (λ c. search needs)
+    (λ c. search needs)
+    (λ c. search needs)
+    (λ c. search needs)
+    (λ c. search needs)
+    (λ c. search needs)
+    (λ c. search needs)
+    (λ c. search needs)
     slice-write-input-2
-    add-q
-    loop-less
+    (λ c. search needs)
+    (λ c. search needs)
     loop-again
     same-length
     returns)

@@ -17,26 +17,11 @@ abbrev μ-loop : tie.MeasureT-loop
 loop-holds : tie.Need-loop-holds Inv-loop μ-loop
 loop-holds c = (search needs, cleared-none _ _ _ _ _ _ refl)
 
-mul-join : tie.Need-mul-join Inv-loop μ-loop
-mul-join c = search needs
-
-slice-aggregate-join : tie.Need-slice-aggregate-join Inv-loop μ-loop
-slice-aggregate-join c = search needs
-
 join-requires : tie.Need-join-requires Inv-loop μ-loop
 join-requires c κs = (c .before .before .before .before .before .before .pre .0, omega (arith, c .before .before .loop .inv .1 .size))
 
-add-u : tie.Need-add-u Inv-loop μ-loop
-add-u c = search needs
-
-loop-less : tie.Need-loop-less Inv-loop μ-loop
-loop-less c = search needs
-
 loop-again : tie.Need-loop-again Inv-loop μ-loop
 loop-again c = (search needs, cleared-more _ _ _ _ _ _ _ _ (c .before .join .ensures) (c .before .before .before .before .loop .inv .1))
-
-slice-aggregate-every : tie.Need-slice-aggregate-every Inv-loop μ-loop
-slice-aggregate-every c = search needs
 
 every-requires : tie.Need-every-requires Inv-loop μ-loop
 every-requires c κs =
@@ -58,12 +43,12 @@ apart-spec =
     Inv-loop
     μ-loop
     loop-holds
-    mul-join
-    slice-aggregate-join
+    (λ c. search needs)
+    (λ c. search needs)
     join-requires
-    add-u
-    loop-less
+    (λ c. search needs)
+    (λ c. search needs)
     loop-again
-    slice-aggregate-every
+    (λ c. search needs)
     every-requires
     returns)

@@ -31,12 +31,6 @@ shared-slice-read-all c =
     let s = c .before .before .before in
     omega (arith, inside s (c .before .before .loop .m) (omega arith), s .pre .0)
 
-add-m : tie.Need-add-m Inv-loop μ-loop
-add-m c = search needs
-
-loop-less : tie.Need-loop-less Inv-loop μ-loop
-loop-less c = search needs
-
 loop-again : tie.Need-loop-again Inv-loop μ-loop
 loop-again c =
     let l = c .before .before .loop in (
@@ -60,7 +54,7 @@ every-spec =
     loop-holds
     mul-all
     shared-slice-read-all
-    add-m
-    loop-less
+    (λ c. search needs)
+    (λ c. search needs)
     loop-again
     returns)

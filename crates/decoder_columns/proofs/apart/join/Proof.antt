@@ -20,38 +20,8 @@ loop-holds c = (search needs, joined-none _ _ _ _ _ _ _)
 slice-read-joined : tie.Need-slice-read-joined Inv-loop μ-loop
 slice-read-joined c = omega (arith, c .before .before .loop .inv .1 .long, c .before .before .before .pre .1 .1)
 
-add-joined : tie.Need-add-joined Inv-loop μ-loop
-add-joined c = search needs
-
 shared-slice-read-joined : tie.Need-shared-slice-read-joined Inv-loop μ-loop
 shared-slice-read-joined c = omega (arith, c .before .before .before .before .pre .0 .a-size, c .before .before .before .before .pre .1 .0)
-
-add-joined-2 : tie.Need-add-joined-2 Inv-loop μ-loop
-add-joined-2 c = search needs
-
-add-joined-3 : tie.Need-add-joined-3 Inv-loop μ-loop
-add-joined-3 c = search needs
-
-shared-slice-read-joined-2 : tie.Need-shared-slice-read-joined-2 Inv-loop μ-loop
-shared-slice-read-joined-2 c = search needs
-
-add-joined-4 : tie.Need-add-joined-4 Inv-loop μ-loop
-add-joined-4 c = search needs
-
-add-joined-5 : tie.Need-add-joined-5 Inv-loop μ-loop
-add-joined-5 c = search needs
-
-shared-slice-read-joined-3 : tie.Need-shared-slice-read-joined-3 Inv-loop μ-loop
-shared-slice-read-joined-3 c = search needs
-
-slice-write-joined : tie.Need-slice-write-joined Inv-loop μ-loop
-slice-write-joined c = search needs
-
-add-t : tie.Need-add-t Inv-loop μ-loop
-add-t c = search needs
-
-loop-less : tie.Need-loop-less Inv-loop μ-loop
-loop-less c = search needs
 
 loop-again : tie.Need-loop-again Inv-loop μ-loop
 loop-again c =
@@ -75,17 +45,17 @@ join-spec =
     μ-loop
     loop-holds
     slice-read-joined
-    add-joined
+    (λ c. search needs)
     shared-slice-read-joined
-    add-joined-2
-    add-joined-3
-    shared-slice-read-joined-2
-    add-joined-4
-    add-joined-5
-    shared-slice-read-joined-3
-    slice-write-joined
-    add-t
-    loop-less
+    (λ c. search needs)
+    (λ c. search needs)
+    (λ c. search needs)
+    (λ c. search needs)
+    (λ c. search needs)
+    (λ c. search needs)
+    (λ c. search needs)
+    (λ c. search needs)
+    (λ c. search needs)
     loop-again
     same-length
     returns)

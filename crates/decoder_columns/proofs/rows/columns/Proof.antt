@@ -5,15 +5,6 @@ use borrow.Author.Needs.{needs}
 use Rattle.decoder_columns.proofs.rows.columns.Statement.{statement}
 use Rattle.decoder_columns.proofs.rows.columns.Tie as tie
 
-within-requires : tie.Need-within-requires
-within-requires c κs = search needs
-
-follow-requires : tie.Need-follow-requires
-follow-requires c κs = search needs
-
-same-length : tie.Need-same-length
-same-length c = search needs
-
 returns : tie.Need-returns
 returns c =
     let s = c .before .before .before .before .before .before .before .before .before .before in
@@ -23,7 +14,7 @@ pub columns-spec : {M : Type 1} → statement M
 columns-spec =
     tie.close
     (tie.spec
-    within-requires
-    follow-requires
-    same-length
+    (λ c κs. search needs)
+    (λ c κs. search needs)
+    (λ c. search needs)
     returns)

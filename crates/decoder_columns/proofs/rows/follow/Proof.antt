@@ -21,17 +21,8 @@ loop-holds c = (search needs, put-none _ _ _)
 slice-read-v : tie.Need-slice-read-v Inv-loop μ-loop
 slice-read-v c = omega (arith, c .before .before .loop .inv .1 .long, c .before .before .before .pre)
 
-add-v : tie.Need-add-v Inv-loop μ-loop
-add-v c = search needs
-
 slice-write-v : tie.Need-slice-write-v Inv-loop μ-loop
 slice-write-v c = omega (arith, c .before .before .loop .inv .1 .long, c .before .before .before .pre)
-
-add-e : tie.Need-add-e Inv-loop μ-loop
-add-e c = search needs
-
-loop-less : tie.Need-loop-less Inv-loop μ-loop
-loop-less c = search needs
 
 loop-again : tie.Need-loop-again Inv-loop μ-loop
 loop-again c =
@@ -56,10 +47,10 @@ follow-spec =
     μ-loop
     loop-holds
     slice-read-v
-    add-v
+    (λ c. search needs)
     slice-write-v
-    add-e
-    loop-less
+    (λ c. search needs)
+    (λ c. search needs)
     loop-again
     same-length
     returns)

@@ -24,12 +24,6 @@ column-at-requires c κs = (c .before .before .before .before .pre .0, search ne
 slice-write-v : tie.Need-slice-write-v Inv-loop μ-loop
 slice-write-v c = omega (arith, c .before .before .loop .inv .1 .size)
 
-add-x : tie.Need-add-x Inv-loop μ-loop
-add-x c = search needs
-
-loop-less : tie.Need-loop-less Inv-loop μ-loop
-loop-less c = search needs
-
 loop-again : tie.Need-loop-again Inv-loop μ-loop
 loop-again c =
     let l = c .before .before .loop in
@@ -53,8 +47,8 @@ within-spec =
     loop-holds
     column-at-requires
     slice-write-v
-    add-x
-    loop-less
+    (λ c. search needs)
+    (λ c. search needs)
     loop-again
     same-length
     returns)

@@ -8,9 +8,6 @@ use Rattle.encoder_turns.proofs.Turning.{entries-right}
 use Rattle.encoder.proofs.tables.halves.Statement.{statement}
 use Rattle.encoder.proofs.tables.halves.Tie as tie
 
-slice-aggregate-halves : tie.Need-slice-aggregate-halves
-slice-aggregate-halves c = search needs
-
 halves-requires : tie.Need-halves-requires
 unfolding turnBit inputPlace inputsPer codedPer
 halves-requires c κs = (
@@ -18,11 +15,5 @@ halves-requires c κs = (
   c .before .before .before .before .pre,
 )
 
-same-length : tie.Need-same-length
-same-length c = search needs
-
-returns : tie.Need-returns
-returns c = search needs
-
 pub halves-spec : {M : Type 1} → statement M
-halves-spec = tie.close (tie.spec slice-aggregate-halves halves-requires same-length returns)
+halves-spec = tie.close (tie.spec (λ c. search needs) halves-requires (λ c. search needs) (λ c. search needs))

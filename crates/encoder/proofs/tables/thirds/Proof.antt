@@ -8,9 +8,6 @@ use Rattle.encoder_turns.proofs.Turning.{entries-right}
 use Rattle.encoder.proofs.tables.thirds.Statement.{statement}
 use Rattle.encoder.proofs.tables.thirds.Tie as tie
 
-slice-aggregate-thirds : tie.Need-slice-aggregate-thirds
-slice-aggregate-thirds c = search needs
-
 thirds-requires : tie.Need-thirds-requires
 unfolding turnBit inputPlace inputsPer codedPer
 thirds-requires c κs = (
@@ -18,11 +15,5 @@ thirds-requires c κs = (
   c .before .before .before .before .pre,
 )
 
-same-length : tie.Need-same-length
-same-length c = search needs
-
-returns : tie.Need-returns
-returns c = search needs
-
 pub thirds-spec : {M : Type 1} → statement M
-thirds-spec = tie.close (tie.spec slice-aggregate-thirds thirds-requires same-length returns)
+thirds-spec = tie.close (tie.spec (λ c. search needs) thirds-requires (λ c. search needs) (λ c. search needs))

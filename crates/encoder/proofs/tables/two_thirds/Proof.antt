@@ -8,9 +8,6 @@ use Rattle.encoder_turns.proofs.Turning.{entries-right}
 use Rattle.encoder.proofs.tables.two_thirds.Statement.{statement}
 use Rattle.encoder.proofs.tables.two_thirds.Tie as tie
 
-slice-aggregate-two-thirds : tie.Need-slice-aggregate-two-thirds
-slice-aggregate-two-thirds c = search needs
-
 two-thirds-requires : tie.Need-two-thirds-requires
 unfolding turnBit inputPlace inputsPer codedPer
 two-thirds-requires c κs = (
@@ -18,11 +15,5 @@ two-thirds-requires c κs = (
   c .before .before .before .before .pre,
 )
 
-same-length : tie.Need-same-length
-same-length c = search needs
-
-returns : tie.Need-returns
-returns c = search needs
-
 pub two-thirds-spec : {M : Type 1} → statement M
-two-thirds-spec = tie.close (tie.spec slice-aggregate-two-thirds two-thirds-requires same-length returns)
+two-thirds-spec = tie.close (tie.spec (λ c. search needs) two-thirds-requires (λ c. search needs) (λ c. search needs))

@@ -7,11 +7,8 @@ use borrow.Author.Needs.{needs}
 use Rattle.header.proofs.form.old_spare.Statement.{statement}
 use Rattle.header.proofs.form.old_spare.Tie as tie
 
-eight-requires : tie.Need-eight-requires
-eight-requires c κs = search needs
-
 returns : tie.Need-returns
 returns c = ap (λ (v : ℕ). bitAnd v 65535) (c .eight .ensures) ∙ old-spare-cut (c .before .before .args .header .now)
 
 pub old-spare-spec : {M : Type 1} → statement M
-old-spare-spec = tie.close (tie.spec eight-requires returns)
+old-spare-spec = tie.close (tie.spec (λ c κs. search needs) returns)

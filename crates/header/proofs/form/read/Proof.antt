@@ -5,13 +5,10 @@ use borrow.Author.Needs.{needs}
 use Rattle.header.proofs.form.read.Statement.{statement}
 use Rattle.header.proofs.form.read.Tie as tie
 
-eight-requires : tie.Need-eight-requires
-eight-requires c κs = search needs
-
 returns : tie.Need-returns
 returns c =
     let header = c .before .before .args .header .now in
     ap cutOut (c .eight .ensures ∙ whole header) ∙ fields-cut header
 
 pub read-spec : {M : Type 1} → statement M
-read-spec = tie.close (tie.spec eight-requires returns)
+read-spec = tie.close (tie.spec (λ c κs. search needs) returns)

@@ -7,11 +7,8 @@ use borrow.Author.Needs.{needs}
 use Rattle.header.proofs.form.spare.Statement.{statement}
 use Rattle.header.proofs.form.spare.Tie as tie
 
-eight-requires : tie.Need-eight-requires
-eight-requires c κs = search needs
-
 returns : tie.Need-returns
 returns c = ap (λ (v : ℕ). bitAnd v 67108863) (c .eight .ensures) ∙ spare-cut (c .before .before .args .header .now)
 
 pub spare-spec : {M : Type 1} → statement M
-spare-spec = tie.close (tie.spec eight-requires returns)
+spare-spec = tie.close (tie.spec (λ c κs. search needs) returns)

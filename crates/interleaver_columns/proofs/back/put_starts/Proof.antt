@@ -19,20 +19,8 @@ abbrev μ-loop : tie.MeasureT-loop
 loop-holds : tie.Need-loop-holds Inv-loop μ-loop
 loop-holds c = (search needs, search needs, λ b h l. absurd (omega arith))
 
-mul-at : tie.Need-mul-at Inv-loop μ-loop
-mul-at c = search needs
-
-shared-slice-read-at : tie.Need-shared-slice-read-at Inv-loop μ-loop
-shared-slice-read-at c = search needs
-
 cast-at : tie.Need-cast-at Inv-loop μ-loop
 cast-at c = omega (arith, c .shared-slice-known .given (c .before .before .loop .c))
-
-mul-at-2 : tie.Need-mul-at-2 Inv-loop μ-loop
-mul-at-2 c = search needs
-
-shared-slice-read-at-2 : tie.Need-shared-slice-read-at-2 Inv-loop μ-loop
-shared-slice-read-at-2 c = search needs
 
 cast-at-2 : tie.Need-cast-at-2 Inv-loop μ-loop
 cast-at-2 c = omega (arith, c .shared-slice-known2 .given (c .before .before .before .loop .c))
@@ -43,12 +31,6 @@ mul-at-3 c = let h = c .before .before .before .before .pre .0 .1 (c .before .be
 slice-write-at : tie.Need-slice-write-at Inv-loop μ-loop
 slice-write-at c = let h = c .before .before .before .before .pre .0 .1 (c .before .before .before .loop .c) (omega arith) in omega arith
 
-add-c : tie.Need-add-c Inv-loop μ-loop
-add-c c = search needs
-
-loop-less : tie.Need-loop-less Inv-loop μ-loop
-loop-less c = search needs
-
 loop-again : tie.Need-loop-again Inv-loop μ-loop
 loop-again c =
     let l = c .before .before .before .loop in
@@ -56,9 +38,6 @@ loop-again c =
     let h : l .c < 72 = omega arith in
     let column : getD (s .args .column .now) (l .c) 0 ≡ takenBy (l .c) = s .pre .0 .1 (l .c) h in
     (search needs, search needs, rw column (start-more (l .at) (l .c) _ (l .inv .1) h (s .pre .1 .1 (l .c) h) (l .inv .2)))
-
-same-length : tie.Need-same-length Inv-loop μ-loop
-same-length c = search needs
 
 returns : tie.Need-returns Inv-loop μ-loop
 returns c = λ b h. c .before .loop .inv .2 b h (let k = column-lt b in omega arith)
@@ -70,16 +49,16 @@ put-starts-spec =
     Inv-loop
     μ-loop
     loop-holds
-    mul-at
-    shared-slice-read-at
+    (λ c. search needs)
+    (λ c. search needs)
     cast-at
-    mul-at-2
-    shared-slice-read-at-2
+    (λ c. search needs)
+    (λ c. search needs)
     cast-at-2
     mul-at-3
     slice-write-at
-    add-c
-    loop-less
+    (λ c. search needs)
+    (λ c. search needs)
     loop-again
-    same-length
+    (λ c. search needs)
     returns)

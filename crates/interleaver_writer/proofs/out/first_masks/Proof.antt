@@ -6,29 +6,11 @@ use Rattle.interleaver_columns.proofs.Numbers.{first-same, out-lt}
 use Rattle.interleaver_writer.proofs.out.first_masks.Statement.{statement}
 use Rattle.interleaver_writer.proofs.out.first_masks.Tie as tie
 
-slice-aggregate-taken-columns : tie.Need-slice-aggregate-taken-columns
-slice-aggregate-taken-columns c = search needs
-
-slice-aggregate-taken-columns-2 : tie.Need-slice-aggregate-taken-columns-2
-slice-aggregate-taken-columns-2 c = search needs
-
-taken-columns-requires : tie.Need-taken-columns-requires
-taken-columns-requires c κs = search needs
-
-slice-aggregate-put-masks : tie.Need-slice-aggregate-put-masks
-slice-aggregate-put-masks c = search needs
-
-slice-aggregate-put-masks-2 : tie.Need-slice-aggregate-put-masks-2
-slice-aggregate-put-masks-2 c = search needs
-
 put-masks-requires : tie.Need-put-masks-requires
 put-masks-requires c κs =
     let t = c .before .before .before .before .before .taken-columns in
     let s = c .before .before .before .before .before .before .before .before .before .before in
     ((t .kept .1 .0, t .ensures .0), t .kept .1 .1 .0, λ j h. omega (arith, t .ensures .1 j h, out-lt (takenBy j)), s .pre .1)
-
-same-length : tie.Need-same-length
-same-length c = search needs
 
 returns : tie.Need-returns
 returns c =
@@ -39,11 +21,11 @@ pub first-masks-spec : {M : Type 1} → statement M
 first-masks-spec =
     tie.close
     (tie.spec
-    slice-aggregate-taken-columns
-    slice-aggregate-taken-columns-2
-    taken-columns-requires
-    slice-aggregate-put-masks
-    slice-aggregate-put-masks-2
+    (λ c. search needs)
+    (λ c. search needs)
+    (λ c κs. search needs)
+    (λ c. search needs)
+    (λ c. search needs)
     put-masks-requires
-    same-length
+    (λ c. search needs)
     returns)

@@ -21,21 +21,6 @@ abbrev μ-loop : tie.MeasureT-loop
 loop-holds : tie.Need-loop-holds Inv-loop μ-loop
 loop-holds c = (search needs, c .pre .1 .0, λ j h. c .pre .1 .1 j (omega arith))
 
-mul-seen : tie.Need-mul-seen Inv-loop μ-loop
-mul-seen c = search needs
-
-add-seen : tie.Need-add-seen Inv-loop μ-loop
-add-seen c = search needs
-
-mul-seen-2 : tie.Need-mul-seen-2 Inv-loop μ-loop
-mul-seen-2 c = search needs
-
-shared-slice-read-seen : tie.Need-shared-slice-read-seen Inv-loop μ-loop
-shared-slice-read-seen c = search needs
-
-mul-seen-3 : tie.Need-mul-seen-3 Inv-loop μ-loop
-mul-seen-3 c = search needs
-
 add-seen-2 : tie.Need-add-seen-2 Inv-loop μ-loop
 add-seen-2 c =
     let s = c .before .before .before in
@@ -47,27 +32,6 @@ shared-slice-read-seen-2 c =
     let s = c .before .before .before .before in
     let q = 9 * s .args .m + c .before .before .before .loop .k in
     omega (arith, s .pre .0 .1 .1 q (omega arith), begin-lt q)
-
-mul-seen-4 : tie.Need-mul-seen-4 Inv-loop μ-loop
-mul-seen-4 c = search needs
-
-mul-seen-5 : tie.Need-mul-seen-5 Inv-loop μ-loop
-mul-seen-5 c = search needs
-
-add-seen-3 : tie.Need-add-seen-3 Inv-loop μ-loop
-add-seen-3 c = search needs
-
-add-seen-4 : tie.Need-add-seen-4 Inv-loop μ-loop
-add-seen-4 c = search needs
-
-slice-write-seen : tie.Need-slice-write-seen Inv-loop μ-loop
-slice-write-seen c = search needs
-
-add-k : tie.Need-add-k Inv-loop μ-loop
-add-k c = search needs
-
-loop-less : tie.Need-loop-less Inv-loop μ-loop
-loop-less c = search needs
 
 loop-again : tie.Need-loop-again Inv-loop μ-loop
 loop-again c =
@@ -83,9 +47,6 @@ loop-again c =
           (seen-made (s .args .v .now) m n (l .k) _ (s .pre .0 .2) (s .pre .0 .3) h e) (l .inv .2) j (omega arith),
     )
 
-same-length : tie.Need-same-length Inv-loop μ-loop
-same-length c = search needs
-
 returns : tie.Need-returns Inv-loop μ-loop
 returns c = λ j h. c .before .loop .inv .2 j (omega arith)
 
@@ -96,20 +57,20 @@ nine-spec =
     Inv-loop
     μ-loop
     loop-holds
-    mul-seen
-    add-seen
-    mul-seen-2
-    shared-slice-read-seen
-    mul-seen-3
+    (λ c. search needs)
+    (λ c. search needs)
+    (λ c. search needs)
+    (λ c. search needs)
+    (λ c. search needs)
     add-seen-2
     shared-slice-read-seen-2
-    mul-seen-4
-    mul-seen-5
-    add-seen-3
-    add-seen-4
-    slice-write-seen
-    add-k
-    loop-less
+    (λ c. search needs)
+    (λ c. search needs)
+    (λ c. search needs)
+    (λ c. search needs)
+    (λ c. search needs)
+    (λ c. search needs)
+    (λ c. search needs)
     loop-again
-    same-length
+    (λ c. search needs)
     returns)

@@ -26,20 +26,11 @@ nine-requires c κs =
     let g = c .before .before .before .before .before .before .pre .0 in
     ((g .0, g .1, g .2, omega arith), (l .inv .1, l .inv .2))
 
-add-n : tie.Need-add-n Inv-loop μ-loop
-add-n c = search needs
-
-loop-less : tie.Need-loop-less Inv-loop μ-loop
-loop-less c = search needs
-
 loop-again : tie.Need-loop-again Inv-loop μ-loop
 loop-again c =
     let l = c .before .before .before .before .before .loop in
     let o = c .before .before .nine in
     (search needs, o .kept .1 .1 .1 .1 .0 ∙ l .inv .1, λ k h. o .ensures k (omega arith))
-
-same-length : tie.Need-same-length Inv-loop μ-loop
-same-length c = search needs
 
 returns : tie.Need-returns Inv-loop μ-loop
 returns c = λ k h. c .before .loop .inv .2 k (omega arith)
@@ -52,8 +43,8 @@ plane-spec =
     μ-loop
     loop-holds
     nine-requires
-    add-n
-    loop-less
+    (λ c. search needs)
+    (λ c. search needs)
     loop-again
-    same-length
+    (λ c. search needs)
     returns)

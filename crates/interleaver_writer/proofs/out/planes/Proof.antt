@@ -24,20 +24,11 @@ plane-requires c κs =
     let g = c .before .before .before .before .before .before .pre in
     ((g .0, g .1, omega arith), (l .inv .1, l .inv .2))
 
-add-m : tie.Need-add-m Inv-loop μ-loop
-add-m c = search needs
-
-loop-less : tie.Need-loop-less Inv-loop μ-loop
-loop-less c = search needs
-
 loop-again : tie.Need-loop-again Inv-loop μ-loop
 loop-again c =
     let l = c .before .before .before .before .before .loop in
     let o = c .before .before .plane in
     (search needs, o .kept .1 .1 .1 .0 ∙ l .inv .1, λ k h. o .ensures k (omega arith))
-
-same-length : tie.Need-same-length Inv-loop μ-loop
-same-length c = search needs
 
 returns : tie.Need-returns Inv-loop μ-loop
 returns c = λ k h. c .before .loop .inv .2 k (omega arith)
@@ -50,8 +41,8 @@ planes-spec =
     μ-loop
     loop-holds
     plane-requires
-    add-m
-    loop-less
+    (λ c. search needs)
+    (λ c. search needs)
     loop-again
-    same-length
+    (λ c. search needs)
     returns)

@@ -7,21 +7,6 @@ use Rattle.interleaver_writer.proofs.Writing.{out-turned}
 use Rattle.interleaver_writer.proofs.out.taken.Statement.{statement}
 use Rattle.interleaver_writer.proofs.out.taken.Tie as tie
 
-slice-aggregate-first-masks : tie.Need-slice-aggregate-first-masks
-slice-aggregate-first-masks c = search needs
-
-first-masks-requires : tie.Need-first-masks-requires
-first-masks-requires c κs = search needs
-
-slice-aggregate-rolled : tie.Need-slice-aggregate-rolled
-slice-aggregate-rolled c = search needs
-
-rolled-requires : tie.Need-rolled-requires
-rolled-requires c κs = search needs
-
-slice-aggregate-all-lines : tie.Need-slice-aggregate-all-lines
-slice-aggregate-all-lines c = search needs
-
 all-lines-requires : tie.Need-all-lines-requires
 all-lines-requires c κs =
     let roll = c .before .before .before in
@@ -29,12 +14,6 @@ all-lines-requires c κs =
     let s = first .before .before .before .before .before in
     let mask = roll .rolled .last .0 in
     (s .pre .0, masks-light upOut out-lt mask (masks-rolled upOut out-lt _ mask (first .first-masks .ensures) (roll .rolled .ensures)), s .pre .2)
-
-turned-requires : tie.Need-turned-requires
-turned-requires c κs = search needs
-
-same-length : tie.Need-same-length
-same-length c = search needs
 
 returns : tie.Need-returns
 returns c =
@@ -54,12 +33,12 @@ pub taken-spec : {M : Type 1} → statement M
 taken-spec =
     tie.close
     (tie.spec
-    slice-aggregate-first-masks
-    first-masks-requires
-    slice-aggregate-rolled
-    rolled-requires
-    slice-aggregate-all-lines
+    (λ c. search needs)
+    (λ c κs. search needs)
+    (λ c. search needs)
+    (λ c κs. search needs)
+    (λ c. search needs)
     all-lines-requires
-    turned-requires
-    same-length
+    (λ c κs. search needs)
+    (λ c. search needs)
     returns)

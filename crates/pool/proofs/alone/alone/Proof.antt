@@ -6,14 +6,8 @@ use Rattle.pool.proofs.Joining.{lit-alone}
 use Rattle.pool.proofs.alone.alone.Statement.{statement}
 use Rattle.pool.proofs.alone.alone.Tie as tie
 
-open-requires : tie.Need-open-requires
-open-requires c κs = search needs
-
 slots-from-requires : tie.Need-slots-from-requires
 slots-from-requires c κs = (c .before .before .open .ensures (c .before .if1 .taken), search needs, search needs, search needs)
-
-lone-requires : tie.Need-lone-requires
-lone-requires c κs = search needs
 
 returns : tie.Need-returns
 returns c = λ l.
@@ -23,16 +17,7 @@ returns c = λ l.
 among-numbers-requires : tie.Need-among-numbers-requires
 among-numbers-requires c κs = (c .before .before .before .open .ensures (c .before .before .if1 .taken), omega arith)
 
-returns-2 : tie.Need-returns-2
-returns-2 c = search needs
-
-returns-3 : tie.Need-returns-3
-returns-3 c = search needs
-
-returns-4 : tie.Need-returns-4
-returns-4 c = search needs
-
 pub alone-spec : {M : Type 1} → statement M
 alone-spec =
     tie.close
-    (tie.spec open-requires slots-from-requires lone-requires returns among-numbers-requires returns-2 returns-3 returns-4)
+    (tie.spec (λ c κs. search needs) slots-from-requires (λ c κs. search needs) returns among-numbers-requires (λ c. search needs) (λ c. search needs) (λ c. search needs))

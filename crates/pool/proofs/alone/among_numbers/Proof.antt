@@ -17,9 +17,6 @@ Inv-loop b copies group s n any₀ empty₀ zeros₀ k₀ any empty zeros k = (k
 abbrev μ-loop : tie.MeasureT-loop
 μ-loop b copies group s n any₀ empty₀ zeros₀ k₀ any empty zeros k = n - k
 
-add-n : tie.Need-add-n Inv-loop μ-loop
-add-n c = search needs
-
 loop-holds : tie.Need-loop-holds Inv-loop μ-loop
 loop-holds c = (omega arith, swept-none _)
 
@@ -27,9 +24,6 @@ number-requires : tie.Need-number-requires Inv-loop μ-loop
 number-requires c κs =
     let s = c .before .before .before in
     (s .pre .0, s .pre .1, omega arith)
-
-none-requires : tie.Need-none-requires Inv-loop μ-loop
-none-requires c κs = search needs
 
 add-empty : tie.Need-add-empty Inv-loop μ-loop
 add-empty c =
@@ -40,9 +34,6 @@ add-empty c =
     let g = c .before .before .before .before .before .pre .0 .held in
     omega arith
 
-none-requires-2 : tie.Need-none-requires-2 Inv-loop μ-loop
-none-requires-2 c κs = search needs
-
 add-zeros : tie.Need-add-zeros Inv-loop μ-loop
 add-zeros c =
     let l = c .before .before .before .before .loop in
@@ -51,12 +42,6 @@ add-zeros c =
     let m = l .inv .1 .room in
     let g = c .before .before .before .before .before .before .pre .0 .held in
     omega arith
-
-add-k : tie.Need-add-k Inv-loop μ-loop
-add-k c = search needs
-
-loop-less : tie.Need-loop-less Inv-loop μ-loop
-loop-less c = search needs
 
 loop-again : tie.Need-loop-again Inv-loop μ-loop
 loop-again c =
@@ -75,15 +60,6 @@ add-if1 c =
     let m = l .inv .1 .most in
     let g = c .before .before .before .pre .0 .held in
     omega arith
-
-returns : tie.Need-returns Inv-loop μ-loop
-returns c = search needs
-
-lone-requires : tie.Need-lone-requires Inv-loop μ-loop
-lone-requires c κs = search needs
-
-returns-2 : tie.Need-returns-2 Inv-loop μ-loop
-returns-2 c = search needs
 
 mul-result : tie.Need-mul-result Inv-loop μ-loop
 mul-result c =
@@ -114,20 +90,20 @@ among-numbers-spec =
     (tie.spec
     Inv-loop
     μ-loop
-    add-n
+    (λ c. search needs)
     loop-holds
     number-requires
-    none-requires
+    (λ c κs. search needs)
     add-empty
-    none-requires-2
+    (λ c κs. search needs)
     add-zeros
-    add-k
-    loop-less
+    (λ c. search needs)
+    (λ c. search needs)
     loop-again
     add-if1
-    returns
-    lone-requires
-    returns-2
+    (λ c. search needs)
+    (λ c κs. search needs)
+    (λ c. search needs)
     mul-result
     add-result
     returns-3)

@@ -14,32 +14,11 @@ Inv-loop b copies group s top₀ q₀ r₀ top q r = (r ≤ group) × Front (cou
 abbrev μ-loop : tie.MeasureT-loop
 μ-loop b copies group s top₀ q₀ r₀ top q r = group - r
 
-skip-requires : tie.Need-skip-requires Inv-loop μ-loop
-skip-requires c κs = search needs
-
 loop-holds : tie.Need-loop-holds Inv-loop μ-loop
 loop-holds c =
     let a = c .before .before .args in
     let k = c .skip .ensures in
     (omega arith, front-skip _ _ 0 (c .skip .result) _ _ (omega arith) (k .2) (front-none (count (a .b .now) (a .copies) (a .group) (a .s)) (a .group)))
-
-count-at-requires : tie.Need-count-at-requires Inv-loop μ-loop
-count-at-requires c κs = search needs
-
-in-front-requires : tie.Need-in-front-requires Inv-loop μ-loop
-in-front-requires c κs = search needs
-
-most-requires : tie.Need-most-requires Inv-loop μ-loop
-most-requires c κs = search needs
-
-add-skip : tie.Need-add-skip Inv-loop μ-loop
-add-skip c = search needs
-
-skip-requires-2 : tie.Need-skip-requires-2 Inv-loop μ-loop
-skip-requires-2 c κs = search needs
-
-loop-less : tie.Need-loop-less Inv-loop μ-loop
-loop-less c = search needs
 
 loop-again : tie.Need-loop-again Inv-loop μ-loop
 loop-again c =
@@ -68,13 +47,13 @@ counted-spec =
     (tie.spec
     Inv-loop
     μ-loop
-    skip-requires
+    (λ c κs. search needs)
     loop-holds
-    count-at-requires
-    in-front-requires
-    most-requires
-    add-skip
-    skip-requires-2
-    loop-less
+    (λ c κs. search needs)
+    (λ c κs. search needs)
+    (λ c κs. search needs)
+    (λ c. search needs)
+    (λ c κs. search needs)
+    (λ c. search needs)
     loop-again
     returns)

@@ -20,12 +20,6 @@ abbrev μ-loop : tie.MeasureT-loop
 loop-holds : tie.Need-loop-holds Inv-loop μ-loop
 loop-holds c = (omega arith, omega arith, λ i a l. absurd (omega arith))
 
-sub-least : tie.Need-sub-least Inv-loop μ-loop
-sub-least c = search needs
-
-least-requires : tie.Need-least-requires Inv-loop μ-loop
-least-requires c κs = search needs
-
 slots-from-requires : tie.Need-slots-from-requires Inv-loop μ-loop
 slots-from-requires c κs =
     let s = c .before .before .before .before in
@@ -111,8 +105,8 @@ next-lit-spec =
     Inv-loop
     μ-loop
     loop-holds
-    sub-least
-    least-requires
+    (λ c. search needs)
+    (λ c κs. search needs)
     slots-from-requires
     leading-requires
     add-result

@@ -9,18 +9,6 @@ use Rattle.pulses.proofs.Laws.Lone.{kept}
 use Rattle.pool.proofs.joined.front.Statement.{statement}
 use Rattle.pool.proofs.joined.front.Tie as tie
 
-sub-rest : tie.Need-sub-rest
-sub-rest c = search needs
-
-eight-requires : tie.Need-eight-requires
-eight-requires c κs = search needs
-
-shr-result : tie.Need-shr-result
-shr-result c = search needs
-
-shl-result : tie.Need-shl-result
-shl-result c = search needs
-
 returns : tie.Need-returns
 returns c =
     let a = c .before .before .args in
@@ -29,4 +17,4 @@ returns c =
     ∙ kept f (λ t. bit-lt (a .b .now) (8 * a .at + t)) (a .width) (omega arith)
 
 pub front-spec : {M : Type 1} → statement M
-front-spec = tie.close (tie.spec sub-rest eight-requires shr-result shl-result returns)
+front-spec = tie.close (tie.spec (λ c. search needs) (λ c κs. search needs) (λ c. search needs) (λ c. search needs) returns)

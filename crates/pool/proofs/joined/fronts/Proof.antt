@@ -48,12 +48,6 @@ front-requires c κs =
     let m : (l .c + 1) * a .bytes ≤ a .copies * a .bytes = mul-le-mul (let k : l .c + 1 ≤ a .copies = omega arith in k) (le-refl (a .bytes)) in
     (omega arith, omega arith, omega arith)
 
-add-c : tie.Need-add-c Inv-loop μ-loop
-add-c c = search needs
-
-loop-less : tie.Need-loop-less Inv-loop μ-loop
-loop-less c = search needs
-
 loop-again : tie.Need-loop-again Inv-loop μ-loop
 loop-again c =
     let a = c .before .before .before .before .args in
@@ -81,7 +75,7 @@ fronts-spec =
     mul-front
     add-front
     front-requires
-    add-c
-    loop-less
+    (λ c. search needs)
+    (λ c. search needs)
     loop-again
     returns)

@@ -11,15 +11,6 @@ use Rattle.pool.proofs.Joining.{few, bytes-room, number-lit}
 use Rattle.pool.proofs.joined.number.Statement.{statement}
 use Rattle.pool.proofs.joined.number.Tie as tie
 
-mul-least : tie.Need-mul-least
-mul-least c = search needs
-
-sub-least : tie.Need-sub-least
-sub-least c = search needs
-
-least-requires : tie.Need-least-requires
-least-requires c κs = search needs
-
 mul-fronts : tie.Need-mul-fronts
 mul-fronts c =
     let s = c .before .before in
@@ -41,9 +32,6 @@ mul-fronts-2 c =
     let r = bytes-room (a .copies) (a .group) (a .s) (s .pre .1) (2 ^ 36) (omega arith) in
     let t = s .pre .2 in
     omega arith
-
-mul-fronts-3 : tie.Need-mul-fronts-3
-mul-fronts-3 c = search needs
 
 add-fronts : tie.Need-add-fronts
 add-fronts c =
@@ -82,12 +70,12 @@ pub number-spec : {M : Type 1} → statement M
 number-spec =
     tie.close
     (tie.spec
-    mul-least
-    sub-least
-    least-requires
+    (λ c. search needs)
+    (λ c. search needs)
+    (λ c κs. search needs)
     mul-fronts
     mul-fronts-2
-    mul-fronts-3
+    (λ c. search needs)
     add-fronts
     fronts-requires
     returns)

@@ -22,12 +22,6 @@ add-result c =
     let f = few (a .s) (a .copies) (a .group) (omega arith) in
     omega arith
 
-mul-result-2 : tie.Need-mul-result-2
-mul-result-2 c = search needs
-
-add-result-2 : tie.Need-add-result-2
-add-result-2 c = search needs
-
 returns : tie.Need-returns
 returns c = λ e.
     let a = c .args in
@@ -35,4 +29,4 @@ returns c = λ e.
     record { held = c .pre; behind = omega arith }
 
 pub open-spec : {M : Type 1} → statement M
-open-spec = tie.close (tie.spec mul-result add-result mul-result-2 add-result-2 returns)
+open-spec = tie.close (tie.spec mul-result add-result (λ c. search needs) (λ c. search needs) returns)

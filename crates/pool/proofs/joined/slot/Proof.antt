@@ -33,8 +33,5 @@ add-result-2 c =
     let f = few (a .s) (a .copies) (a .group) (omega arith) in
     omega arith
 
-returns : tie.Need-returns
-returns c = search needs
-
 pub slot-spec : {M : Type 1} → statement M
-slot-spec = tie.close (tie.spec mul-result add-result mul-result-2 add-result-2 returns)
+slot-spec = tie.close (tie.spec mul-result add-result mul-result-2 add-result-2 (λ c. search needs))

@@ -16,14 +16,8 @@ Inv-loop b copies group s at width rest any₀ c₀ any c = (c ≤ copies) × (a
 abbrev μ-loop : tie.MeasureT-loop
 μ-loop b copies group s at width rest any₀ c₀ any c = copies - c
 
-sub-rest : tie.Need-sub-rest Inv-loop μ-loop
-sub-rest c = search needs
-
 loop-holds : tie.Need-loop-holds Inv-loop μ-loop
 loop-holds c = (omega arith, join-none _)
-
-slot-requires : tie.Need-slot-requires Inv-loop μ-loop
-slot-requires c κs = search needs
 
 window-requires : tie.Need-window-requires Inv-loop μ-loop
 window-requires c κs =
@@ -32,12 +26,6 @@ window-requires c κs =
     let i = slot-lt (a .s) (a .copies) (a .group) (l .c) (a .at) (omega arith) (omega arith) in
     let e = c .slot .ensures in
     search needs
-
-add-c : tie.Need-add-c Inv-loop μ-loop
-add-c c = search needs
-
-loop-less : tie.Need-loop-less Inv-loop μ-loop
-loop-less c = search needs
 
 loop-again : tie.Need-loop-again Inv-loop μ-loop
 loop-again c =
@@ -48,12 +36,6 @@ loop-again c =
       join-more w (shown-bits (a .b .now) (a .copies) (a .group) (a .s) (a .at)) (l .c) (l .any) (c .window .result) (l .inv .1)
           (c .window .ensures ∙ ap (λ (y : ℕ). val (cut (64 - y % 8) (bitsFrom (a .b .now) y)) 64) (c .before .slot .ensures)),
     )
-
-shr-result : tie.Need-shr-result Inv-loop μ-loop
-shr-result c = search needs
-
-shl-result : tie.Need-shl-result Inv-loop μ-loop
-shl-result c = search needs
 
 returns : tie.Need-returns Inv-loop μ-loop
 returns c =
@@ -69,13 +51,13 @@ slots-from-spec =
     (tie.spec
     Inv-loop
     μ-loop
-    sub-rest
+    (λ c. search needs)
     loop-holds
-    slot-requires
+    (λ c κs. search needs)
     window-requires
-    add-c
-    loop-less
+    (λ c. search needs)
+    (λ c. search needs)
     loop-again
-    shr-result
-    shl-result
+    (λ c. search needs)
+    (λ c. search needs)
     returns)

@@ -6,16 +6,10 @@ use Rattle.pool.proofs.Joining.{window-is}
 use Rattle.pool.proofs.joined.window.Statement.{statement}
 use Rattle.pool.proofs.joined.window.Tie as tie
 
-eight-requires : tie.Need-eight-requires
-eight-requires c κs = search needs
-
-shl-result : tie.Need-shl-result
-shl-result c = search needs
-
 returns : tie.Need-returns
 returns c =
     let a = c .before .before .args in
     ap (λ (v : ℕ). v * 2 ^ (a .y % 8) % 2 ^ 64) (c .eight .ensures) ∙ window-is (a .b .now) (a .y)
 
 pub window-spec : {M : Type 1} → statement M
-window-spec = tie.close (tie.spec eight-requires shl-result returns)
+window-spec = tie.close (tie.spec (λ c κs. search needs) (λ c. search needs) returns)

@@ -45,12 +45,6 @@ add-x c =
     let g = s .pre .group-most in
     record { fits = omega arith }
 
-add-c : tie.Need-add-c Inv-loop μ-loop
-add-c c = search needs
-
-loop-less : tie.Need-loop-less Inv-loop μ-loop
-loop-less c = search needs
-
 loop-again : tie.Need-loop-again Inv-loop μ-loop
 loop-again c =
     let s = c .before .before .before .before in
@@ -89,8 +83,8 @@ decisive-spec =
     loop-holds
     window-requires
     add-x
-    add-c
-    loop-less
+    (λ c. search needs)
+    (λ c. search needs)
     loop-again
     settled-requires
     returns)

@@ -34,12 +34,6 @@ shl-v c =
     let g = c .before .before .before .before .pre .0 .group-most in
     omega arith
 
-add-k : tie.Need-add-k Inv-loop μ-loop
-add-k c = search needs
-
-loop-less : tie.Need-loop-less Inv-loop μ-loop
-loop-less c = search needs
-
 loop-again : tie.Need-loop-again Inv-loop μ-loop
 loop-again c =
     let s = c .before .before .before .before in
@@ -79,8 +73,8 @@ decisive-short-spec =
     window-requires
     loop-holds
     shl-v
-    add-k
-    loop-less
+    (λ c. search needs)
+    (λ c. search needs)
     loop-again
     settled-requires
     returns)

@@ -4,16 +4,10 @@ use borrow.Author.Needs.{needs}
 use Rattle.pool_rows.proofs.near.window.Statement.{statement}
 use Rattle.pool_rows.proofs.near.window.Tie as tie
 
-eight-requires : tie.Need-eight-requires
-eight-requires c κs = search needs
-
-shl-result : tie.Need-shl-result
-shl-result c = search needs
-
 returns : tie.Need-returns
 returns c = λ i l.
     let a = c .before .before .args in
     window-bit (a .b .now) (a .x) i (c .eight .result) l (c .eight .ensures)
 
 pub window-spec : {M : Type 1} → statement M
-window-spec = tie.close (tie.spec eight-requires shl-result returns)
+window-spec = tie.close (tie.spec (λ c κs. search needs) (λ c. search needs) returns)

@@ -18,15 +18,6 @@ abbrev μ-loop : tie.MeasureT-loop
 loop-holds : tie.Need-loop-holds Inv-loop μ-loop
 loop-holds c = (omega arith, λ e k l. absurd (omega arith))
 
-add-d : tie.Need-add-d Inv-loop μ-loop
-add-d c = search needs
-
-shared-slice-read-d : tie.Need-shared-slice-read-d Inv-loop μ-loop
-shared-slice-read-d c = search needs
-
-shared-slice-read-d-2 : tie.Need-shared-slice-read-d-2 Inv-loop μ-loop
-shared-slice-read-d-2 c = search needs
-
 add-k : tie.Need-add-k Inv-loop μ-loop
 add-k c = omega arith
 
@@ -49,9 +40,9 @@ difference-spec =
     Inv-loop
     μ-loop
     loop-holds
-    add-d
-    shared-slice-read-d
-    shared-slice-read-d-2
+    (λ c. search needs)
+    (λ c. search needs)
+    (λ c. search needs)
     add-k
     loop-less
     loop-again

@@ -17,9 +17,6 @@ abbrev μ-loop : tie.MeasureT-loop
 loop-holds : tie.Need-loop-holds Inv-loop μ-loop
 loop-holds c = upto-none (c .args .group) (c .pre .0) _ refl (λ k h. getD-replicate 40 k 0 0 h)
 
-slice-aggregate-put-bit : tie.Need-slice-aggregate-put-bit Inv-loop μ-loop
-slice-aggregate-put-bit c = search needs
-
 put-bit-requires : tie.Need-put-bit-requires Inv-loop μ-loop
 put-bit-requires c κs = let u = c .before .before .loop .inv .long in omega arith
 
@@ -47,7 +44,7 @@ zeros-spec =
     Inv-loop
     μ-loop
     loop-holds
-    slice-aggregate-put-bit
+    (λ c. search needs)
     put-bit-requires
     add-x
     loop-less

@@ -9,33 +9,6 @@ use borrow.Author.Needs.{needs}
 use Rattle.pulses.proofs.numbers.far.Statement.{statement}
 use Rattle.pulses.proofs.numbers.far.Tie as tie
 
-mul-at : tie.Need-mul-at
-mul-at c = search needs
-
-add-eight : tie.Need-add-eight
-add-eight c = search needs
-
-sub-eight : tie.Need-sub-eight
-sub-eight c = search needs
-
-eight-requires : tie.Need-eight-requires
-eight-requires c κs = search needs
-
-sub-guard : tie.Need-sub-guard
-sub-guard c = search needs
-
-sub-guard-2 : tie.Need-sub-guard-2
-sub-guard-2 c = search needs
-
-shl-guard : tie.Need-shl-guard
-shl-guard c = search needs
-
-returns : tie.Need-returns
-returns c = search needs
-
-only-requires : tie.Need-only-requires
-only-requires c κs = search needs
-
 returns-2 : tie.Need-returns-2
 returns-2 c = λ l.
     let s = c .before .before .before .before in
@@ -61,13 +34,13 @@ pub far-spec : {M : Type 1} → statement M
 far-spec =
     tie.close
     (tie.spec
-    mul-at
-    add-eight
-    sub-eight
-    eight-requires
-    sub-guard
-    sub-guard-2
-    shl-guard
-    returns
-    only-requires
+    (λ c. search needs)
+    (λ c. search needs)
+    (λ c. search needs)
+    (λ c κs. search needs)
+    (λ c. search needs)
+    (λ c. search needs)
+    (λ c. search needs)
+    (λ c. search needs)
+    (λ c κs. search needs)
     returns-2)

@@ -7,27 +7,6 @@ use borrow.Author.Needs.{needs}
 use Rattle.pulses.proofs.numbers.near.Statement.{statement}
 use Rattle.pulses.proofs.numbers.near.Tie as tie
 
-mul-x : tie.Need-mul-x
-mul-x c = search needs
-
-sub-rest : tie.Need-sub-rest
-sub-rest c = search needs
-
-eight-requires : tie.Need-eight-requires
-eight-requires c κs = search needs
-
-shl-v : tie.Need-shl-v
-shl-v c = search needs
-
-shr-lone : tie.Need-shr-lone
-shr-lone c = search needs
-
-shl-lone : tie.Need-shl-lone
-shl-lone c = search needs
-
-lone-requires : tie.Need-lone-requires
-lone-requires c κs = search needs
-
 returns : tie.Need-returns
 returns c = λ l.
     let s = c .before .before .before in
@@ -39,4 +18,4 @@ returns c = λ l.
 pub near-spec : {M : Type 1} → statement M
 near-spec =
     tie.close
-    (tie.spec mul-x sub-rest eight-requires shl-v shr-lone shl-lone lone-requires returns)
+    (tie.spec (λ c. search needs) (λ c. search needs) (λ c κs. search needs) (λ c. search needs) (λ c. search needs) (λ c. search needs) (λ c κs. search needs) returns)

@@ -20,18 +20,6 @@ abbrev μ-loop : tie.MeasureT-loop
 loop-holds : tie.Need-loop-holds Inv-loop μ-loop
 loop-holds c = (search needs, swept-none _)
 
-mul-eight : tie.Need-mul-eight Inv-loop μ-loop
-mul-eight c = search needs
-
-add-eight : tie.Need-add-eight Inv-loop μ-loop
-add-eight c = search needs
-
-eight-requires : tie.Need-eight-requires Inv-loop μ-loop
-eight-requires c κs = search needs
-
-none-requires : tie.Need-none-requires Inv-loop μ-loop
-none-requires c κs = search needs
-
 add-empty : tie.Need-add-empty Inv-loop μ-loop
 add-empty c =
     let l = c .before .before .before .loop in
@@ -40,9 +28,6 @@ add-empty c =
     let m = l .inv .1 .most in
     let n = c .before .before .before .before .before .pre in
     omega arith
-
-none-requires-2 : tie.Need-none-requires-2 Inv-loop μ-loop
-none-requires-2 c κs = search needs
 
 add-zeros : tie.Need-add-zeros Inv-loop μ-loop
 add-zeros c =
@@ -53,41 +38,11 @@ add-zeros c =
     let n = c .before .before .before .before .before .before .pre in
     omega arith
 
-add-k : tie.Need-add-k Inv-loop μ-loop
-add-k c = search needs
-
-loop-less : tie.Need-loop-less Inv-loop μ-loop
-loop-less c = search needs
-
 loop-again : tie.Need-loop-again Inv-loop μ-loop
 loop-again c =
     let a = c .before .before .before .before .before .before .args in
     let l = c .before .before .before .before .loop in
     (search needs, swept-more (numberAt (a .b .now) (a .at)) (l .k) (l .any) (l .empty) (l .zeros) _ _ _ (l .inv .1) (c .before .before .eight .ensures) (c .before .none .ensures) (c .none2 .ensures))
-
-add-if1 : tie.Need-add-if1 Inv-loop μ-loop
-add-if1 c = search needs
-
-mul-result : tie.Need-mul-result Inv-loop μ-loop
-mul-result c = search needs
-
-returns : tie.Need-returns Inv-loop μ-loop
-returns c = search needs
-
-lone-requires : tie.Need-lone-requires Inv-loop μ-loop
-lone-requires c κs = search needs
-
-mul-result-2 : tie.Need-mul-result-2 Inv-loop μ-loop
-mul-result-2 c = search needs
-
-returns-2 : tie.Need-returns-2 Inv-loop μ-loop
-returns-2 c = search needs
-
-mul-result-3 : tie.Need-mul-result-3 Inv-loop μ-loop
-mul-result-3 c = search needs
-
-add-result : tie.Need-add-result Inv-loop μ-loop
-add-result c = search needs
 
 returns-3 : tie.Need-returns-3 Inv-loop μ-loop
 returns-3 c = λ h.
@@ -103,22 +58,22 @@ only-spec =
     Inv-loop
     μ-loop
     loop-holds
-    mul-eight
-    add-eight
-    eight-requires
-    none-requires
+    (λ c. search needs)
+    (λ c. search needs)
+    (λ c κs. search needs)
+    (λ c κs. search needs)
     add-empty
-    none-requires-2
+    (λ c κs. search needs)
     add-zeros
-    add-k
-    loop-less
+    (λ c. search needs)
+    (λ c. search needs)
     loop-again
-    add-if1
-    mul-result
-    returns
-    lone-requires
-    mul-result-2
-    returns-2
-    mul-result-3
-    add-result
+    (λ c. search needs)
+    (λ c. search needs)
+    (λ c. search needs)
+    (λ c κs. search needs)
+    (λ c. search needs)
+    (λ c. search needs)
+    (λ c. search needs)
+    (λ c. search needs)
     returns-3)

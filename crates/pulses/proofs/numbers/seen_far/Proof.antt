@@ -31,9 +31,6 @@ at-byte s =
     let l = s .pre .1 in
     (omega arith, omega arith)
 
-mul-at : tie.Need-mul-at Inv-loop μ-loop
-mul-at c = search needs
-
 loop-holds : tie.Need-loop-holds Inv-loop μ-loop
 loop-holds c = (search needs, front-start _ _)
 
@@ -62,9 +59,6 @@ add-any c =
           (λ n. far-none (a .order) (a .group) (a .b .now) (a .s) at (omega arith) (e .0) (s .pre .1) (l .k) (omega arith) n) (l .inv .1) (c .eight .ensures);
     }
 
-none-requires : tie.Need-none-requires Inv-loop μ-loop
-none-requires c κs = search needs
-
 add-zeros : tie.Need-add-zeros Inv-loop μ-loop
 add-zeros c =
     let l = c .before .before .before .loop in
@@ -73,12 +67,6 @@ add-zeros c =
     let m = front-room _ _ _ _ _ (l .inv .1) in
     let h = c .before .before .before .before .before .pre .0 in
     omega arith
-
-add-k : tie.Need-add-k Inv-loop μ-loop
-add-k c = search needs
-
-loop-less : tie.Need-loop-less Inv-loop μ-loop
-loop-less c = search needs
 
 loop-again : tie.Need-loop-again Inv-loop μ-loop
 loop-again c =
@@ -132,16 +120,16 @@ seen-far-spec =
     (tie.spec
     Inv-loop
     μ-loop
-    mul-at
+    (λ c. search needs)
     loop-holds
     mul-eight
     add-eight
     eight-requires
     add-any
-    none-requires
+    (λ c κs. search needs)
     add-zeros
-    add-k
-    loop-less
+    (λ c. search needs)
+    (λ c. search needs)
     loop-again
     mul-result
     leading-requires

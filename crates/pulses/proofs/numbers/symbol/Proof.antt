@@ -8,14 +8,8 @@ use Rattle.pulses.proofs.numbers.symbol.Tie as tie
 near-requires : tie.Need-near-requires
 near-requires c κs = let s = c .before .before in let m = s .pre .1 in is-near _ _ _ _ (s .pre .0) (c .if1 .taken) (omega arith)
 
-returns : tie.Need-returns
-returns c = search needs
-
 far-requires : tie.Need-far-requires
 far-requires c κs = is-far _ _ _ _ (c .before .before .pre .0) (omega arith)
 
-returns-2 : tie.Need-returns-2
-returns-2 c = search needs
-
 pub symbol-spec : {M : Type 1} → statement M
-symbol-spec = tie.close (tie.spec near-requires returns far-requires returns-2)
+symbol-spec = tie.close (tie.spec near-requires (λ c. search needs) far-requires (λ c. search needs))

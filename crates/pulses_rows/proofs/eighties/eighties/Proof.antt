@@ -67,9 +67,6 @@ add-s c =
     let k = s .pre .0 .small in
     record { fits = omega arith }
 
-loop-less : tie.Need-loop-less Inv-loop μ-loop
-loop-less c = search needs
-
 loop-again : tie.Need-loop-again Inv-loop μ-loop
 loop-again c =
     let s = c .before .before .before .before .before .before in
@@ -101,7 +98,7 @@ eighties-spec =
     sub-row
     slice-write-row
     add-s
-    loop-less
+    (λ c. search needs)
     loop-again
     same-length-2
     returns-2)

@@ -7,30 +7,6 @@ use borrow.Author.Needs.{needs}
 use Rattle.pulses_rows.proofs.eighties.eighty.Statement.{statement}
 use Rattle.pulses_rows.proofs.eighties.eighty.Tie as tie
 
-mul-at : tie.Need-mul-at
-mul-at c = search needs
-
-add-if1 : tie.Need-add-if1
-add-if1 c = search needs
-
-shared-slice-read-if1 : tie.Need-shared-slice-read-if1
-shared-slice-read-if1 c = search needs
-
-add-if1-2 : tie.Need-add-if1-2
-add-if1-2 c = search needs
-
-shared-slice-read-if1-2 : tie.Need-shared-slice-read-if1-2
-shared-slice-read-if1-2 c = search needs
-
-returns : tie.Need-returns
-returns c = search needs
-
-eight-requires : tie.Need-eight-requires
-eight-requires c κs = search needs
-
-single-requires : tie.Need-single-requires
-single-requires c κs = search needs
-
 returns-2 : tie.Need-returns-2
 returns-2 c = λ l.
     let a = c .before .before .before .before .before .before .args in
@@ -41,12 +17,12 @@ pub eighty-spec : {M : Type 1} → statement M
 eighty-spec =
     tie.close
     (tie.spec
-    mul-at
-    add-if1
-    shared-slice-read-if1
-    add-if1-2
-    shared-slice-read-if1-2
-    returns
-    eight-requires
-    single-requires
+    (λ c. search needs)
+    (λ c. search needs)
+    (λ c. search needs)
+    (λ c. search needs)
+    (λ c. search needs)
+    (λ c. search needs)
+    (λ c κs. search needs)
+    (λ c κs. search needs)
     returns-2)

@@ -7,30 +7,6 @@ use borrow.Author.Needs.{needs}
 use Rattle.pulses_rows.proofs.fives.eight_fives.Statement.{statement}
 use Rattle.pulses_rows.proofs.fives.eight_fives.Tie as tie
 
-mul-eight : tie.Need-mul-eight
-mul-eight c = search needs
-
-eight-requires : tie.Need-eight-requires
-eight-requires c κs = search needs
-
-sub-put-fives : tie.Need-sub-put-fives
-sub-put-fives c = search needs
-
-in-fives-requires : tie.Need-in-fives-requires
-in-fives-requires c κs = search needs
-
-put-fives-requires : tie.Need-put-fives-requires
-put-fives-requires c κs = search needs
-
-bad-fives-requires : tie.Need-bad-fives-requires
-bad-fives-requires c κs = search needs
-
-add-result : tie.Need-add-result
-add-result c = search needs
-
-same-length : tie.Need-same-length
-same-length c = search needs
-
 returns : tie.Need-returns
 returns c =
     let s = c .before .before .before .before .before .before .before .before .before .before in
@@ -38,9 +14,6 @@ returns c =
     let f = s .pre .0 in
     eight-known (a .b .now) (a .s) (a .s * 5 / 8) (c .before .before .before .before .before .before .before .eight .result) (f .byte) (c .before .before .before .before .before .before .before .eight .ensures) (a .from) (c .before .before .before .before .before .in-fives .result) (a .row .now) _ (s .pre .1) (s .pre .3) (c .before .before .before .before .put-fives .ensures)
     (c .before .bad-fives .ensures (c .if1 .taken)) (c .before .before .before .before .before .in-fives .ensures)
-
-same-length-2 : tie.Need-same-length-2
-same-length-2 c = search needs
 
 returns-2 : tie.Need-returns-2
 returns-2 c =
@@ -53,14 +26,14 @@ pub eight-fives-spec : {M : Type 1} → statement M
 eight-fives-spec =
     tie.close
     (tie.spec
-    mul-eight
-    eight-requires
-    sub-put-fives
-    in-fives-requires
-    put-fives-requires
-    bad-fives-requires
-    add-result
-    same-length
+    (λ c. search needs)
+    (λ c κs. search needs)
+    (λ c. search needs)
+    (λ c κs. search needs)
+    (λ c κs. search needs)
+    (λ c κs. search needs)
+    (λ c. search needs)
+    (λ c. search needs)
     returns
-    same-length-2
+    (λ c. search needs)
     returns-2)

@@ -18,29 +18,11 @@ abbrev μ-loop : tie.MeasureT-loop
 loop-holds : tie.Need-loop-holds Inv-loop μ-loop
 loop-holds c = (omega arith, fives-none _ _ _)
 
-mul-row : tie.Need-mul-row Inv-loop μ-loop
-mul-row c = search needs
-
-sub-row : tie.Need-sub-row Inv-loop μ-loop
-sub-row c = search needs
-
-shr-row : tie.Need-shr-row Inv-loop μ-loop
-shr-row c = search needs
-
 cast-row : tie.Need-cast-row Inv-loop μ-loop
 cast-row c = let m = mask-lt (c .before .before .args .w / 2 ^ (35 - 5 * c .before .loop .k)) 2 in omega arith
 
-add-row : tie.Need-add-row Inv-loop μ-loop
-add-row c = search needs
-
 slice-write-row : tie.Need-slice-write-row Inv-loop μ-loop
 slice-write-row c = let e = c .before .loop .inv .1 .long in omega arith
-
-add-k : tie.Need-add-k Inv-loop μ-loop
-add-k c = search needs
-
-loop-less : tie.Need-loop-less Inv-loop μ-loop
-loop-less c = search needs
 
 loop-again : tie.Need-loop-again Inv-loop μ-loop
 loop-again c =
@@ -66,14 +48,14 @@ put-fives-spec =
     Inv-loop
     μ-loop
     loop-holds
-    mul-row
-    sub-row
-    shr-row
+    (λ c. search needs)
+    (λ c. search needs)
+    (λ c. search needs)
     cast-row
-    add-row
+    (λ c. search needs)
     slice-write-row
-    add-k
-    loop-less
+    (λ c. search needs)
+    (λ c. search needs)
     loop-again
     same-length
     returns)

@@ -32,12 +32,6 @@ Inv-loop order group per b from s row₀ v k₀ row k = (k ≤ per) × Reached o
 abbrev μ-loop : tie.MeasureT-loop
 μ-loop order group per b from s row₀ v k₀ row k = per - k
 
-mul-eight : tie.Need-mul-eight Inv-loop μ-loop
-mul-eight c = search needs
-
-eight-requires : tie.Need-eight-requires Inv-loop μ-loop
-eight-requires c κs = search needs
-
 loop-holds : tie.Need-loop-holds Inv-loop μ-loop
 loop-holds c =
     let s = c .before .before .before in
@@ -86,18 +80,6 @@ add-row c =
     let k = c .before .before .before .loop .inv .0 in
     record { fits = omega arith }
 
-sub-row : tie.Need-sub-row Inv-loop μ-loop
-sub-row c = search needs
-
-slice-write-row : tie.Need-slice-write-row Inv-loop μ-loop
-slice-write-row c = search needs
-
-add-k : tie.Need-add-k Inv-loop μ-loop
-add-k c = search needs
-
-loop-less : tie.Need-loop-less Inv-loop μ-loop
-loop-less c = search needs
-
 loop-again : tie.Need-loop-again Inv-loop μ-loop
 loop-again c =
     let s = c .before .before .before .before .before .before .before in
@@ -139,8 +121,8 @@ forty-spec =
     (tie.spec
     Inv-loop
     μ-loop
-    mul-eight
-    eight-requires
+    (λ c. search needs)
+    (λ c κs. search needs)
     loop-holds
     mul-lone-at
     lone-at-requires
@@ -149,10 +131,10 @@ forty-spec =
     returns
     cast-row
     add-row
-    sub-row
-    slice-write-row
-    add-k
-    loop-less
+    (λ c. search needs)
+    (λ c. search needs)
+    (λ c. search needs)
+    (λ c. search needs)
     loop-again
     add-result-2
     same-length-2

@@ -7,21 +7,6 @@ use borrow.Author.Needs.{needs}
 use Rattle.pulses_rows.proofs.forties.lone_at.Statement.{statement}
 use Rattle.pulses_rows.proofs.forties.lone_at.Tie as tie
 
-sub-rest : tie.Need-sub-rest
-sub-rest c = search needs
-
-shl-single : tie.Need-shl-single
-shl-single c = search needs
-
-shr-single : tie.Need-shr-single
-shr-single c = search needs
-
-shl-single-2 : tie.Need-shl-single-2
-shl-single-2 c = search needs
-
-single-requires : tie.Need-single-requires
-single-requires c κs = search needs
-
 returns : tie.Need-returns
 returns c = λ l.
     let s = c .before in
@@ -31,4 +16,4 @@ returns c = λ l.
 
 pub lone-at-spec : {M : Type 1} → statement M
 lone-at-spec =
-    tie.close (tie.spec sub-rest shl-single shr-single shl-single-2 single-requires returns)
+    tie.close (tie.spec (λ c. search needs) (λ c. search needs) (λ c. search needs) (λ c. search needs) (λ c κs. search needs) returns)

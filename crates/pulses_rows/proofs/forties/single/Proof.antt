@@ -11,12 +11,6 @@ use Rattle.pulses_rows.proofs.forties.single.Tie as tie
 cast-t : tie.Need-cast-t
 cast-t c = let l = trailing-le 64 (c .args .v) in record { fits = omega arith }
 
-shl-if2 : tie.Need-shl-if2
-shl-if2 c = search needs
-
-sub-result : tie.Need-sub-result
-sub-result c = search needs
-
 returns : tie.Need-returns
 returns c = λ l.
     let v = c .before .before .args .v in
@@ -28,11 +22,5 @@ returns c = λ l.
     let same : 1 * 2 ^ t ≡ 2 ^ t = omega arith in
     e ∙ whole ∙ same ∙ ap (λ (k : ℕ). 2 ^ k) back
 
-returns-2 : tie.Need-returns-2
-returns-2 c = search needs
-
-returns-3 : tie.Need-returns-3
-returns-3 c = search needs
-
 pub single-spec : {M : Type 1} → statement M
-single-spec = tie.close (tie.spec cast-t shl-if2 sub-result returns returns-2 returns-3)
+single-spec = tie.close (tie.spec cast-t (λ c. search needs) (λ c. search needs) returns (λ c. search needs) (λ c. search needs))

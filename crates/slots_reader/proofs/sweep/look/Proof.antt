@@ -12,18 +12,6 @@ use borrow.Author.Needs.{needs}
 use Rattle.slots_reader.proofs.sweep.look.Statement.{statement}
 use Rattle.slots_reader.proofs.sweep.look.Tie as tie
 
-slice-aggregate-row-out : tie.Need-slice-aggregate-row-out
-slice-aggregate-row-out c = search needs
-
-row-out-requires : tie.Need-row-out-requires
-row-out-requires c κs = search needs
-
-returns : tie.Need-returns
-returns c = search needs
-
-slice-aggregate-rest-after : tie.Need-slice-aggregate-rest-after
-slice-aggregate-rest-after c = search needs
-
 rest-after-requires : tie.Need-rest-after-requires
 rest-after-requires c κs =
     let s = c .before .before .before .before .before .before .before .before in
@@ -52,9 +40,6 @@ rest-after-requires c κs =
       h .room,
     )
 
-same-length : tie.Need-same-length
-same-length c = search needs
-
 returns-2 : tie.Need-returns-2
 returns-2 c =
     let s = c .before .before .before .before .before .before .before .before .before .before .before in
@@ -65,10 +50,10 @@ pub look-spec : {M : Type 1} → statement M
 look-spec =
     tie.close
     (tie.spec
-    slice-aggregate-row-out
-    row-out-requires
-    returns
-    slice-aggregate-rest-after
+    (λ c. search needs)
+    (λ c κs. search needs)
+    (λ c. search needs)
+    (λ c. search needs)
     rest-after-requires
-    same-length
+    (λ c. search needs)
     returns-2)

@@ -26,12 +26,6 @@ add-least c =
     let m : s .args .n * 1 ≤ s .args .n * s .args .copies = mul-le-mul (le-refl (s .args .n)) (h .copies-least) in
     omega arith
 
-least-requires : tie.Need-least-requires
-least-requires c κs = search needs
-
-add-past-others : tie.Need-add-past-others
-add-past-others c = search needs
-
 mul-past-others : tie.Need-mul-past-others
 mul-past-others c =
     let s = c .before .before .before in
@@ -53,9 +47,6 @@ past-others-requires c κs =
     let k = next s (c .least .result) (c .least .ensures ∙ lesser-min (s .args .n) (s .args .c + 16)) in
     record { order = k .0; room = omega arith; long = s .pre .0 .long }
 
-div-result : tie.Need-div-result
-div-result c = search needs
-
 returns : tie.Need-returns
 returns c =
     let s = c .before .before .before .before in
@@ -74,10 +65,10 @@ others-end-spec =
     tie.close
     (tie.spec
     add-least
-    least-requires
-    add-past-others
+    (λ c κs. search needs)
+    (λ c. search needs)
     mul-past-others
     mul-past-others-2
     past-others-requires
-    div-result
+    (λ c. search needs)
     returns)

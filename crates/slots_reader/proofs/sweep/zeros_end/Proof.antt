@@ -12,14 +12,8 @@ ordered s = mul-le-mul (s .pre .order) (le-refl (s .args .copies))
 mul-past-zeros : tie.Need-mul-past-zeros
 mul-past-zeros c = let s = c .before .before in let o = ordered s in let r = s .pre .room in omega arith
 
-mul-past-zeros-2 : tie.Need-mul-past-zeros-2
-mul-past-zeros-2 c = search needs
-
 past-zeros-requires : tie.Need-past-zeros-requires
 past-zeros-requires c κs = let s = c .before .before in record { order = ordered s; room = s .pre .room; long = s .pre .long }
-
-div-result : tie.Need-div-result
-div-result c = search needs
 
 returns : tie.Need-returns
 returns c =
@@ -35,4 +29,4 @@ returns c =
 
 pub zeros-end-spec : {M : Type 1} → statement M
 zeros-end-spec =
-    tie.close (tie.spec mul-past-zeros mul-past-zeros-2 past-zeros-requires div-result returns)
+    tie.close (tie.spec mul-past-zeros (λ c. search needs) past-zeros-requires (λ c. search needs) returns)

@@ -12,15 +12,6 @@ use borrow.Author.Needs.{needs}
 use Rattle.stream_bits.proofs.marked.marker_byte.Statement.{statement}
 use Rattle.stream_bits.proofs.marked.marker_byte.Tie as tie
 
-sub-result : tie.Need-sub-result
-sub-result c = search needs
-
-sub-result-2 : tie.Need-sub-result-2
-sub-result-2 c = search needs
-
-shr-result : tie.Need-shr-result
-shr-result c = search needs
-
 cast-result : tie.Need-cast-result
 cast-result c = omega (arith, mask-lt (frameMarker / 2 ^ (markerBits - 8 - c .args .r)) 8)
 
@@ -32,4 +23,4 @@ returns c =
     ap (λ (v : ℕ). bitAnd (v / 2 ^ d) 255) (sym marker-val ∙ ap (val markerBit) e) ∙ cut-part markerBit marker-bits r 8 d
 
 pub marker-byte-spec : {M : Type 1} → statement M
-marker-byte-spec = tie.close (tie.spec sub-result sub-result-2 shr-result cast-result returns)
+marker-byte-spec = tie.close (tie.spec (λ c. search needs) (λ c. search needs) (λ c. search needs) cast-result returns)

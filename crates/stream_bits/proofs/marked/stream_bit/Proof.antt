@@ -12,9 +12,6 @@ use borrow.Author.Needs.{needs}
 use Rattle.stream_bits.proofs.marked.stream_bit.Statement.{statement}
 use Rattle.stream_bits.proofs.marked.stream_bit.Tie as tie
 
-span-requires : tie.Need-span-requires
-span-requires c κs = search needs
-
 mul-if1 : tie.Need-mul-if1
 mul-if1 c =
     let s = c .before .before in
@@ -29,12 +26,6 @@ returns c =
     let a = s .args in
     sym (stream-fill (a .size) (a .count) (a .frames .now) (a .x) (omega (arith, ap (λ (k : ℕ). a .count * k) (c .before .span .ensures))))
 
-rem-r : tie.Need-rem-r
-rem-r c = search needs
-
-marker-bit-requires : tie.Need-marker-bit-requires
-marker-bit-requires c κs = search needs
-
 returns-2 : tie.Need-returns-2
 unfolding streamBit
 returns-2 c =
@@ -45,12 +36,6 @@ returns-2 c =
     let d : a .x % c .before .before .before .span .result ≡ a .x % span (a .size) = ap (λ (k : ℕ). a .x % k) e in
     let m : a .x % span (a .size) < markerBits = omega arith in
     c .marker-bit .ensures ∙ ap markerBit d ∙ sym (rw (lt-ltb (a .x) (a .count * span (a .size)) h, lt-ltb (a .x % span (a .size)) markerBits m) refl)
-
-div-bit-at : tie.Need-div-bit-at
-div-bit-at c = search needs
-
-mul-bit-at : tie.Need-mul-bit-at
-mul-bit-at c = search needs
 
 mul-bit-at-2 : tie.Need-mul-bit-at-2
 mul-bit-at-2 c =
@@ -105,14 +90,14 @@ pub stream-bit-spec : {M : Type 1} → statement M
 stream-bit-spec =
     tie.close
     (tie.spec
-    span-requires
+    (λ c κs. search needs)
     mul-if1
     returns
-    rem-r
-    marker-bit-requires
+    (λ c. search needs)
+    (λ c κs. search needs)
     returns-2
-    div-bit-at
-    mul-bit-at
+    (λ c. search needs)
+    (λ c. search needs)
     mul-bit-at-2
     add-bit-at
     bit-at-requires

@@ -23,9 +23,6 @@ add-if1 c =
     let inside = s .pre .inside in
     omega arith
 
-info-bits-requires : tie.Need-info-bits-requires
-info-bits-requires c κs = search needs
-
 returns : tie.Need-returns
 returns c = λ e. absurd (false≢true e)
 
@@ -65,4 +62,4 @@ returns-2 c =
 pub eight-zeros-spec : {M : Type 1} → statement M
 eight-zeros-spec =
     tie.close
-    (tie.spec add-if1 info-bits-requires returns packed-bit-requires byte-from-requires returns-2)
+    (tie.spec add-if1 (λ c κs. search needs) returns packed-bit-requires byte-from-requires returns-2)

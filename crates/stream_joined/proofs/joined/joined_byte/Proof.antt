@@ -22,9 +22,6 @@ add-if1 c =
     let inside = s .pre .inside in
     omega arith
 
-info-bits-requires : tie.Need-info-bits-requires
-info-bits-requires c κs = search needs
-
 packed-bit-requires : tie.Need-packed-bit-requires
 packed-bit-requires c κs =
     let s = c .before .before .before in
@@ -49,9 +46,6 @@ returns c =
     c .byte-from .ensures ∙ ap (λ (y : ℕ). val (λ t. bitAt (a .blocks .now) (y + t)) 8) (c .before .packed-bit .ensures)
     ∙ byte-there (a .rate) (a .blocks .now) (a .at) (s .pre .held .lie .rate3) l
 
-joined-eight-requires : tie.Need-joined-eight-requires
-joined-eight-requires c κs = search needs
-
 cast-result : tie.Need-cast-result
 cast-result c =
     omega (arith, mask-lt (c .joined-eight .result) 8)
@@ -68,10 +62,10 @@ joined-byte-spec =
     tie.close
     (tie.spec
     add-if1
-    info-bits-requires
+    (λ c κs. search needs)
     packed-bit-requires
     byte-from-requires
     returns
-    joined-eight-requires
+    (λ c κs. search needs)
     cast-result
     returns-2)

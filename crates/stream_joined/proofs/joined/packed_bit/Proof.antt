@@ -8,9 +8,6 @@ use borrow.Author.Needs.{needs}
 use Rattle.stream_joined.proofs.joined.packed_bit.Statement.{statement}
 use Rattle.stream_joined.proofs.joined.packed_bit.Tie as tie
 
-block-bytes-requires : tie.Need-block-bytes-requires
-block-bytes-requires c κs = search needs
-
 mul-result : tie.Need-mul-result
 mul-result c =
     let s = c .before in
@@ -45,4 +42,4 @@ returns c =
 
 pub packed-bit-spec : {M : Type 1} → statement M
 packed-bit-spec =
-    tie.close (tie.spec block-bytes-requires mul-result mul-result-2 add-result returns)
+    tie.close (tie.spec (λ c κs. search needs) mul-result mul-result-2 add-result returns)

@@ -10,15 +10,9 @@ use borrow.Author.Needs.{needs}
 use Rattle.stream_joined.proofs.looks.zeros_at.Statement.{statement}
 use Rattle.stream_joined.proofs.looks.zeros_at.Tie as tie
 
-eight-zeros-requires : tie.Need-eight-zeros-requires
-eight-zeros-requires c κs = search needs
-
 returns : tie.Need-returns
 returns c =
     c .before .eight-zeros .ensures (c .if1 .taken)
-
-joined-bit-requires : tie.Need-joined-bit-requires
-joined-bit-requires c κs = search needs
 
 returns-2 : tie.Need-returns-2
 returns-2 c =
@@ -35,9 +29,6 @@ returns-2 c =
       stop = λ q. absurd (omega arith);
     }
 
-returns-3 : tie.Need-returns-3
-returns-3 c = search needs
-
 pub zeros-at-spec : {M : Type 1} → statement M
 zeros-at-spec =
-    tie.close (tie.spec eight-zeros-requires returns joined-bit-requires returns-2 returns-3)
+    tie.close (tie.spec (λ c κs. search needs) returns (λ c κs. search needs) returns-2 (λ c. search needs))

@@ -24,20 +24,11 @@ two-lines-requires c κs =
     let s = c .before .before .before .before .before .before in
     (s .pre .0, s .pre .1, omega arith, l .inv .1, l .inv .2)
 
-add-n : tie.Need-add-n Inv-loop μ-loop
-add-n c = search needs
-
-loop-less : tie.Need-loop-less Inv-loop μ-loop
-loop-less c = search needs
-
 loop-again : tie.Need-loop-again Inv-loop μ-loop
 loop-again c =
     let l = c .before .before .before .before .before .loop in
     let o = c .before .before .two-lines in
     (search needs, o .kept .1 .1 .1 .0 ∙ l .inv .1, λ k h. o .ensures k (omega arith))
-
-same-length : tie.Need-same-length Inv-loop μ-loop
-same-length c = search needs
 
 returns : tie.Need-returns Inv-loop μ-loop
 returns c = λ k h. c .before .loop .inv .2 k (omega arith)
@@ -50,8 +41,8 @@ all-lines-spec =
     μ-loop
     loop-holds
     two-lines-requires
-    add-n
-    loop-less
+    (λ c. search needs)
+    (λ c. search needs)
     loop-again
-    same-length
+    (λ c. search needs)
     returns)

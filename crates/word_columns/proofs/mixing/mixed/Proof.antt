@@ -20,24 +20,6 @@ loop-holds : tie.Need-loop-holds Inv-loop μ-loop
 unfolding mixSum
 loop-holds c = (search needs, refl)
 
-mul-chosen : tie.Need-mul-chosen Inv-loop μ-loop
-mul-chosen c = search needs
-
-add-chosen : tie.Need-add-chosen Inv-loop μ-loop
-add-chosen c = search needs
-
-shared-slice-read-chosen : tie.Need-shared-slice-read-chosen Inv-loop μ-loop
-shared-slice-read-chosen c = search needs
-
-mul-chosen-2 : tie.Need-mul-chosen-2 Inv-loop μ-loop
-mul-chosen-2 c = search needs
-
-add-chosen-2 : tie.Need-add-chosen-2 Inv-loop μ-loop
-add-chosen-2 c = search needs
-
-shared-slice-read-chosen-2 : tie.Need-shared-slice-read-chosen-2 Inv-loop μ-loop
-shared-slice-read-chosen-2 c = search needs
-
 chosen-requires : tie.Need-chosen-requires Inv-loop μ-loop
 chosen-requires c κs = let s = c .before .before .before .before .before .before in s .pre .0 .bits (s .args .x + 2160 * c .before .before .before .loop .i)
 
@@ -48,12 +30,6 @@ add-v c =
     let h : ℕ → ℕ = λ i. getD (s .args .coded .now) (s .args .x + 2160 * i) 0 in
     let w : ℕ → ℕ = λ i. getD (s .args .mask .now) (144 * i + s .args .y) 0 in
     omega (arith, l .inv .1, c .chosen .ensures, mix-fits h w (λ i. s .pre .0 .bits (s .args .x + 2160 * i)) (s .pre .1 .fits (s .args .y) (s .pre .3)) (l .i) (omega arith))
-
-add-i : tie.Need-add-i Inv-loop μ-loop
-add-i c = search needs
-
-loop-less : tie.Need-loop-less Inv-loop μ-loop
-loop-less c = search needs
 
 loop-again : tie.Need-loop-again Inv-loop μ-loop
 unfolding mixSum
@@ -76,15 +52,15 @@ mixed-spec =
     Inv-loop
     μ-loop
     loop-holds
-    mul-chosen
-    add-chosen
-    shared-slice-read-chosen
-    mul-chosen-2
-    add-chosen-2
-    shared-slice-read-chosen-2
+    (λ c. search needs)
+    (λ c. search needs)
+    (λ c. search needs)
+    (λ c. search needs)
+    (λ c. search needs)
+    (λ c. search needs)
     chosen-requires
     add-v
-    add-i
-    loop-less
+    (λ c. search needs)
+    (λ c. search needs)
     loop-again
     returns)

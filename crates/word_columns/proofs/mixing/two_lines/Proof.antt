@@ -15,33 +15,15 @@ Inv-loop coded mask n v₀ at y₀ v y = (y ≤ 144) × (length v ≡ 4320) × (
 abbrev μ-loop : tie.MeasureT-loop
 μ-loop coded mask n v₀ at y₀ v y = 144 - y
 
-mul-at : tie.Need-mul-at Inv-loop μ-loop
-mul-at c = search needs
-
 loop-holds : tie.Need-loop-holds Inv-loop μ-loop
 loop-holds c =
     let s = c .before .before .before in
     (search needs, s .pre .3, λ k h. s .pre .4 k (omega arith))
 
-add-mixed : tie.Need-add-mixed Inv-loop μ-loop
-add-mixed c = search needs
-
 mixed-requires : tie.Need-mixed-requires Inv-loop μ-loop
 mixed-requires c κs =
     let s = c .before .before .before .before .before in
     (s .pre .0, s .pre .1, omega arith, omega arith)
-
-add-v : tie.Need-add-v Inv-loop μ-loop
-add-v c = search needs
-
-slice-write-v : tie.Need-slice-write-v Inv-loop μ-loop
-slice-write-v c = search needs
-
-add-y : tie.Need-add-y Inv-loop μ-loop
-add-y c = search needs
-
-loop-less : tie.Need-loop-less Inv-loop μ-loop
-loop-less c = search needs
 
 loop-again : tie.Need-loop-again Inv-loop μ-loop
 unfolding mixedAt
@@ -57,9 +39,6 @@ loop-again c =
           (l .inv .2) k (omega arith),
     )
 
-same-length : tie.Need-same-length Inv-loop μ-loop
-same-length c = search needs
-
 returns : tie.Need-returns Inv-loop μ-loop
 returns c = λ k h. c .before .loop .inv .2 k (omega arith)
 
@@ -69,14 +48,14 @@ two-lines-spec =
     (tie.spec
     Inv-loop
     μ-loop
-    mul-at
+    (λ c. search needs)
     loop-holds
-    add-mixed
+    (λ c. search needs)
     mixed-requires
-    add-v
-    slice-write-v
-    add-y
-    loop-less
+    (λ c. search needs)
+    (λ c. search needs)
+    (λ c. search needs)
+    (λ c. search needs)
     loop-again
-    same-length
+    (λ c. search needs)
     returns)

@@ -17,21 +17,6 @@ abbrev μ-loop : tie.MeasureT-loop
 loop-holds : tie.Need-loop-holds Inv-loop μ-loop
 loop-holds c = (search needs, c .pre .1 .0, (c .pre .1 .1, λ u h. absurd (omega arith)))
 
-mul-seen : tie.Need-mul-seen Inv-loop μ-loop
-mul-seen c = search needs
-
-mul-seen-2 : tie.Need-mul-seen-2 Inv-loop μ-loop
-mul-seen-2 c = search needs
-
-add-seen : tie.Need-add-seen Inv-loop μ-loop
-add-seen c = search needs
-
-mul-seen-3 : tie.Need-mul-seen-3 Inv-loop μ-loop
-mul-seen-3 c = search needs
-
-shared-slice-read-seen : tie.Need-shared-slice-read-seen Inv-loop μ-loop
-shared-slice-read-seen c = search needs
-
 add-seen-2 : tie.Need-add-seen-2 Inv-loop μ-loop
 add-seen-2 c =
     let s = c .before .before .before in
@@ -42,35 +27,11 @@ shared-slice-read-seen-2 c =
     let s = c .before .before .before .before in
     omega (arith, s .pre .0 .1 .room (8 * s .args .k + c .before .before .before .loop .t) (omega arith))
 
-mul-seen-4 : tie.Need-mul-seen-4 Inv-loop μ-loop
-mul-seen-4 c = search needs
-
-mul-seen-5 : tie.Need-mul-seen-5 Inv-loop μ-loop
-mul-seen-5 c = search needs
-
-add-seen-3 : tie.Need-add-seen-3 Inv-loop μ-loop
-add-seen-3 c = search needs
-
-add-seen-4 : tie.Need-add-seen-4 Inv-loop μ-loop
-add-seen-4 c = search needs
-
-slice-write-seen : tie.Need-slice-write-seen Inv-loop μ-loop
-slice-write-seen c = search needs
-
-add-t : tie.Need-add-t Inv-loop μ-loop
-add-t c = search needs
-
-loop-less : tie.Need-loop-less Inv-loop μ-loop
-loop-less c = search needs
-
 loop-again : tie.Need-loop-again Inv-loop μ-loop
 loop-again c =
     let l = c .before .before .before .loop in
     let s = c .before .before .before .before in
     (search needs, search needs, begun-more (s .args .v .now) (s .args .at .now) (s .args .k) (s .args .n) (s .pre .0 .2) (s .pre .0 .3) (l .t) _ (l .seen) (omega arith) (l .inv .1) refl (l .inv .2))
-
-same-length : tie.Need-same-length Inv-loop μ-loop
-same-length c = search needs
 
 returns : tie.Need-returns Inv-loop μ-loop
 returns c =
@@ -86,20 +47,20 @@ eight-spec =
     Inv-loop
     μ-loop
     loop-holds
-    mul-seen
-    mul-seen-2
-    add-seen
-    mul-seen-3
-    shared-slice-read-seen
+    (λ c. search needs)
+    (λ c. search needs)
+    (λ c. search needs)
+    (λ c. search needs)
+    (λ c. search needs)
     add-seen-2
     shared-slice-read-seen-2
-    mul-seen-4
-    mul-seen-5
-    add-seen-3
-    add-seen-4
-    slice-write-seen
-    add-t
-    loop-less
+    (λ c. search needs)
+    (λ c. search needs)
+    (λ c. search needs)
+    (λ c. search needs)
+    (λ c. search needs)
+    (λ c. search needs)
+    (λ c. search needs)
     loop-again
-    same-length
+    (λ c. search needs)
     returns)

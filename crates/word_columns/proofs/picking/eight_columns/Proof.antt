@@ -23,20 +23,11 @@ eight-requires c κs =
     let s = c .before .before .before .before .before .before in
     ((s .pre .0 .0, s .pre .0 .1, s .pre .0 .2, omega arith), (l .inv .1, l .inv .2))
 
-add-n : tie.Need-add-n Inv-loop μ-loop
-add-n c = search needs
-
-loop-less : tie.Need-loop-less Inv-loop μ-loop
-loop-less c = search needs
-
 loop-again : tie.Need-loop-again Inv-loop μ-loop
 loop-again c =
     let l = c .before .before .before .before .before .loop in
     let o = c .before .before .eight in
     (search needs, o .kept .1 .1 .1 .1 .0 ∙ l .inv .1, λ y h g. o .ensures y h (omega arith))
-
-same-length : tie.Need-same-length Inv-loop μ-loop
-same-length c = search needs
 
 returns : tie.Need-returns Inv-loop μ-loop
 returns c = λ y h g. c .before .loop .inv .2 y h (omega arith)
@@ -49,8 +40,8 @@ eight-columns-spec =
     μ-loop
     loop-holds
     eight-requires
-    add-n
-    loop-less
+    (λ c. search needs)
+    (λ c. search needs)
     loop-again
-    same-length
+    (λ c. search needs)
     returns)

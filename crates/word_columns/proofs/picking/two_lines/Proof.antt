@@ -16,46 +16,10 @@ Inv-loop seen mask k coded₀ from by y₀ coded y = (y ≤ 144) × (length code
 abbrev μ-loop : tie.MeasureT-loop
 μ-loop seen mask k coded₀ from by y₀ coded y = 144 - y
 
-mul-from : tie.Need-mul-from Inv-loop μ-loop
-mul-from c = search needs
-
-mul-by : tie.Need-mul-by Inv-loop μ-loop
-mul-by c = search needs
-
 loop-holds : tie.Need-loop-holds Inv-loop μ-loop
 loop-holds c =
     let s = c .before .before .before in
     (search needs, s .pre .3, λ k h. s .pre .4 k (omega arith))
-
-add-has-bit : tie.Need-add-has-bit Inv-loop μ-loop
-add-has-bit c = search needs
-
-shared-slice-read-has-bit : tie.Need-shared-slice-read-has-bit Inv-loop μ-loop
-shared-slice-read-has-bit c = search needs
-
-add-has-bit-2 : tie.Need-add-has-bit-2 Inv-loop μ-loop
-add-has-bit-2 c = search needs
-
-shared-slice-read-has-bit-2 : tie.Need-shared-slice-read-has-bit-2 Inv-loop μ-loop
-shared-slice-read-has-bit-2 c = search needs
-
-has-bit-requires : tie.Need-has-bit-requires Inv-loop μ-loop
-has-bit-requires c κs = search needs
-
-mul-coded : tie.Need-mul-coded Inv-loop μ-loop
-mul-coded c = search needs
-
-add-coded : tie.Need-add-coded Inv-loop μ-loop
-add-coded c = search needs
-
-slice-write-coded : tie.Need-slice-write-coded Inv-loop μ-loop
-slice-write-coded c = search needs
-
-add-y : tie.Need-add-y Inv-loop μ-loop
-add-y c = search needs
-
-loop-less : tie.Need-loop-less Inv-loop μ-loop
-loop-less c = search needs
 
 loop-again : tie.Need-loop-again Inv-loop μ-loop
 unfolding splitAt
@@ -75,9 +39,6 @@ loop-again c =
           (l .inv .2) j (omega arith),
     )
 
-same-length : tie.Need-same-length Inv-loop μ-loop
-same-length c = search needs
-
 returns : tie.Need-returns Inv-loop μ-loop
 returns c = λ k h. c .before .loop .inv .2 k (omega arith)
 
@@ -87,19 +48,19 @@ two-lines-spec =
     (tie.spec
     Inv-loop
     μ-loop
-    mul-from
-    mul-by
+    (λ c. search needs)
+    (λ c. search needs)
     loop-holds
-    add-has-bit
-    shared-slice-read-has-bit
-    add-has-bit-2
-    shared-slice-read-has-bit-2
-    has-bit-requires
-    mul-coded
-    add-coded
-    slice-write-coded
-    add-y
-    loop-less
+    (λ c. search needs)
+    (λ c. search needs)
+    (λ c. search needs)
+    (λ c. search needs)
+    (λ c κs. search needs)
+    (λ c. search needs)
+    (λ c. search needs)
+    (λ c. search needs)
+    (λ c. search needs)
+    (λ c. search needs)
     loop-again
-    same-length
+    (λ c. search needs)
     returns)

@@ -33,21 +33,6 @@ mul-copy-part c =
     let b : a .by ≤ 210 = omega arith in
     omega (arith, mul-le-mul b h)
 
-mul-copy-part-2 : tie.Need-mul-copy-part-2 Inv-loop μ-loop
-mul-copy-part-2 c = search needs
-
-mul-copy-part-3 : tie.Need-mul-copy-part-3 Inv-loop μ-loop
-mul-copy-part-3 c = search needs
-
-copy-part-requires : tie.Need-copy-part-requires Inv-loop μ-loop
-copy-part-requires c κs = search needs
-
-add-r : tie.Need-add-r Inv-loop μ-loop
-add-r c = search needs
-
-loop-less : tie.Need-loop-less Inv-loop μ-loop
-loop-less c = search needs
-
 loop-again : tie.Need-loop-again Inv-loop μ-loop
 loop-again c =
     let l = c .before .before .before .before .before .loop in
@@ -73,11 +58,11 @@ nines-spec =
     μ-loop
     loop-holds
     mul-copy-part
-    mul-copy-part-2
-    mul-copy-part-3
-    copy-part-requires
-    add-r
-    loop-less
+    (λ c. search needs)
+    (λ c. search needs)
+    (λ c κs. search needs)
+    (λ c. search needs)
+    (λ c. search needs)
     loop-again
     same-length
     returns)

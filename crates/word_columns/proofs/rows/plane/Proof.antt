@@ -19,53 +19,14 @@ loop-holds c =
     let s = c .before .before in
     (search needs, search needs, partly-none (s .args .planes .now) (s .args .m) (s .args .v .now) (s .pre .3))
 
-mul-b : tie.Need-mul-b Inv-loop μ-loop
-mul-b c = search needs
-
-add-b : tie.Need-add-b Inv-loop μ-loop
-add-b c = search needs
-
-shared-slice-read-b : tie.Need-shared-slice-read-b Inv-loop μ-loop
-shared-slice-read-b c = search needs
-
-mul-v : tie.Need-mul-v Inv-loop μ-loop
-mul-v c = search needs
-
-add-v : tie.Need-add-v Inv-loop μ-loop
-add-v c = search needs
-
-slice-write-v : tie.Need-slice-write-v Inv-loop μ-loop
-slice-write-v c = search needs
-
-turn-requires : tie.Need-turn-requires Inv-loop μ-loop
-turn-requires c κs = search needs
-
-mul-v-2 : tie.Need-mul-v-2 Inv-loop μ-loop
-mul-v-2 c = search needs
-
-add-v-2 : tie.Need-add-v-2 Inv-loop μ-loop
-add-v-2 c = search needs
-
-add-v-3 : tie.Need-add-v-3 Inv-loop μ-loop
-add-v-3 c = search needs
-
 slice-write-v-2 : tie.Need-slice-write-v-2 Inv-loop μ-loop
 slice-write-v-2 c = simp length-set (omega arith)
-
-add-x : tie.Need-add-x Inv-loop μ-loop
-add-x c = search needs
-
-loop-less : tie.Need-loop-less Inv-loop μ-loop
-loop-less c = search needs
 
 loop-again : tie.Need-loop-again Inv-loop μ-loop
 loop-again c =
     let l = c .before .before .before .loop in
     let s = c .before .before .before .before .before .before in
     (search needs, simp length-set (l .inv .1), partly-more (s .args .planes .now) (s .args .m) (l .v) (l .x) _ _ (omega arith) (omega arith) refl (c .turn .ensures) (l .inv .2))
-
-same-length : tie.Need-same-length Inv-loop μ-loop
-same-length c = search needs
 
 returns : tie.Need-returns Inv-loop μ-loop
 returns c = λ k h. c .before .loop .inv .2 k h (λ a. omega arith)
@@ -77,19 +38,19 @@ plane-spec =
     Inv-loop
     μ-loop
     loop-holds
-    mul-b
-    add-b
-    shared-slice-read-b
-    mul-v
-    add-v
-    slice-write-v
-    turn-requires
-    mul-v-2
-    add-v-2
-    add-v-3
+    (λ c. search needs)
+    (λ c. search needs)
+    (λ c. search needs)
+    (λ c. search needs)
+    (λ c. search needs)
+    (λ c. search needs)
+    (λ c κs. search needs)
+    (λ c. search needs)
+    (λ c. search needs)
+    (λ c. search needs)
     slice-write-v-2
-    add-x
-    loop-less
+    (λ c. search needs)
+    (λ c. search needs)
     loop-again
-    same-length
+    (λ c. search needs)
     returns)

@@ -20,20 +20,8 @@ loop-holds c = (search needs, turned-none _ _)
 slice-read-turn : tie.Need-slice-read-turn Inv-loop μ-loop
 slice-read-turn c = let e = c .before .before .loop .inv .1 .long in omega arith
 
-turn-requires : tie.Need-turn-requires Inv-loop μ-loop
-turn-requires c κs = search needs
-
-add-v : tie.Need-add-v Inv-loop μ-loop
-add-v c = search needs
-
 slice-write-v : tie.Need-slice-write-v Inv-loop μ-loop
 slice-write-v c = let e = c .before .before .before .loop .inv .1 .long in omega arith
-
-add-x : tie.Need-add-x Inv-loop μ-loop
-add-x c = search needs
-
-loop-less : tie.Need-loop-less Inv-loop μ-loop
-loop-less c = search needs
 
 loop-again : tie.Need-loop-again Inv-loop μ-loop
 loop-again c =
@@ -58,11 +46,11 @@ turned-spec =
     μ-loop
     loop-holds
     slice-read-turn
-    turn-requires
-    add-v
+    (λ c κs. search needs)
+    (λ c. search needs)
     slice-write-v
-    add-x
-    loop-less
+    (λ c. search needs)
+    (λ c. search needs)
     loop-again
     same-length
     returns)
