@@ -2,9 +2,7 @@
 ghost use mathlib.Core.Path.{_≡_};
 ghost use Prim.Native.Nat.{ℕ, _+_, _*_, _≤_, _<_};
 ghost use lib.ListN.{length, getD};
-ghost use Rattle.bits.specs.Basics.{upTo};
-ghost use Rattle.pulses.specs.Inner.{Slots, Forties, Zeros, Same};
-ghost use Rattle.pulses.specs.Pulses.{grouped};
+ghost use Rattle.pulses.specs.Inner.{Forties, Zeros, Same};
 
 // Forty bytes of zeros' slots.
 pub fn zeros(group: usize) -> [u8; 40]
@@ -62,32 +60,4 @@ pub fn past_others(b: &[u8], given: &[u8], c: usize, n: usize) -> usize
         k += 1;
     }
     k
-}
-
-// The first bad group of those from `from` on, or `to`.
-pub fn bad_group_in(order: usize, group: usize, b: &[u8], from: usize, to: usize) -> usize
-    requires { ⌜ Slots order group to (now b) × (from ≤ to) ⌝ }
-    ensures { λ r. ⌜ r ≡ upTo (grouped order group (now (b .entry))) from to ⌝ }
-{
-    let mut s = from;
-    while s < to {
-        if crate::symbol_in(order, group, b, s) >= order {
-            return s;
-        }
-        s += 1;
-    }
-    s
-}
-
-// The same, all at once where at least eight bytes follow them.
-pub fn bad_group_among(order: usize, group: usize, b: &[u8], from: usize, to: usize) -> usize
-    requires { ⌜ Slots order group to (now b) × (from ≤ to) ⌝ }
-    ensures { λ r. ⌜ r ≡ upTo (grouped order group (now (b .entry))) from to ⌝ }
-{
-    if to * group / 8 + 8 < b.len() {
-        if crate::numbers::all_good(order, group, b, from, to) {
-            return to;
-        }
-    }
-    bad_group_in(order, group, b, from, to)
 }
