@@ -374,7 +374,7 @@ CRATES ?= bits answers sizes crc convolution transpose word_columns decoder inte
     accumulator randomizer word_writer word_reader pass pass_writer pass_reader spread header \
     header_sizes header_questions header_convert parameters plan stream_writer stream_reader \
     pulses pool pulses_rows pool_rows channel fades delay slots_moves slots_lines slots_writer \
-    slots_symbols slots_residues slots_places slots_reader pattern_search capture_search capture_cut \
+    slots_symbols slots_residues slots_flat slots_places slots_reader pattern_search capture_search capture_cut \
     run_writer run_reader \
     rack_entries rack_asked rack_calls ldpc uplink uplink_writer uplink_reader c_calls sheet \
     runsheet
