@@ -1,4 +1,5 @@
-// Question 10 of a stretch of symbols that are sent several times in a row, and the symbols in it, a byte to a symbol.
+// Question 10 of a stretch of symbols that are sent several times in a row, and the symbols in it, a byte to a
+// symbol.
 mod near;
 
 ghost use mathlib.Core.Path.{_≡_};
@@ -11,8 +12,8 @@ ghost use Rattle.pool.specs.Pooled.{pooled, decided};
 ghost use Rattle.pulses_rows.specs.Inner.{Known, Reached};
 ghost use Rattle.pool_rows.specs.Inner.{Ahead};
 
-// The first symbol from s on whose copies do not decide on one, or `to`, where those from `from` on up to s are in the row
-// already; and where there is none, the symbols. Symbol after symbol.
+// The first symbol from s on whose copies do not decide on one, or `to`, where those from `from` on up to s are in
+// the row already; and where there is none, the symbols. Symbol after symbol.
 fn singly(
     b: &[u8],
     copies: usize,
@@ -65,7 +66,8 @@ fn exact(
     s + 1
 }
 
-// The symbols from `from` on, up to the first whose copies do not decide on one, or `to`. Only those that are not seen at once are counted.
+// The symbols from `from` on, up to the first whose copies do not decide on one, or `to`. Pulses are counted only
+// where no slot is seen to lead.
 fn ahead(
     b: &[u8],
     copies: usize,
@@ -89,7 +91,8 @@ fn ahead(
     s
 }
 
-// So many symbols from `from` on that a copy has at most forty slots and at least eight bytes follow; or none.
+// Up to which of the symbols from `from` on at least eight bytes follow; `from` where a copy has more than forty
+// slots.
 fn near_end(b: &[u8], copies: usize, group: usize, from: usize, to: usize) -> usize
     requires { ⌜ (4 ≤ group) × (copies ≤ 32) × (from ≤ to) × (to * (copies * group) ≤ 8 * length (now b)) × (to * (copies * group) < 2 ^ 36) ⌝ }
     ensures { λ r. ⌜ (from ≤ r) × (r ≤ to) × (from < r → Ahead group copies (now (b .entry)) r) ⌝ }
@@ -103,7 +106,8 @@ fn near_end(b: &[u8], copies: usize, group: usize, from: usize, to: usize) -> us
     pulses_rows::clear_end(copies * group, b, from, to)
 }
 
-// Question 10: the first symbol from `from` on whose copies do not decide on one, or `to`; and where there is none, the symbols.
+// Question 10: the first symbol from `from` on whose copies do not decide on one, or `to`; and where there is none,
+// the symbols.
 pub fn row_out(
     b: &[u8],
     copies: usize,

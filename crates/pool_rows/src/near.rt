@@ -1,5 +1,6 @@
-// Symbols whose copies have at most forty slots each: the copies are joined as numbers, with the slots in which one has a pulse and those in
-// which several have. If a single slot has several, it has more than any other; and so it has if none has several and a single one has any.
+// Symbols whose copies have at most forty slots each: the copies are joined as numbers, one with the slots that have
+// a pulse in some copy and one with those that have several. A single slot with several pulses leads, and so does a
+// single slot with any if none has several.
 ghost use mathlib.Core.Path.{_≡_};
 ghost use Prim.Native.Nat.{ℕ, _+_, _-_, _*_, _≤_, _<_};
 ghost use lib.Dec.{eqb};
@@ -54,7 +55,7 @@ fn decisive(b: &[u8], copies: usize, group: usize, y: usize) -> usize
     settled(any, several, group)
 }
 
-// The same where the copies are within one number.
+// The same where all copies are within one number.
 fn decisive_short(b: &[u8], copies: usize, group: usize, y: usize) -> usize
     requires { ⌜ Near group copies (now b) y × (copies * group ≤ 57) ⌝ }
     ensures { λ r. ⌜ (r < group → peak (pulsesAt (now (b .entry)) group y copies) group ≡ r) ⌝ }
@@ -72,7 +73,7 @@ fn decisive_short(b: &[u8], copies: usize, group: usize, y: usize) -> usize
     settled(any, several, group)
 }
 
-// The one or the other.
+// The same, by one number or by one for each copy.
 fn slot_of(b: &[u8], copies: usize, group: usize, y: usize) -> usize
     requires { ⌜ Near group copies (now b) y ⌝ }
     ensures { λ r. ⌜ (r < group → peak (pulsesAt (now (b .entry)) group y copies) group ≡ r) ⌝ }
@@ -83,7 +84,8 @@ fn slot_of(b: &[u8], copies: usize, group: usize, y: usize) -> usize
     decisive(b, copies, group, y)
 }
 
-// The symbols from s on up to the first of which that is not seen, or `to`, where those from `from` on up to s are in the row already.
+// The symbols from s on, up to the first for which no slot is seen to lead, or `to`; those from `from` on up to s are
+// in the row already.
 pub fn near_row(
     b: &[u8],
     copies: usize,

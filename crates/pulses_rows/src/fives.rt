@@ -1,4 +1,5 @@
-// Groups of five slots, eight of them in forty: every fifth bit of a number is one slot of each, and no branch depends on a symbol.
+// Groups of five slots, eight of them in forty: every fifth bit of a number is one slot of each, and no branch
+// depends on a symbol.
 ghost use mathlib.Core.Path.{_≡_};
 ghost use Prim.Native.Nat.{ℕ, _+_, _-_, _*_, _≤_, _<_};
 ghost use lib.Bits.{bitOr};
@@ -6,8 +7,8 @@ ghost use lib.ListN.{length};
 ghost use Rattle.pulses.specs.Pulses.{symbolIn};
 ghost use Rattle.pulses_rows.specs.Inner.{Known, Reached, Forty, Clear, digit, Single, fiveOf, Fives};
 
-// 0 only where each of eight groups has one pulse, and that not in the guard slot: an odd number of pulses in its first four slots, and not both
-// of the first two, nor both of the others.
+// 0 only where each of eight groups has one pulse, and that not in the guard slot: an odd number of pulses in its
+// first four slots, and not both of the first two, nor both of the others.
 fn bad_fives(v: u64) -> u64
     ensures { λ r. ⌜ (r ≡ 0 → (k : ℕ) → k < 8 → Single (digit v (5 * k + 4)) (digit v (5 * k + 3)) (digit v (5 * k + 2)) (digit v (5 * k + 1)) (digit v (5 * k))) ⌝ }
 {

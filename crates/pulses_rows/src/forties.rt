@@ -1,4 +1,5 @@
-// Groups of up to forty slots, from a group on that begins on a byte: forty slots hold several, and are read as one number.
+// Groups of up to forty slots, from a group on that begins on a byte: forty slots hold several, and are read as one
+// number.
 ghost use mathlib.Core.Path.{_≡_};
 ghost use Prim.Native.Nat.{ℕ, _+_, _-_, _*_, _/_, _^_, _≤_, _<_};
 ghost use lib.Dec.{eqb};

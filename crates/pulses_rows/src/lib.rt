@@ -1,4 +1,5 @@
-// Question 10 of a stretch of groups, and the symbols in it, a byte to a symbol: each group is read once.
+// Question 10 of a stretch of groups, and the symbols in it, a byte to a symbol. Up to M = 64 each group is read
+// once.
 mod eighties;
 mod fives;
 pub mod forties;
@@ -40,7 +41,7 @@ fn singly(
     k
 }
 
-// So many of them from `from` on that at least eight bytes follow, or none.
+// Up to which of the groups, or symbols, from `from` on at least eight bytes follow; `from` where that is not known.
 pub fn clear_end(size: usize, b: &[u8], from: usize, to: usize) -> usize
     requires { ⌜ (4 ≤ size) × (from ≤ to) × (to * size ≤ 8 * length (now b)) × (to * size < 2 ^ 36) ⌝ }
     ensures { λ r. ⌜ (from ≤ r) × (r ≤ to) × (from < r → r * size + 64 ≤ 8 * length (now (b .entry))) ⌝ }
@@ -78,7 +79,7 @@ fn good_row(order: usize, group: usize, b: &[u8], from: usize, to: usize, row: &
     from
 }
 
-// The symbols of the groups from `from` on, up to the first that may be bad, or `to`, or before.
+// The symbols of groups from `from` on: of none that may be bad, and not necessarily of all before it.
 fn ahead(order: usize, group: usize, b: &[u8], from: usize, to: usize, row: &mut [u8]) -> usize
     requires { ⌜ Slots order group to (now b) × Clear order group (now b) from to × (to ≤ from + length (now row)) ⌝ }
     ensures { λ r. ⌜ Reached order (symbolIn order group (now (b .entry))) (now (row .entry)) from to r (now (row .exit)) ⌝ }

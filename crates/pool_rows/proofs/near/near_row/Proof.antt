@@ -113,7 +113,7 @@ loop-again c =
     let from = l .inv .1 in
     let big = z .group-least in
     let y = l .inv .2 in
-    let small : o .result < a .order = c .if1 .left in
+    let small : o .result < a .order = omega arith in
     let symbol = pooled-peak (a .b .now) (a .copies) (a .group) (a .order) (l .k) (l .y) (o .result) big small y (o .ensures (omega arith)) in
     (reach-more _ _ _ _ _ _ (o .result) _ (l .inv .0) (omega arith) (omega arith) (z .order-most) small symbol, omega arith, omega arith)
 
