@@ -388,10 +388,10 @@ CRATES ?= bits answers sizes crc_steps crc_check convolution encoder_turns encod
     header_tests header_marks header_answers header_convert parameters plan stream_bits \
     stream_blocks stream_joined stream_questions stream_frames pulses pool pulses_rows pool_rows \
     channel fades_list fades_walk fades_count delay_rows delay_step slots_moves slots_lines \
-    slots_gather slots_units slots_rows slots_writer slots_symbols slots_residues slots_places \
-    slots_reader pattern_empty pattern_look pattern_search capture_marker capture_find capture_cut \
-    run_writer run_reader rack_entries rack_asked rack_calls ldpc uplink uplink_writer uplink_heard \
-    uplink_reader c_calls sheet runsheet
+    slots_gather slots_units slots_rows slots_writer slots_symbols slots_residues slots_flat \
+    slots_places slots_reader pattern_empty pattern_look pattern_search capture_marker capture_find \
+    capture_cut run_writer run_reader rack_entries rack_asked rack_calls ldpc uplink uplink_writer \
+    uplink_heard uplink_reader c_calls sheet runsheet
 COUNT ?= 60
 .PHONY: mutants
 mutants:

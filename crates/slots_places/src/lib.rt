@@ -92,7 +92,7 @@ fn take_line(
     let s = bits::scan::most(from, line * p.layout.symbols + skip);
     let end = bits::scan::most(s, to);
     if full(p, s - skip, end - skip) {
-        slots_residues::take_full(p, row, s - base, end - base, s - skip, words);
+        slots_flat::take_full(p, row, s - base, end - base, s - skip, words);
         return to;
     }
     take_in(p, row, base, line, from, to, words)

@@ -39,7 +39,7 @@ fn put_in_byte(words: &mut [u8], t: usize, m: usize, q: usize)
 }
 
 // Every n-th symbol of a row, from `from` on before `to`, to every n-th of the words, from symbol t on. Each is in one byte.
-fn scatter_in_bytes(
+pub fn scatter_in_bytes(
     row: &[u8],
     from: usize,
     to: usize,
