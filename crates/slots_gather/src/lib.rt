@@ -29,9 +29,14 @@ fn gather_fields(
     requires { ⌜ Gather m t n count (now words) from (now row) ⌝ }
     ensures { λ _. ⌜ Column (now (row .entry)) from n count (λ j. symbolIn m (now (words .entry)) (t + j * n)) (now (row .exit)) ⌝ }
 {
+    let turn = m * n;
+    let mut y = m * t;
+    let mut i = from;
     let mut j = 0;
     while j < count {
-        row[from + j * n] = (bits::packing::field(words, m * (t + j * n), m) & 255) as u8;
+        row[i] = (bits::packing::field(words, y, m) & 255) as u8;
+        y += turn;
+        i += n;
         j += 1;
     }
 }
