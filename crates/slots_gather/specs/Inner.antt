@@ -44,7 +44,9 @@ pub record Gather (m t n count : ℕ) (words : List ℕ) (from : ℕ) (row : Lis
 pub record Strides (at step shift mask : ℕ) (words : List ℕ) (from n count : ℕ) (row : List ℕ) : Type 0 where
   pub shift-most : shift < 8
   pub mask-most : mask < 256
+  pub step-most : step ≤ 1024
   pub n-least : 1 ≤ n
+  pub n-most : n ≤ 1024
   pub at-most : at + count * step < 2 ^ 33
   pub from-most : from + count * n < 2 ^ 33
   pub inside : (j : ℕ) → j < count → at + j * step < length words

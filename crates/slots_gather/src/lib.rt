@@ -29,9 +29,14 @@ fn gather_fields(
     requires { ⌜ Gather m t n count (now words) from (now row) ⌝ }
     ensures { λ _. ⌜ Column (now (row .entry)) from n count (λ j. symbolIn m (now (words .entry)) (t + j * n)) (now (row .exit)) ⌝ }
 {
+    let turn = m * n;
+    let mut y = m * t;
+    let mut i = from;
     let mut j = 0;
     while j < count {
-        row[from + j * n] = (bits::packing::field(words, m * (t + j * n), m) & 255) as u8;
+        row[i] = (bits::packing::field(words, y, m) & 255) as u8;
+        y += turn;
+        i += n;
         j += 1;
     }
 }
@@ -73,32 +78,18 @@ fn gather_bytes(
     requires { ⌜ Strides at step shift mask (now words) from n count (now row) ⌝ }
     ensures { λ _. ⌜ Column (now (row .entry)) from n count (cutOut (now (words .entry)) at step shift mask) (now (row .exit)) ⌝ }
 {
-    let mut j = 0usize;
-    while count - j >= 4 {
-        gather_some(
-            words,
-            at + j * step,
-            step,
-            shift,
-            mask,
-            row,
-            from + j * n,
-            n,
-            4,
-        );
-        j += 4;
+    let far = 4 * step;
+    let wide = 4 * n;
+    let mut b = at;
+    let mut i = from;
+    let mut j = count;
+    while j >= 4 {
+        gather_some(words, b, step, shift, mask, row, i, n, 4);
+        b += far;
+        i += wide;
+        j -= 4;
     }
-    gather_some(
-        words,
-        at + j * step,
-        step,
-        shift,
-        mask,
-        row,
-        from + j * n,
-        n,
-        count - j,
-    );
+    gather_some(words, b, step, shift, mask, row, i, n, j);
 }
 
 // Where `turn` symbols make a byte, every symbol `turn` · n further on has its bits at the same place of a byte, n bytes further on.

@@ -111,7 +111,9 @@ strides-part at step shift mask words from n count row after j k s l e =
     record {
       shift-most = s .shift-most;
       mask-most = s .mask-most;
+      step-most = s .step-most;
       n-least = s .n-least;
+      n-most = s .n-most;
       at-most = omega (arith, add-mul j k step);
       from-most = omega (arith, add-mul j k n);
       inside = λ i h. let z = s .inside (j + i) (omega arith) in omega (arith, add-mul j i step);

@@ -187,7 +187,9 @@ turn-strides m turn mask w t n count words from row after g u few low places e =
     record {
       shift-most = omega arith;
       mask-most = k .mask-most;
+      step-most = (let h = g .step-most in let z : n ≤ 1024 = omega arith in z);
       n-least = omega arith;
+      n-most = omega arith;
       at-most = omega arith;
       from-most = omega arith;
       inside = λ i h.
