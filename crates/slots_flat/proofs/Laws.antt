@@ -1,2 +1,3 @@
+-- Laws that other crates or several proofs cite, each after those that it rests on.
 pub mod Flat
 pub mod Packed

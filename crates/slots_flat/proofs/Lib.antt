@@ -1,1 +1,2 @@
+-- Laws, for other crates too.
 pub mod Laws

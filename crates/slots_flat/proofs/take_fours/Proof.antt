@@ -17,36 +17,6 @@ rest from to head d a b = omega arith
 add-if1 : tie.Need-add-if1
 add-if1 c = let s = c .before .before in let b = s .pre .0 .bound in let o = s .pre .1 in omega arith
 
-scatter-in-bytes-requires : tie.Need-scatter-in-bytes-requires
-scatter-in-bytes-requires c κs = search needs
-
-same-length : tie.Need-same-length
-same-length c = search needs
-
-returns : tie.Need-returns
-returns c = search needs
-
-add-at : tie.Need-add-at
-add-at c = search needs
-
-mul-head : tie.Need-mul-head
-mul-head c = search needs
-
-sub-head : tie.Need-sub-head
-sub-head c = search needs
-
-add-head : tie.Need-add-head
-add-head c = search needs
-
-sub-n : tie.Need-sub-n
-sub-n c = search needs
-
-mul-tail : tie.Need-mul-tail
-mul-tail c = search needs
-
-add-tail : tie.Need-add-tail
-add-tail c = search needs
-
 scatter-in-bytes-requires-2 : tie.Need-scatter-in-bytes-requires-2
 scatter-in-bytes-requires-2 c κs =
     let s = c .before .before .before .before in
@@ -78,12 +48,6 @@ pack-fours-requires c κs =
     let o = c .before .before .before .scatter-in-bytes2 in
     scatters-part (a .row .now) (a .from) (a .to) 4 (a .t) (a .words .now) h (head - a .from) head (head + 2 * n) (2 * at) (o .last .1 .1 .1 .1 .1 .1 .0) (k .0) (k .2) (k .1) (fits (a .from) (a .to) (a .t) (head - a .from) head (2 * at) (k .0) (k .5) (k .1) (s .pre .2)) (o .kept .1 .1 .1 .1 .1 .1 .0)
 
-add-scatter-in-bytes : tie.Need-add-scatter-in-bytes
-add-scatter-in-bytes c = search needs
-
-mul-scatter-in-bytes : tie.Need-mul-scatter-in-bytes
-mul-scatter-in-bytes c = search needs
-
 scatter-in-bytes-requires-3 : tie.Need-scatter-in-bytes-requires-3
 scatter-in-bytes-requires-3 c κs =
     let s = c .before .before .before .before .before .before .before .before .before .before .before .before in
@@ -102,9 +66,6 @@ scatter-in-bytes-requires-3 c κs =
           (o .kept .1 .1 .1 .1 .0 ∙ f .kept .1 .1 .1 .1 .1 .1 .0),
       refl,
     )
-
-same-length-2 : tie.Need-same-length-2
-same-length-2 c = search needs
 
 returns-2 : tie.Need-returns-2
 returns-2 c =
@@ -130,20 +91,20 @@ take-fours-spec =
     tie.close
     (tie.spec
     add-if1
-    scatter-in-bytes-requires
-    same-length
-    returns
-    add-at
-    mul-head
-    sub-head
-    add-head
-    sub-n
-    mul-tail
-    add-tail
+    (λ c κs. search needs)
+    (λ c. search needs)
+    (λ c. search needs)
+    (λ c. search needs)
+    (λ c. search needs)
+    (λ c. search needs)
+    (λ c. search needs)
+    (λ c. search needs)
+    (λ c. search needs)
+    (λ c. search needs)
     scatter-in-bytes-requires-2
     pack-fours-requires
-    add-scatter-in-bytes
-    mul-scatter-in-bytes
+    (λ c. search needs)
+    (λ c. search needs)
     scatter-in-bytes-requires-3
-    same-length-2
+    (λ c. search needs)
     returns-2)

@@ -4,9 +4,6 @@ use Rattle.slots_flat.proofs.Laws.Flat.{scatters-flat, within, laid-fla
 use Rattle.slots_flat.proofs.take_full.Statement.{statement}
 use Rattle.slots_flat.proofs.take_full.Tie as tie
 
-width-requires : tie.Need-width-requires
-width-requires c κs = search needs
-
 take-twos-requires : tie.Need-take-twos-requires
 take-twos-requires c κs =
     let s = c .before .before .before .before .before in
@@ -14,9 +11,6 @@ take-twos-requires c κs =
     let h = s .pre in
     let is = c .before .before .width .ensures .0 (c .before .if1 .taken) in
     (scatters-flat (a .p) 2 (a .from) (a .to) (a .x) (a .row .now) (is .0) (is .1) (h .0) (a .words .now) (h .1), h .0 .order, within (a .p) 2 (a .from) (a .to) (a .x) (a .row .now) (is .0) (is .1) (h .0))
-
-same-length : tie.Need-same-length
-same-length c = search needs
 
 returns : tie.Need-returns
 returns c =
@@ -34,9 +28,6 @@ take-fours-requires c κs =
     let is = c .before .before .before .width .ensures .1 (c .before .if2 .taken) in
     (scatters-flat (a .p) 4 (a .from) (a .to) (a .x) (a .row .now) (is .0) (is .1) (h .0) (a .words .now) (h .1), h .0 .order, within (a .p) 4 (a .from) (a .to) (a .x) (a .row .now) (is .0) (is .1) (h .0))
 
-same-length-2 : tie.Need-same-length-2
-same-length-2 c = search needs
-
 returns-2 : tie.Need-returns-2
 returns-2 c =
     let s = c .before .before .before .before .before .before .before .before .before in
@@ -45,26 +36,17 @@ returns-2 c =
     let o = c .before .before .take-fours in
     λ at shown laid. laid-flat (a .p) 4 (a .from) (a .to) (a .x) (a .row .now) (is .0) (is .1) (s .pre .0) at (a .words .now) (o .last .1 .1 .1 .1 .0) shown (o .ensures) laid
 
-take-full-requires : tie.Need-take-full-requires
-take-full-requires c κs = search needs
-
-same-length-3 : tie.Need-same-length-3
-same-length-3 c = search needs
-
-returns-3 : tie.Need-returns-3
-returns-3 c = search needs
-
 pub take-full-spec : {M : Type 1} → statement M
 take-full-spec =
     tie.close
     (tie.spec
-    width-requires
+    (λ c κs. search needs)
     take-twos-requires
-    same-length
+    (λ c. search needs)
     returns
     take-fours-requires
-    same-length-2
+    (λ c. search needs)
     returns-2
-    take-full-requires
-    same-length-3
-    returns-3)
+    (λ c κs. search needs)
+    (λ c. search needs)
+    (λ c. search needs))
