@@ -146,8 +146,8 @@ gather-fields-spec =
     slice-write-row
     add-y
     add-i
-    add-j
-    loop-less
+    (λ c. search needs)
+    (λ c. search needs)
     loop-again
     same-length
     returns)
