@@ -13,7 +13,7 @@ ghost use Rattle.slots.specs.Reading.{pooledIn, firstBadMark};
 // Question 10: the first symbol from `from` on that is not decided, or `to`; and where there is none, the symbols, each read once, into a byte of
 // the row.
 pub fn row_out(p: plan::Plan, b: &[u8], from: usize, to: usize, row: &mut [u8]) -> usize
-    requires { ⌜ RunSlots p (now b) × (from ≤ to) × (to ≤ symbolCount (p .layout)) × (to ≤ from + length (now row)) ⌝ }
+    requires { ⌜ RunSlots p (now b) × (from ≤ to) × (to ≤ layoutSymbols (p .layout)) × (to ≤ from + length (now row)) ⌝ }
     ensures { λ r. ⌜ r ≡ upTo (decidedIn p (now (b .entry))) from to ⌝ }
     ensures { λ r. ⌜ (to ≤ r → Row p (now (b .entry)) from to (now (row .exit))) ⌝ }
 {

@@ -117,7 +117,7 @@ returns-2 c =
     let s = c .before .before .before .before .before in
     let l = c .before .loop in
     let h = c .before .before .block-bytes in (
-      order-yes (s .args .n) (s .args .n) (l .j) (wordSays (s .args .rate) (s .args .words .now)) refl (c .loop-test .left) (l .inv .0) (l .inv .3),
+      order-yes (s .args .n) (s .args .n) (l .j) (passWordSays (s .args .rate) (s .args .words .now)) refl (c .loop-test .left) (l .inv .0) (l .inv .3),
       λ d j b. ap (λ (x : ℕ). piece x (l .blocks) j) (sym (h .ensures)) ∙ l .inv .2 j (omega (arith, c .loop-test .left)),
     )
 

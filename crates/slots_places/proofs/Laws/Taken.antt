@@ -193,7 +193,7 @@ module _ (p : Plan) (fine : Fine p) (b : List ℕ) where
         let there : at - (line * p .layout .markers + p .layout .markers) ≡ line * p .layout .symbols + i = omega arith in
         rw here at (took-placed line i (omega arith) late q r after (rw there at e) (rw here same) (rw there at placed) (rw here k))
 
-    piece-bytes : Bytes words → (j : ℕ) → j < p .layout .words → Took p b (symbolCount (p .layout)) words → Bytes (piece wordBytes words j)
+    piece-bytes : Bytes words → (j : ℕ) → j < p .layout .words → Took p b (layoutSymbols (p .layout)) words → Bytes (piece wordBytes words j)
     piece-bytes bytes j h k i =
         let room = k .room in
         ⊎-elim

@@ -25,7 +25,7 @@ returns-2 c =
     let h = s .pre in
     let o = (c .before .before .before) .take in
     λ b row k.
-    let none : a .rest ≡ symbolCount (a .p .layout) = let l = (c .before .before .before .before .before) .if1 .left in let m = k .most in omega arith in
+    let none : a .rest ≡ layoutSymbols (a .p .layout) = let l = (c .before .before .before .before .before) .if1 .left in let m = k .most in omega arith in
     known-wrong (a .p) (h .0 .fine) b (a .from) (a .to) (a .rest) (a .words .now) k (h .0 .order) (h .0 .most) none (o .result) (o .ensures .first b row (k .took none)) _ (c .if2 .taken)
 
 returns-3 : tie.Need-returns-3
@@ -35,7 +35,7 @@ returns-3 c =
     let h = s .pre in
     let o = (c .before .before .before) .take in
     λ b row k.
-    let none : a .rest ≡ symbolCount (a .p .layout) = let l = (c .before .before .before .before .before) .if1 .left in let m = k .most in omega arith in
+    let none : a .rest ≡ layoutSymbols (a .p .layout) = let l = (c .before .before .before .before .before) .if1 .left in let m = k .most in omega arith in
     known-right (a .p) (h .0 .fine) b (a .from) (a .to) (a .rest) (a .words .now) k (h .0 .order) (h .0 .most) none (o .result) (o .ensures .first b row (k .took none)) _ (c .if2 .left) (o .ensures .took b row (k .took none) (c .if2 .left))
 
 pub rest-after-spec : {M : Type 1} → statement M

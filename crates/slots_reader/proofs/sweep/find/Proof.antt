@@ -189,7 +189,7 @@ look-requires-2 c κs =
     let d = div-add-mod' (layoutSymbols (p .layout)) count in
     let m : layoutSymbols (p .layout) % count < count = mod-lt (layoutSymbols (p .layout)) (r .1) in
     let some = (c .before) .if2 .taken in
-    record { slots = s .pre .0; some = some; most = le-refl (symbolCount (p .layout)); near = omega arith; few = let k = r .3 in omega arith; room = (let room = s .pre .1 .room in let e = l .inv .1 in omega arith); known = rw e at (l .inv .2 .known) }
+    record { slots = s .pre .0; some = some; most = le-refl (layoutSymbols (p .layout)); near = omega arith; few = let k = r .3 in omega arith; room = (let room = s .pre .1 .room in let e = l .inv .1 in omega arith); known = rw e at (l .inv .2 .known) }
 
 same-length-2 : tie.Need-same-length-2 Inv-loop μ-loop
 same-length-2 c = (c .before .before) .look2 .kept .1 .1 .1 .1 .1 .0 ∙ (c .before .before .before .before .before .before) .loop .inv .1
