@@ -2,4 +2,3 @@
 pub mod Taken
 pub mod Full
 pub mod Passing
-pub mod Passing
