@@ -70,23 +70,64 @@ fn put_row(p: Plan, words: &[u8], line: usize, from: usize, to: usize, slots: &m
     put_gathered(p, words, line, from, to, &mut row, slots);
 }
 
-// Whether a line is worth a row: its symbols are short, and an eighth of the residues, from `from` on up to `to`, have places in it.
-fn dense(p: Plan, from: usize, to: usize) -> bool
-    requires { ⌜ Fine p × (to ≤ p .layout .rows) ⌝ }
-    ensures { λ b. ⌜ (b ≡ true → (from ≤ to) × (1 ≤ perForty (p .copies * p .group))) ⌝ }
+// Whether forty slots are whole symbols, and half of a line's places are hit. Of its residues, those from `from` on up to `to` have places in it, and those from
+// `full_from` on up to `full_to` all of theirs.
+fn dense(p: Plan, from: usize, to: usize, full_from: usize, full_to: usize) -> bool
+    requires { ⌜ Fine p × (to ≤ p .layout .rows) × («full_to» ≤ p .layout .rows) ⌝ }
+    ensures { λ b. ⌜ (b ≡ true → 1 ≤ perForty (p .copies * p .group)) ⌝ }
 {
     let copies = p.copies;
     let group = p.group;
     if to <= from {
         return false;
     }
-    if group > 20 {
-        return false;
-    }
     if slots_units::per_forty(copies * group) == 0 {
         return false;
     }
-    (to - from) * 8 >= p.layout.rows
+    let full = bits::scan::most(full_to, full_from) - full_from;
+    to - from + full >= p.layout.rows
+}
+
+// Whether a line is worth a row. Symbols of more than twenty slots are not; and where two of three places of all lines are not hit, no line has half of its own hit.
+fn worth(p: Plan, line: usize) -> bool
+    requires { ⌜ Fine p × (line < p .layout .lines) ⌝ }
+    ensures { λ b. ⌜ (b ≡ true → 1 ≤ perForty (p .copies * p .group)) ⌝ }
+{
+    if p.group > 20 {
+        return false;
+    }
+    if p.layout.words * 3 < p.layout.lines {
+        return false;
+    }
+    let rows = p.layout.rows;
+    let step = p.layout.step;
+    let symbols = p.layout.symbols;
+    let start = line * symbols;
+    let all = p.layout.words * symbols;
+    let end = start + symbols;
+    let to = slots_lines::residues_to(rows, step, end, rows);
+    let from = slots_lines::residues_from(rows, step, all, start);
+    let full_to = slots_lines::residues_to(rows, step, start + 1, rows);
+    let full_from = slots_lines::residues_from(rows, step, all, end);
+    dense(p, from, to, full_from, full_to)
+}
+
+// The slots of a line by a row. It is called in two places, so that the compiler keeps `put_row` apart from lines that are written otherwise.
+fn put_dense(p: Plan, words: &[u8], line: usize, slots: &mut [u8])
+    requires { ⌜ Lent p (now words) (now slots) × (line < p .layout .lines) × (1 ≤ perForty (p .copies * p .group)) ⌝ }
+    ensures { λ _. ⌜ ((end : ℕ) → Holds p (front p (piece wordBytes (now (words .entry))) (line * unit (p .layout) + p .layout .markers)) end (now (slots .entry)) → Holds p (front p (piece wordBytes (now (words .entry))) ((line + 1) * unit (p .layout))) end (now (slots .exit))) ⌝ }
+{
+    let rows = p.layout.rows;
+    let step = p.layout.step;
+    let symbols = p.layout.symbols;
+    let start = line * symbols;
+    if rows == 1 {
+        put_row(p, words, line, 0, 1, slots);
+        return;
+    }
+    let to = slots_lines::residues_to(rows, step, start + symbols, rows);
+    let from = slots_lines::residues_from(rows, step, p.layout.words * symbols, start);
+    put_row(p, words, line, bits::scan::least(from, to), to, slots);
 }
 
 // The slots of a line's symbols.
@@ -94,14 +135,8 @@ pub fn put_symbols(p: Plan, words: &[u8], line: usize, slots: &mut [u8])
     requires { ⌜ Lent p (now words) (now slots) × (line < p .layout .lines) ⌝ }
     ensures { λ _. ⌜ ((end : ℕ) → Holds p (front p (piece wordBytes (now (words .entry))) (line * unit (p .layout) + p .layout .markers)) end (now (slots .entry)) → Holds p (front p (piece wordBytes (now (words .entry))) ((line + 1) * unit (p .layout))) end (now (slots .exit))) ⌝ }
 {
-    let rows = p.layout.rows;
-    let step = p.layout.step;
-    let symbols = p.layout.symbols;
-    let start = line * symbols;
-    let to = slots_lines::residues_to(rows, step, start + symbols, rows);
-    let from = slots_lines::residues_from(rows, step, p.layout.words * symbols, start);
-    if dense(p, from, to) {
-        put_row(p, words, line, from, to, slots);
+    if worth(p, line) {
+        put_dense(p, words, line, slots);
     } else {
         slots_lines::put_residues(p, words, line, slots);
     }

@@ -12,31 +12,44 @@ use Rattle.slots_rows.proofs.dense.Tie as tie
 returns : tie.Need-returns
 returns c e = absurd (false≢true e)
 
-returns-2 : tie.Need-returns-2
-returns-2 c e = absurd (false≢true e)
-
 mul-per-forty : tie.Need-mul-per-forty
 mul-per-forty c =
-    let s = c .before .before in
+    let s = c .before in
     let k = bounds (s .args .p) (s .pre .0) in
     let m : s .args .p .copies * s .args .p .group ≤ 32 * 320 = mul-le-mul (k .copies-most) (k .group-most) in
     omega arith
 
-returns-3 : tie.Need-returns-3
-returns-3 c e = absurd (false≢true e)
+per-forty-requires : tie.Need-per-forty-requires
+per-forty-requires c κs = search needs
 
-returns-4 : tie.Need-returns-4
-returns-4 c e = let some = c .before .if3 .left in let is = c .before .before .per-forty .ensures in (omega arith, omega arith)
+returns-2 : tie.Need-returns-2
+returns-2 c e = absurd (false≢true e)
+
+most-requires : tie.Need-most-requires
+most-requires c κs = search needs
+
+sub-full : tie.Need-sub-full
+sub-full c = search needs
+
+sub-result : tie.Need-sub-result
+sub-result c = search needs
+
+add-result : tie.Need-add-result
+add-result c = search needs
+
+returns-3 : tie.Need-returns-3
+returns-3 c = search needs
 
 pub dense-spec : {M : Type 1} → statement M
 dense-spec =
     tie.close
     (tie.spec
     returns
-    returns-2
     mul-per-forty
-    (λ c κs. search needs)
-    returns-3
-    (λ c. search needs)
-    (λ c. search needs)
-    returns-4)
+    per-forty-requires
+    returns-2
+    most-requires
+    sub-full
+    sub-result
+    add-result
+    returns-3)
