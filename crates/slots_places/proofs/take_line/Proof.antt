@@ -1,21 +1,16 @@
 -- Where all places are hit, none is wrong, and their symbols are laid residue by residue.
-use mathlib.Core.Path.{_≡_, refl, sym, ap, _∙_}
-use mathlib.Core.List.{List}
+use mathlib.Core.Path.{_≡_, sym, ap, _∙_}
 use mathlib.Core.Logic.{⊎-elim}
 use Prim.Native.Nat.{ℕ, _+_, _-_, _*_, _≤_, _<_, max}
 use native.Mathlib.Omega.{arith}
 use native.Mathlib.Nat.{le-refl}
-use lib.ListN.{length, getD}
 use borrow.Author.Needs.{needs}
 use Rattle.bits.proofs.Laws.Choice.{lt-or-le}
 use Rattle.bits.proofs.Laws.First.{found-none}
-use Rattle.channel.proofs.Laws.Markers.{line-in, rest-else}
-use Rattle.channel.specs.Channel.{total, unit, symbolCount, restZero}
-use Rattle.channel.specs.Inner.{delay}
+use Rattle.channel.proofs.Laws.Markers.{rest-else}
+use Rattle.channel.specs.Channel.{unit, restZero}
 use Rattle.slots.proofs.Laws.Bounds.{Bounds, bounds}
 use Rattle.slots.specs.Reading.{pooledIn}
-use Rattle.slots_residues.specs.Inner.{before}
-use Rattle.slots_symbols.specs.Inner.{Row}
 use Rattle.slots_places.specs.Inner.{Took}
 use Rattle.slots_places.proofs.Laws.Full.{atPlace, took-laid, laid-took, shown-row, full-right}
 use Rattle.slots_places.proofs.Laws.Taken.{took-marks}
