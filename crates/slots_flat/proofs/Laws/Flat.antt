@@ -4,7 +4,7 @@ use mathlib.Core.List.{List}
 use Prim.Native.Nat.{ℕ, _+_, _-_, _*_, _%_, _^_, _≤_, _<_}
 use native.Mathlib.Omega.{arith}
 use native.Mathlib.Nat.{mod-self, mod-one, zero-mod, zero-mul}
-use lib.ListN.{length, getD}
+use lib.ListN.{getD}
 use Rattle.channel.specs.Inner.{delay}
 use Rattle.plan.specs.declared.Plan.{Plan}
 use Rattle.slots.proofs.Laws.Bounds.{bounds}

@@ -1,5 +1,5 @@
 -- Places of a line that are all hit: none of them is wrong, and the symbols before a place are those before it in the slots.
-use mathlib.Core.Path.{_≡_, refl, sym, ap, ap₂, _∙_}
+use mathlib.Core.Path.{_≡_, refl, sym, ap, _∙_}
 use mathlib.Core.Bool.{Bool, true}
 use mathlib.Core.List.{List}
 use mathlib.Core.Logic.{⊎-elim}
@@ -7,11 +7,10 @@ use Prim.Native.Nat.{ℕ, _+_, _-_, _*_, _/_, _%_, _^_, _≤_, _<_}
 use native.Mathlib.Omega.{arith}
 use native.Mathlib.Nat.{le-refl, mul-le-mul, mod-lt, div-add-mod'}
 use lib.Dec.{ltb}
-use lib.ListN.{length, getD}
 use borrow.Author.Tests.{lt-ltb, le-ltb}
 use Rattle.bits.proofs.Laws.Choice.{lt-or-le, eq-or-ne}
 use Rattle.bits.specs.Basics.{pick}
-use Rattle.channel.proofs.Laws.Markers.{rest-else, rest-hit}
+use Rattle.channel.proofs.Laws.Markers.{rest-hit}
 use Rattle.channel.specs.Channel as channel
 use Rattle.channel.specs.Channel.{total, unit, place, hitBy, symbolOf}
 use Rattle.channel.specs.Inner.{delay}

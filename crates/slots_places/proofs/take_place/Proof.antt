@@ -1,5 +1,5 @@
 -- A hit lays its symbol among the words; the others must be 0.
-use mathlib.Core.Path.{_≡_, refl}
+use mathlib.Core.Path.{refl}
 use native.Mathlib.Omega.{arith}
 use borrow.Author.Needs.{needs}
 use Rattle.slots_places.proofs.take_place.Statement.{statement}

@@ -1,5 +1,5 @@
 -- A symbol whose bits are in one byte: where m divides 8, they are the first of the two that `put_symbol` writes.
-use mathlib.Core.Path.{_≡_, sym, ap, ap₂, _∙_}
+use mathlib.Core.Path.{_≡_, sym, ap, _∙_}
 use mathlib.Core.Bool.{true}
 use mathlib.Core.List.{List}
 use Prim.Native.Nat.{ℕ, _+_, _-_, _*_, _/_, _%_, _^_, _≤_, _<_}
@@ -7,7 +7,7 @@ use native.Mathlib.Omega.{arith}
 use native.Mathlib.Nat.{mul-assoc, mul-mod-left, mul-mod-right, div-add-mod', add-mul-mod-self-right}
 use lib.Bits.{bitXor, bitAnd, and-mask, xor-zero-r}
 use lib.Dec.{eqb, eqb→eq}
-use lib.ListN.{length, getD, set}
+use lib.ListN.{getD, set}
 use lib.Pow.{pow-add, shl-shr}
 use lib.Seq.{set-getD}
 use borrow.Author.Tests.{eq-eqb}

@@ -1,6 +1,6 @@
 -- The places of one residue laid: they have one delay, so that their symbols are as far apart as they are.
 use mathlib.Core.Path.{_≡_, refl, sym, ap, _∙_}
-use mathlib.Core.Bool.{Bool, true, false}
+use mathlib.Core.Bool.{Bool}
 use mathlib.Core.List.{List}
 use mathlib.Core.Logic.{_⊎_, inl, inr, ⊎-elim}
 use Prim.Native.Nat.{ℕ, _+_, _-_, _*_, _/_, _%_, _^_, _≤_, _<_}
@@ -8,7 +8,7 @@ use native.Mathlib.Omega.{arith}
 use native.Mathlib.Nat.{le-refl, mul-le-mul, mod-lt, mul-mod-left, div-add-mod', add-mul-mod-self-right}
 use lib.Bits.{bitXor, xor-zero-l}
 use lib.Dec.{ltb}
-use lib.ListN.{length, getD}
+use lib.ListN.{getD}
 use borrow.Author.Tests.{lt-ltb, le-ltb}
 use Rattle.bits.specs.Basics.{pick}
 use Rattle.bits.specs.Pack.{bitAt}
@@ -19,7 +19,7 @@ use Rattle.channel.specs.Channel.{total, place}
 use Rattle.channel.specs.Inner.{delay, Puts}
 use Rattle.plan.specs.declared.Plan.{Plan}
 use Rattle.plan.specs.Inner.{Fine}
-use Rattle.sizes.specs.Sizes.{wordBytes, wordBits}
+use Rattle.sizes.specs.Sizes.{wordBits}
 use Rattle.slots.proofs.Laws.Bounds.{bounds}
 use Rattle.slots_residues.specs.Inner.{Room, Scattered, Shown, Laid, before, reached}
 use Rattle.slots_residues.proofs.Laws.Bytes.{mod-part}

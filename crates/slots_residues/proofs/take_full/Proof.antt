@@ -5,7 +5,6 @@ use native.Mathlib.Omega.{arith}
 use native.Mathlib.Nat.{le-refl, mul-le-mul, zero-mod, zero-mul, mod-lt}
 use lib.ListN.{length, getD}
 use borrow.Author.Needs.{needs}
-use Rattle.channel.specs.Channel.{total}
 use Rattle.channel.specs.Inner as places
 use Rattle.slots.proofs.Laws.Bounds.{Bounds, bounds}
 use Rattle.slots_residues.specs.Inner.{Shown, Laid, before, reached}
