@@ -29,42 +29,6 @@ known : (s : tie.Start) (first last : ℕ) → first ≡ max (s .args .from) (s 
     × ((k : ℕ) → s .args .from ≤ k → k < first → first ≤ s .args .line * unit (s .args .p .layout) + s .args .p .layout .markers)
 known s first last e f = (bounds (s .args .p) (s .pre .0 .fine), omega arith, omega arith, λ l. omega arith, λ k a b. omega arith)
 
-mul-skip : tie.Need-mul-skip
-mul-skip c = search needs
-
-add-skip : tie.Need-add-skip
-add-skip c = search needs
-
-mul-most : tie.Need-mul-most
-mul-most c = search needs
-
-add-most : tie.Need-add-most
-add-most c = search needs
-
-most-requires : tie.Need-most-requires
-most-requires c κs = search needs
-
-most-requires-2 : tie.Need-most-requires-2
-most-requires-2 c κs = search needs
-
-sub-full : tie.Need-sub-full
-sub-full c = search needs
-
-sub-full-2 : tie.Need-sub-full-2
-sub-full-2 c = search needs
-
-full-requires : tie.Need-full-requires
-full-requires c κs = search needs
-
-sub-take-full : tie.Need-sub-take-full
-sub-take-full c = search needs
-
-sub-take-full-2 : tie.Need-sub-take-full-2
-sub-take-full-2 c = search needs
-
-sub-take-full-3 : tie.Need-sub-take-full-3
-sub-take-full-3 c = search needs
-
 take-full-requires : tie.Need-take-full-requires
 take-full-requires c κs =
     let s = c .before .before .before .before .before .before .before .before in
@@ -89,9 +53,6 @@ take-full-requires c κs =
       },
       h .4,
     )
-
-same-length : tie.Need-same-length
-same-length c = search needs
 
 returns : tie.Need-returns
 returns c =
@@ -126,34 +87,25 @@ returns c =
           (rw on at (o .ensures (atPlace p b) shown (took-laid p (h .0 .fine) b (a .line) first low (omega arith) (a .words .now) at)));
     }
 
-take-in-requires : tie.Need-take-in-requires
-take-in-requires c κs = search needs
-
-same-length-2 : tie.Need-same-length-2
-same-length-2 c = search needs
-
-returns-2 : tie.Need-returns-2
-returns-2 c = search needs
-
 pub take-line-spec : {M : Type 1} → statement M
 take-line-spec =
     tie.close
     (tie.spec
-    mul-skip
-    add-skip
-    mul-most
-    add-most
-    most-requires
-    most-requires-2
-    sub-full
-    sub-full-2
-    full-requires
-    sub-take-full
-    sub-take-full-2
-    sub-take-full-3
+    (λ c. search needs)
+    (λ c. search needs)
+    (λ c. search needs)
+    (λ c. search needs)
+    (λ c κs. search needs)
+    (λ c κs. search needs)
+    (λ c. search needs)
+    (λ c. search needs)
+    (λ c κs. search needs)
+    (λ c. search needs)
+    (λ c. search needs)
+    (λ c. search needs)
     take-full-requires
-    same-length
+    (λ c. search needs)
     returns
-    take-in-requires
-    same-length-2
-    returns-2)
+    (λ c κs. search needs)
+    (λ c. search needs)
+    (λ c. search needs))

@@ -19,26 +19,8 @@ mul-per-forty c =
     let m : s .args .p .copies * s .args .p .group ≤ 32 * 320 = mul-le-mul (k .copies-most) (k .group-most) in
     omega arith
 
-per-forty-requires : tie.Need-per-forty-requires
-per-forty-requires c κs = search needs
-
 returns-2 : tie.Need-returns-2
 returns-2 c e = absurd (false≢true e)
-
-most-requires : tie.Need-most-requires
-most-requires c κs = search needs
-
-sub-full : tie.Need-sub-full
-sub-full c = search needs
-
-sub-result : tie.Need-sub-result
-sub-result c = search needs
-
-add-result : tie.Need-add-result
-add-result c = search needs
-
-returns-3 : tie.Need-returns-3
-returns-3 c = search needs
 
 pub dense-spec : {M : Type 1} → statement M
 dense-spec =
@@ -46,10 +28,10 @@ dense-spec =
     (tie.spec
     returns
     mul-per-forty
-    per-forty-requires
+    (λ c κs. search needs)
     returns-2
-    most-requires
-    sub-full
-    sub-result
-    add-result
-    returns-3)
+    (λ c κs. search needs)
+    (λ c. search needs)
+    (λ c. search needs)
+    (λ c. search needs)
+    (λ c. search needs))

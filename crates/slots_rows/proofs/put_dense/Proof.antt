@@ -11,15 +11,6 @@ use Rattle.slots_rows.proofs.put_dense.Tie as tie
 mul-start : tie.Need-mul-start
 mul-start c = let s = c .before .before in let z = lines.sizes (s .args .p) (s .pre .0 .given .fine) (s .args .line) 0 (s .pre .1) .places in omega arith
 
-put-row-requires : tie.Need-put-row-requires
-put-row-requires c κs = search needs
-
-same-length : tie.Need-same-length
-same-length c = search needs
-
-returns : tie.Need-returns
-returns c = search needs
-
 add-residues-to : tie.Need-add-residues-to
 add-residues-to c = let s = c .before .before .before in let z = lines.sizes (s .args .p) (s .pre .0 .given .fine) (s .args .line) 0 (s .pre .1) .places in omega arith
 
@@ -30,18 +21,12 @@ residues-to-requires c κs =
     let z = lines.sizes (s .args .p) f (s .args .line) 0 (s .pre .1) .of-plan .symbols-least in
     (f .rows-most, f .step-most, omega arith)
 
-mul-residues-from : tie.Need-mul-residues-from
-mul-residues-from c = search needs
-
 residues-from-requires : tie.Need-residues-from-requires
 residues-from-requires c κs =
     let s = c .before .before .before .before .before in
     let f = s .pre .0 .given .fine in
     let z = lines.sizes (s .args .p) f (s .args .line) 0 (s .pre .1) .places in
     (f .rows-most, f .step-most, omega arith)
-
-least-requires : tie.Need-least-requires
-least-requires c κs = search needs
 
 put-row-requires-2 : tie.Need-put-row-requires-2
 put-row-requires-2 c κs =
@@ -51,25 +36,19 @@ put-row-requires-2 c κs =
     let l = c .before .least .ensures ∙ lesser-min (from .result) (to .result) in
     (s .pre .0, s .pre .1, omega arith, to .ensures .0, λ r k. from .ensures r (omega arith), to .ensures .1, s .pre .2)
 
-same-length-2 : tie.Need-same-length-2
-same-length-2 c = search needs
-
-returns-2 : tie.Need-returns-2
-returns-2 c = search needs
-
 pub put-dense-spec : {M : Type 1} → statement M
 put-dense-spec =
     tie.close
     (tie.spec
     mul-start
-    put-row-requires
-    same-length
-    returns
+    (λ c κs. search needs)
+    (λ c. search needs)
+    (λ c. search needs)
     add-residues-to
     residues-to-requires
-    mul-residues-from
+    (λ c. search needs)
     residues-from-requires
-    least-requires
+    (λ c κs. search needs)
     put-row-requires-2
-    same-length-2
-    returns-2)
+    (λ c. search needs)
+    (λ c. search needs))

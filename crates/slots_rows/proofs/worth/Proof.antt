@@ -11,17 +11,11 @@ use Rattle.slots_rows.proofs.worth.Tie as tie
 returns : tie.Need-returns
 returns c e = absurd (false≢true e)
 
-mul-if2 : tie.Need-mul-if2
-mul-if2 c = search needs
-
 returns-2 : tie.Need-returns-2
 returns-2 c e = absurd (false≢true e)
 
 mul-start : tie.Need-mul-start
 mul-start c = let s = c .before .before .before .before .before in let z = lines.sizes (s .args .p) (s .pre .0) (s .args .line) 0 (s .pre .1) .places in omega arith
-
-mul-all : tie.Need-mul-all
-mul-all c = search needs
 
 add-end : tie.Need-add-end
 add-end c = let s = c .before .before .before .before .before .before in let z = lines.sizes (s .args .p) (s .pre .0) (s .args .line) 0 (s .pre .1) .places in omega arith
@@ -43,9 +37,6 @@ residues-from-requires c κs =
 add-residues-to : tie.Need-add-residues-to
 add-residues-to c = let s = c .before .before .before .before .before .before .before .before in let z = lines.sizes (s .args .p) (s .pre .0) (s .args .line) 0 (s .pre .1) .places in omega arith
 
-residues-to-requires-2 : tie.Need-residues-to-requires-2
-residues-to-requires-2 c κs = search needs
-
 residues-from-requires-2 : tie.Need-residues-from-requires-2
 residues-from-requires-2 c κs =
     let s = c .before .before .before .before .before .before .before .before .before in
@@ -53,26 +44,20 @@ residues-from-requires-2 c κs =
     let z = lines.sizes (s .args .p) f (s .args .line) 0 (s .pre .1) .places in
     (f .rows-most, f .step-most, omega arith)
 
-dense-requires : tie.Need-dense-requires
-dense-requires c κs = search needs
-
-returns-3 : tie.Need-returns-3
-returns-3 c = search needs
-
 pub worth-spec : {M : Type 1} → statement M
 worth-spec =
     tie.close
     (tie.spec
     returns
-    mul-if2
+    (λ c. search needs)
     returns-2
     mul-start
-    mul-all
+    (λ c. search needs)
     add-end
     residues-to-requires
     residues-from-requires
     add-residues-to
-    residues-to-requires-2
+    (λ c κs. search needs)
     residues-from-requires-2
-    dense-requires
-    returns-3)
+    (λ c κs. search needs)
+    (λ c. search needs))
