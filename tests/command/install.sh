@@ -222,7 +222,8 @@ END
     same 'status of the proofs' 0 $?
     has 'how far they are' "proving crate 11 of $crates ... (10 done, $((crates - 10)) left; " "$(out)"
     has 'the end of them' "$crates crates proved; $work/log has what the prover said" "$(tail -n 1 "$said/out")"
-    same 'lines in all' yes "$([ "$(wc -l <"$said/out")" -lt 10 ] && echo yes)"
+    # One for every ten crates, and a few besides.
+    same 'lines in all' yes "$([ "$(wc -l <"$said/out")" -lt $((crates / 10 + 4)) ] && echo yes)"
     same 'lines that were kept' $((2 * crates + 1)) "$(wc -l <log)"
     CHECK=1 "$root/demo/prove" "$work/log" >"$said/out" 2>&1
     same 'status of proofs that fail' 1 $?
