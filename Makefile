@@ -178,10 +178,10 @@ demo:
 	@mkdir -p $(dir $(PICTURE))
 	@demo/run $(PROGRAM) $(HOST)/slots $(PICTURE)
 
-# The manual's picture of a damaged capture, which is the demo's.
+# The manual's picture of damaged slots, which are the demo's.
 .PHONY: picture
 picture: $(PROGRAM) $(HOST)/slots
-	@demo/run $^ docs/capture.svg >/dev/null
+	@demo/run $^ docs/damage.svg >/dev/null
 
 bench: $(addprefix $(HOST)/bench_,words passes uplinks runs orders captures fades delays) $(PROGRAM)
 	@$(HOST)/bench_words

@@ -1,4 +1,4 @@
-# inspect and show: what is said of a capture, and the picture.
+# inspect and show: what is said of the slots of a run, and the picture.
 # shellcheck shell=bash
 
 # report STATUS COUNTS: inspects `damaged`; the counts of x g n s m z, spare bits, words with 0, 13,
@@ -29,10 +29,10 @@ damages() {
 test_inspect_counts() {
     begin
     report 0 '0 0 0 0 0 0 0 2 0 0 0 0 3 0 0 0'
-    has 'a sound capture' 'damaged: mahyrei_run_read accepts it.' "$(out)"
+    has 'sound slots' 'damaged: mahyrei_run_read accepts it.' "$(out)"
     has 'what is plain C' 'counted in plain C' "$(out)"
     has 'that nothing is corrected' 'Nothing has been corrected.' "$(tr '\n' ' ' <"$said/out")"
-    same 'a sound capture has no list' '' "$(grep -E 'The first|Over the run' "$said/out")"
+    same 'sound slots have no list' '' "$(grep -E 'The first|Over the run' "$said/out")"
     damages lose 7000
     report 1 '0 0 1 0 0 0 0 1 0 0 0 1 2 0 1 0'
     has 'what mahyrei_run_read says' "mahyrei_run_read refuses it, number 10, place 7000: $(sentence 10)" "$(out)"
@@ -78,7 +78,7 @@ test_inspect_counts() {
     has 'set fill bits' 'bit of the joined frames' "$(out)"
 }
 
-# A capture of another length is looked at as far as it goes.
+# Slots of another length are looked at as far as they go.
 test_inspect_lengths() {
     begin
     head -c 25000 slots >damaged # 10000 symbols
@@ -155,7 +155,7 @@ dom.parse("picture.svg"); print("yes")')"
     fi
     run 0 inspect -f "$header" "$marker" slots --svg picture.svg
     drawn '#1d4ed8' 0
-    has 'the title of a sound capture' '>Accepted: slots<' "$(<picture.svg)"
+    has 'the title of sound slots' '>Accepted: slots<' "$(<picture.svg)"
     run 2 inspect "$header" "$marker" damaged --svg none/picture.svg
     has 'a picture that cannot be written' 'none/picture.svg: ' "$err"
     same 'no report then' '' "$(out)"
@@ -164,13 +164,13 @@ dom.parse("picture.svg"); print("yes")')"
     ln -s damaged leads
     for name in damaged ./damaged leads; do
         run 2 inspect "$header" "$marker" damaged --svg "$name"
-        has 'a picture over the capture' "$name: this is what is looked at" "$err"
+        has 'a picture over the slots' "$name: this is what is looked at" "$err"
     done
     run 2 inspect header marker - --svg damaged <damaged
     run 2 inspect header marker damaged --svg marker
     run 2 inspect header marker damaged --svg -
     has 'a picture on standard output' '-: the picture goes to a file' "$err"
-    alike 'the capture after that' kept damaged
+    alike 'the slots after that' kept damaged
     "$mahyrei" -q write "$example" "$example_marker" example many
     printf '\x80' | dd of=many bs=1 seek=4000001 conv=notrunc 2>"$said/err"
     run 1 inspect -f "$example" "$example_marker" many --svg picture.svg
@@ -192,7 +192,7 @@ test_show() {
       5  word 0   symbol 0      14  ..............|.____
       6  no word's symbol here   0  |...............____" "$(out)"
     run 0 show "$header" slots 11354 18446744073709551615
-    same 'as far as the capture goes' 1 "$(wc -l <"$said/out")"
+    same 'as far as the slots go' 1 "$(wc -l <"$said/out")"
     head -c 10 slots >short
     run 0 show "$header" short 0 100
     same 'symbols of ten bytes' 4 "$(wc -l <"$said/out")"

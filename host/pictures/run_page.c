@@ -1,4 +1,4 @@
-#include "pictures/capture_page.h"
+#include "pictures/run_page.h"
 
 #include <inttypes.h>
 #include <string.h>
@@ -91,8 +91,8 @@ static void print_lines(FILE *to, const char *text) {
 /* ---- what the script needs */
 
 static void print_run(FILE *to, const struct scene *scene) {
-    const struct mahyrei_fields *const f = &scene->capture->run.fields;
-    const struct mahyrei_sizes *const s = &scene->capture->run.sizes;
+    const struct mahyrei_fields *const f = &scene->slots->run.fields;
+    const struct mahyrei_sizes *const s = &scene->slots->run.sizes;
     fprintf(to,
             "const run = {\"S\":%" PRIu64 ",\"W\":%" PRIu64 ",\"N\":%" PRIu64 ",\"B\":%" PRIu64
             ",\"C\":%" PRIu64 ",\"R\":%" PRIu64 ",\"group\":%" PRIu64 ",\"copies\":%" PRIu64
@@ -100,24 +100,24 @@ static void print_run(FILE *to, const struct scene *scene) {
             s->S, f->W, f->N, f->B, s->C, s->R, s->group, f->copies, s->pooled, scene->slot);
 }
 
-static void print_names(FILE *to, const struct capture *capture) {
+static void print_names(FILE *to, const struct run_slots *slots) {
     fputs("const names = [", to);
     for (size_t i = 0; i < FAULTS; i++) {
-        fprintf(to, "%s\"%s\"", i == 0 ? "" : ",", fault_name(capture, i));
+        fprintf(to, "%s\"%s\"", i == 0 ? "" : ",", fault_name(slots, i));
     }
     fputs("];\n", to);
 }
 
 /* Stretches of symbols that have the same fault: first, how many, and which. */
 static void print_faults(FILE *to, const struct scene *scene) {
-    const struct capture *const capture = scene->capture;
-    const uint64_t all = capture->run.sizes.pooled;
+    const struct run_slots *const slots = scene->slots;
+    const uint64_t all = slots->run.sizes.pooled;
     uint64_t symbol = 0, stretches = 0;
     fputs("const faults = [", to);
     while (symbol < all && stretches < STRETCHES_MOST) {
-        const enum fault fault = fault_of(capture, scene->marker, symbol);
+        const enum fault fault = fault_of(slots, scene->marker, symbol);
         const uint64_t first = symbol;
-        while (symbol < all && fault_of(capture, scene->marker, symbol) == fault) {
+        while (symbol < all && fault_of(slots, scene->marker, symbol) == fault) {
             symbol++;
         }
         if (fault != SOUND) {
@@ -132,13 +132,13 @@ static void print_faults(FILE *to, const struct scene *scene) {
 static bool print_data(FILE *to, const struct scene *scene) {
     static const char *const NO_COLOURS[1] = {""};
     struct map map;
-    const bool good = map_make(&map, &scene->capture->run, 0, NO_COLOURS);
+    const bool good = map_make(&map, &scene->slots->run, 0, NO_COLOURS);
     if (good) {
         print_run(to, scene);
         fputs("const map = {", to);
         map_print_numbers(to, &map);
         fputs("};\n", to);
-        print_names(to, scene->capture);
+        print_names(to, scene->slots);
         print_faults(to, scene);
     }
     map_free(&map);
