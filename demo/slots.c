@@ -86,7 +86,7 @@ static struct bytes capture_around(uint64_t slot, uint64_t after, bool pulses) {
     struct bytes capture;
     const uint64_t count = slots.run.sizes.slots;
     if (slot > UINT32_MAX || after > UINT32_MAX ||
-        !make_room((size_t)((slot + count + 7) / 8 + after), &capture)) {
+        !make_buffer((size_t)((slot + count + 7) / 8 + after), &capture)) {
         give_up("no room for such a capture");
     }
     memset(capture.at, pulses ? 0xFF : 0, capture.len);

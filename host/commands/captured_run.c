@@ -111,9 +111,9 @@ void say_start(const struct operands *operands, const char *what) {
 enum status cut_run(const struct operands *operands, struct lent *run, struct entry *entry) {
     struct sheet sheet;
     uint64_t answer;
-    /* Where the header is refused there is no room, and the call says why. */
+    /* Where the header is refused there is no buffer, and the call says why. */
     sheet_of(&run->header, &sheet);
-    if (!make_room(sheet.sizes.slot_bytes, &run->slots)) {
+    if (!make_buffer(sheet.sizes.slot_bytes, &run->slots)) {
         return FAILED;
     }
     progress_phase(CODING);

@@ -325,7 +325,7 @@ static enum status take_in_slots(struct operands *operands, struct lent *run, st
 static bool make_frames(struct lent *run) {
     struct sheet sheet;
     sheet_of(&run->header, &sheet);
-    return make_room(sheet.sizes.frame_bytes, &run->frames);
+    return make_buffer(sheet.sizes.frame_bytes, &run->frames);
 }
 
 /* There is nothing to inspect where the header or the marker is wrong. */

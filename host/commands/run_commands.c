@@ -60,15 +60,15 @@ static bool take_in_run(bool writing, const struct operands *operands, struct le
     return writing || !whole || is_described(operands, from);
 }
 
-/* Lends the run's rooms to the library, and says what comes back. */
+/* Lends the run's buffers to the library, and says what comes back. */
 static enum status call(bool writing, const struct operands *operands, struct lent *run,
                         struct entry *entry) {
     struct sheet sheet;
     struct bytes *const to = writing ? &run->slots : &run->frames;
     uint64_t answer = 0;
-    /* Where the header is refused there is no room, and the call says why. */
+    /* Where the header is refused there is no buffer, and the call says why. */
     sheet_of(&run->header, &sheet);
-    if (!make_room(writing ? sheet.sizes.slot_bytes : sheet.sizes.frame_bytes, to)) {
+    if (!make_buffer(writing ? sheet.sizes.slot_bytes : sheet.sizes.frame_bytes, to)) {
         return FAILED;
     }
     progress_phase(CODING);
@@ -166,7 +166,7 @@ static bool read_back(const struct output *output, const struct lent *run) {
     uint64_t answer = 0;
     back.slots = run->slots;
     bool good = output_read_back(output, run->slots.at, run->slots.len) &&
-                make_room(run->frames.len, &back.frames) && library_read(&back, &answer);
+                make_buffer(run->frames.len, &back.frames) && library_read(&back, &answer);
     if (good && (answer != MAHYREI_ACCEPTED ||
                  memcmp(back.frames.at, run->frames.at, run->frames.len) != 0)) {
         complain_text(output->name, "what is read back gives other frames");

@@ -283,13 +283,13 @@ static enum status summarize(struct scan *scan, const struct drawings *drawings)
 
 /* ---- the command */
 
-/* Where the header is refused there is no room, and the search says why. */
-static bool make_rooms(struct scan *scan) {
+/* Where the header is refused there are no buffers, and the search says why. */
+static bool make_buffers(struct scan *scan) {
     const struct mahyrei_sizes *const sizes = &scan->counts.run.sizes;
     sheet_of(&scan->run.header, &scan->counts.run);
-    return make_room(sizes->slot_bytes + 1, &scan->run.capture) &&
-           make_room(sizes->slot_bytes, &scan->run.slots) &&
-           make_room(sizes->frame_bytes, &scan->run.frames) &&
+    return make_buffer(sizes->slot_bytes + 1, &scan->run.capture) &&
+           make_buffer(sizes->slot_bytes, &scan->run.slots) &&
+           make_buffer(sizes->frame_bytes, &scan->run.frames) &&
            search_begin(&scan->search, &scan->recording, &scan->run.header, &scan->run.marker);
 }
 
@@ -301,7 +301,7 @@ static bool take_in_recording(struct scan *scan) {
     }
     scan->counts.slots = 8 * (uint64_t)scan->recording.bytes.len;
     entry_part(&scan->entry->capture, NULL, scan->recording.bytes.len, false);
-    return make_rooms(scan) && sent_once(&scan->operands, &scan->run);
+    return make_buffers(scan) && sent_once(&scan->operands, &scan->run);
 }
 
 static enum status go(struct scan *scan) {

@@ -40,12 +40,12 @@ static void cut_map(struct map *map) {
 }
 
 static struct map_cell *make_cells(uint64_t count) {
-    struct bytes room;
-    if (!make_room(count * sizeof(struct map_cell), &room)) {
+    struct bytes buffer;
+    if (!make_buffer(count * sizeof(struct map_cell), &buffer)) {
         return NULL;
     }
-    memset(room.at, 0, room.len);
-    return (void *)room.at;
+    memset(buffer.at, 0, buffer.len);
+    return (void *)buffer.at;
 }
 
 bool map_make(struct map *map, const struct sheet *run, size_t kinds, const char *const *colours) {

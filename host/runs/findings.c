@@ -129,7 +129,7 @@ static void find_frames(const struct run_slots *slots, struct findings *findings
 
 /* ---- all of it */
 
-static bool make_rooms(const struct run_slots *slots, struct findings *findings) {
+static bool make_buffers(const struct run_slots *slots, struct findings *findings) {
     const uint64_t C = slots->run.sizes.C, A = slots->run.fields.A;
     *findings = (struct findings){0};
     findings->words = calloc(C, sizeof *findings->words);
@@ -143,7 +143,7 @@ static bool make_rooms(const struct run_slots *slots, struct findings *findings)
 }
 
 bool find_all(const struct run_slots *slots, const uint8_t *marker, struct findings *findings) {
-    if (!make_rooms(slots, findings)) {
+    if (!make_buffers(slots, findings)) {
         return false;
     }
     find_symbols(slots, marker, findings);

@@ -36,7 +36,7 @@ struct findings {
     struct found spare; /* set bits after the last slot, by their number in the slots */
     struct found fill;  /* set bits after the last frame, by their number in the stream */
     uint64_t *words;    /* by word: what mahyrei_word_read answers, or NOT_ASKED */
-    uint8_t *blocks;    /* of the words that were accepted, each in room for the largest */
+    uint8_t *blocks;    /* of the words that were accepted, each in a buffer for the largest */
     enum frame_state *frames;
 };
 

@@ -22,7 +22,7 @@ bool pack_slots(const struct sheet *run, const struct bytes *capture, uint64_t s
     const uint64_t wanted = run->sizes.slots / 8;
     const size_t len = (size_t)(there < wanted ? there : wanted), first = (size_t)(slot / 8);
     const unsigned shift = (unsigned)(slot % 8);
-    if (!make_room(len, slots)) {
+    if (!make_buffer(len, slots)) {
         return false;
     }
     for (size_t i = 0; i < len; i++) {

@@ -30,7 +30,7 @@ bool pack_slots(const struct sheet *run, const struct bytes *capture, uint64_t s
                 struct bytes *slots);
 
 /* The slots of a symbol that have the most pulses, over all its copies: where it is sent once,
- * those that have a pulse. Places count from the first slot of a copy. The symbol is told if there
+ * those that have a pulse. Places count from the first slot of a copy. The symbol is known if there
  * is one such slot, and it is among the M. */
 struct group {
     unsigned most;                 /* pulses that each of them has */

@@ -20,7 +20,7 @@ test_help_of_each() {
         for word in ${usage#*mahyrei "$command"}; do
             case $word in
                 [A-Z]* | '[FOLDER]' | '[COMMAND]')
-                    # The value of an option stands within brackets.
+                    # The value of an option is within brackets.
                     [[ $word == *']' && $word != '['* ]] ||
                         same "$command on $word" 1 "$(grep -cE "^  ${word//[\[\]]/.} +[a-z]" one)"
                     ;;

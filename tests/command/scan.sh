@@ -79,7 +79,7 @@ test_find_all_dense() {
     printf '\x84\x21\x08\x42\x10%.0s' {1..6250} >dense
     run 0 -q find --all "$short" 00 dense
     same 'starts of a dense capture' "$(seq 0 5 249995 | cksum)" "$(cksum <"$said/out")"
-    head -c 2561 dense >less # behind the first are 4096, which are looked for at once, and no more
+    head -c 2561 dense >less # after the first come 4096, which are looked for at once, and no more
     run 0 -q find --all "$short" 00 less
     same 'starts of a shorter one' "$(seq 0 5 20480 | cksum)" "$(cksum <"$said/out")"
 }
