@@ -84,24 +84,33 @@ static void print_scale(FILE *to, const struct scan_counts *counts) {
     print_text(to, LEFT, TOP - 10, 11, PALE, "slots of the recording");
 }
 
+/* What the colours say, of those that there are. Starts refused all have one colour, and below are
+ * the numbers. */
 static void print_keys(FILE *to, const struct scan_counts *counts) {
-    uint64_t y = KEYS;
-    print_key(to, LEFT, y, SOUND_COLOUR, "runs sound", counts->count);
-    print_key(to, LEFT + LENGTH / 2, y, EMPTY_COLOUR, "slots not in any run", scan_outside(counts));
-    y += KEY_LINE;
+    uint64_t x = LEFT, y = KEYS;
+    if (counts->count > 0) {
+        print_key(to, x, y, SOUND_COLOUR, "runs sound", counts->count);
+        x += LENGTH / 2;
+    }
+    if (scan_outside(counts) > 0) {
+        print_key(to, x, y, EMPTY_COLOUR, "slots not in any run", scan_outside(counts));
+    }
+    if (counts->refused > 0) {
+        y += KEY_LINE;
+        print_key(to, LEFT, y, REFUSED_COLOUR, "starts refused", counts->refused);
+    }
     for (unsigned number = 0; number < SCAN_NUMBERS; number++) {
         if (counts->by_number[number] > 0) {
-            char text[96];
-            snprintf(text, sizeof text, "starts refused by number %u, %s", number,
-                     scan_reason(number));
-            print_key(to, LEFT, y, REFUSED_COLOUR, text, counts->by_number[number]);
             y += KEY_LINE;
+            open_text(to, LEFT + 2 * KEY_TEXT, y, 12, PALE);
+            fprintf(to, "by number %u, %s: %" PRIu64 "</text>\n", number, scan_reason(number),
+                    counts->by_number[number]);
         }
     }
 }
 
 static uint64_t key_lines(const struct scan_counts *counts) {
-    uint64_t lines = 1;
+    uint64_t lines = 1 + (counts->refused > 0);
     for (unsigned number = 0; number < SCAN_NUMBERS; number++) {
         lines += counts->by_number[number] > 0;
     }

@@ -303,6 +303,12 @@ test_scan_picture() {
     same 'starts of the picture' 8 "$(grep -c '>1 start refused</title>' picture.svg)"
     has 'the title' '3 runs sound, 8 starts refused: recording' "$(<picture.svg)"
     has 'the scale' '>200000</text>' "$(<picture.svg)"
+    has 'the starts refused' '>starts refused: 8</text>' "$(<picture.svg)"
+    same 'swatches of the picture' 3 "$(grep -c 'width="11" height="11"' picture.svg)"
+    head -c 1000 /dev/zero >quiet
+    run 1 -q scan -f "$header" "$marker" quiet --svg picture.svg
+    same 'lines of the legend that count 0' 0 "$(grep -c ': 0</text>' picture.svg)"
+    run 0 -q scan -f "$header" "$marker" recording --svg picture.svg
     if command -v python3 >"$said/which"; then
         same 'the picture is XML' yes "$(python3 -c 'import sys, xml.dom.minidom as dom
 dom.parse("picture.svg"); print("yes")')"
