@@ -36,12 +36,15 @@ static void print_title(FILE *to, const struct scene *scene) {
         y = print_sentence(to, 24, y, scene->sentence);
     }
     open_text(to, 24, y, 12, PALE);
+    if (scene->captured) {
+        fprintf(to, "from slot %" PRIu64 " of the capture on: ", scene->slot);
+    }
     fprintf(to,
             "rate %s, M %" PRIu64 ", N %" PRIu64 ", B %" PRIu64 ", F %" PRIu64 ", W %" PRIu64
             ", A %" PRIu64 ": %" PRIu64 " symbols of %" PRIu64 " slots, in %" PRIu64
-            " rows of %" PRIu64 " + %" PRIu64,
-            rate_name(f->rate), s->M, f->N, f->B, f->F, f->W, f->A, s->pooled, s->group, s->R, f->W,
-            s->S);
+            " row%s of %" PRIu64 " + %" PRIu64,
+            rate_name(f->rate), s->M, f->N, f->B, f->F, f->W, f->A, s->pooled, s->group, s->R,
+            s->R == 1 ? "" : "s", f->W, s->S);
     if (f->copies > 1) {
         fprintf(to, ", each sent %" PRIu64 " times", f->copies);
     }

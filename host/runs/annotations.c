@@ -59,13 +59,6 @@ void annotate_scan(FILE *to, const struct scan_counts *counts) {
 
 /* ---- of a run */
 
-/* In at most twenty letters, which is what SigMF advises. */
-static const char *const LABELS[FAULTS] = {
-    [MISSING] = "missing",           [GUARD_PULSE] = "guard pulse",
-    [NO_PULSE] = "no pulse",         [SEVERAL_PULSES] = "several pulses",
-    [WRONG_MARKER] = "wrong marker", [NOT_ZERO] = "not zero",
-};
-
 static void annotate_whole(FILE *to, const struct run_slots *slots, uint64_t slot,
                            uint64_t answer) {
     const unsigned number = mahyrei_answer_number(answer);
@@ -91,7 +84,7 @@ static void annotate_symbols(FILE *to, const struct run_slots *slots, uint64_t s
              end - 1);
     const struct sigmf_annotation annotation = {.slot = slot + begins,
                                                 .slots = ends - begins,
-                                                .label = LABELS[fault],
+                                                .label = FAULT_LINES[fault].label,
                                                 .comment = comment,
                                                 .answer = from << 8 | FAULT_LINES[fault].number};
     sigmf_print_annotation(to, &annotation, false);

@@ -9,14 +9,16 @@
 #include "runs/layout.h"
 
 const struct fault_line FAULT_LINES[FAULTS] = {
-    [MISSING] = {"symbols missing at the end", NULL, 'x', "#8c96a0", MAHYREI_BAD_LENGTH},
-    [GUARD_PULSE] = {"symbols with a guard pulse", "symbols with most pulses in a guard slot", 'g',
-                     "#c2410c", MAHYREI_BAD_PULSE},
-    [NO_PULSE] = {"symbols with no pulse", NULL, 'n', "#1d4ed8", MAHYREI_BAD_PULSE},
+    [MISSING] = {"symbols missing at the end", NULL, "missing", 'x', "#8c96a0", MAHYREI_BAD_LENGTH},
+    [GUARD_PULSE] = {"symbols with a guard pulse", "symbols with most pulses in a guard slot",
+                     "guard pulse", 'g', "#c2410c", MAHYREI_BAD_PULSE},
+    [NO_PULSE] = {"symbols with no pulse", NULL, "no pulse", 'n', "#1d4ed8", MAHYREI_BAD_PULSE},
     [SEVERAL_PULSES] = {"symbols with several pulses", "symbols with most pulses in several slots",
-                        's', "#e6a100", MAHYREI_BAD_PULSE},
-    [WRONG_MARKER] = {"wrong marker symbols", NULL, 'm', "#c026a3", MAHYREI_WRONG_MARKER},
-    [NOT_ZERO] = {"places that should be 0 and are not", NULL, 'z', "#0f8a6a", MAHYREI_BAD_IDLE},
+                        "several pulses", 's', "#e6a100", MAHYREI_BAD_PULSE},
+    [WRONG_MARKER] = {"wrong marker symbols", NULL, "wrong marker", 'm', "#c026a3",
+                      MAHYREI_WRONG_MARKER},
+    [NOT_ZERO] = {"places that should be 0 and are not", NULL, "not zero", 'z', "#0f8a6a",
+                  MAHYREI_BAD_IDLE},
 };
 
 const char *fault_name(const struct run_slots *slots, size_t fault) {

@@ -19,8 +19,9 @@ struct found {
 /* How faults are named, and the question that each fails. */
 struct fault_line {
     const char *name, *pooled; /* where symbols are sent once, and where copies are pooled */
-    char letter;               /* in the text's picture */
-    const char *colour;        /* in the drawn one */
+    const char *label;  /* of one symbol, in at most twenty letters, which is what SigMF advises */
+    char letter;        /* in the text's picture */
+    const char *colour; /* in the drawn one */
     enum mahyrei_number number;
 };
 extern const struct fault_line FAULT_LINES[FAULTS];
