@@ -92,6 +92,9 @@ test_text_in_a_file() {
     printf '%s\r\n' "$header" >text
     says "$text" \
         sheet text
+    printf '\xEF\xBB\xBF%s\r\n' "$header" >text # as some editors begin
+    says "$text" \
+        sheet text
     echo "$marker" >text
     says "$text" \
         find "$header" text slots
