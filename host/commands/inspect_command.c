@@ -367,7 +367,7 @@ static bool annotate(FILE *to, const void *what) {
     const struct annotated *const annotated = what;
     const struct scene *const scene = annotated->scene;
     sigmf_print_begin(to, annotated->dataset);
-    annotate_run(to, scene->slots, scene->marker, scene->slot, scene->answer);
+    annotate_run(to, scene->slots, scene->marker, scene->slot, scene->answer, scene->sentence);
     sigmf_print_end(to);
     return true;
 }

@@ -176,6 +176,13 @@ static bool read_back(const struct output *output, const struct lent *run) {
     return good;
 }
 
+/* What all is well means here, for programs. */
+static const char *const SENTENCES[] = {
+    [WRITING] = "All is well: the slots have been written, every byte of them.",
+    [READING] =
+        "All is well: the run is sound, and its frames have been written, every byte of them.",
+    [VERIFYING] = "All is well: the run is sound. Nothing was written."};
+
 /* For somebody at a terminal, who may erase another copy next. */
 static void put_words(enum way way, const struct line *line, const struct lent *run,
                       struct entry *entry) {
@@ -221,6 +228,7 @@ static enum status put_out(enum way way, const struct line *line, struct lent *r
         !metadata_put(line, metadata, output->name, run)) {
         return FAILED;
     }
+    entry->sentence = SENTENCES[way];
     put_words(way, line, run, entry);
     return DONE;
 }

@@ -241,6 +241,18 @@ static uint64_t outcome(const struct scan_counts *counts) {
                                   : counts->first_refusal;
 }
 
+/* The same in a sentence; NULL where the number's own will do. */
+static const char *sentence_of(const struct scan_counts *counts) {
+    const unsigned number = mahyrei_answer_number(outcome(counts));
+    if (number == MAHYREI_BAD_LENGTH) {
+        return "The recording ends within the run.";
+    }
+    return number != MAHYREI_ACCEPTED ? NULL
+           : counts->folder == NULL
+               ? "All is well: a run is sound. Nothing was written."
+               : "All is well: a run is sound, and the frames of each that is are on the disk.";
+}
+
 static enum status conclude(struct scan *scan) {
     if (scan->counts.count > 0) {
         return DONE;
@@ -271,6 +283,7 @@ static enum status summarize(struct scan *scan, const struct drawings *drawings)
         return FAILED;
     }
     entry_answer(scan->entry, outcome(&scan->counts));
+    scan->entry->sentence = sentence_of(&scan->counts);
     if (!put_printed(NULL, report, scan)) {
         return FAILED;
     }

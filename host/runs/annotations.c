@@ -6,7 +6,7 @@
 #include "runs/findings.h"
 #include "runs/sigmf.h"
 
-enum { COMMENT = 256 };
+enum { COMMENT = 512 };
 
 static uint64_t least(uint64_t a, uint64_t b) {
     return a < b ? a : b;
@@ -59,13 +59,13 @@ void annotate_scan(FILE *to, const struct scan_counts *counts) {
 
 /* ---- of a run */
 
-static void annotate_whole(FILE *to, const struct run_slots *slots, uint64_t slot,
-                           uint64_t answer) {
-    const unsigned number = mahyrei_answer_number(answer);
-    char comment[COMMENT];
-    snprintf(comment, sizeof comment, "%s, number %u, place %" PRIu64 ": %s",
-             answer == MAHYREI_ACCEPTED ? "sound" : "refused", number, mahyrei_answer_place(answer),
-             mahyrei_sentence(number));
+static void annotate_whole(FILE *to, const struct run_slots *slots, uint64_t slot, uint64_t answer,
+                           const char *sentence) {
+    char comment[COMMENT] = "sound";
+    if (answer != MAHYREI_ACCEPTED) {
+        snprintf(comment, sizeof comment, "refused, number %u, place %" PRIu64 ": %s",
+                 mahyrei_answer_number(answer), mahyrei_answer_place(answer), sentence);
+    }
     const struct sigmf_annotation annotation = {
         .slot = slot,
         .slots = least(slots->run.sizes.slots, 8 * (uint64_t)slots->bytes.len),
@@ -92,12 +92,12 @@ static void annotate_symbols(FILE *to, const struct run_slots *slots, uint64_t s
 
 /* Of symbols that are missing there is nothing in the data to annotate. */
 void annotate_run(FILE *to, const struct run_slots *slots, const uint8_t *marker, uint64_t slot,
-                  uint64_t answer) {
+                  uint64_t answer, const char *sentence) {
     uint64_t from = 0, stretches = 0;
     if (slots->bytes.len == 0) {
         return;
     }
-    annotate_whole(to, slots, slot, answer);
+    annotate_whole(to, slots, slot, answer, sentence);
     while (from < slots->present && stretches < STRETCHES_MOST) {
         const enum fault fault = fault_of(slots, marker, from);
         uint64_t end = from + 1;

@@ -180,7 +180,9 @@ test_scan_json() {
     local digest
     digest=$(sha256sum frames | cut -d ' ' -f 1)
     has 'a run as JSON' "{\"slot\":160013,\"frames\":3,\"bytes\":1500,\"sha256\":\"$digest\",\"file\":\"to/run-160013.frames\"}" "$(out)"
-    has 'the counts as JSON' '"starts_refused":8,"refused_by_number":{"8":3,"10":5},"slots_not_in_any_run":547268,"longest_gap":{"slot":387113,"slots":227191},"status":0,"number":0,"place":0,"sentence":"' "$(out)"
+    has 'the counts as JSON' '"starts_refused":8,"refused_by_number":{"8":3,"10":5},"slots_not_in_any_run":547268,"longest_gap":{"slot":387113,"slots":227191},"status":0,"number":0,"place":0,"sentence":"All is well: a run is sound, and the frames of each that is are on the disk."' "$(out)"
+    run 0 -q scan --json "$header" "$marker" recording
+    has 'the end without a folder' '"sentence":"All is well: a run is sound. Nothing was written."' "$(out)"
     cp recording $'a "name"\n\xFF'
     run 0 -q scan --json "$header" "$marker" $'a "name"\n\xFF'
     has 'a name as JSON' '{"capture":"a \"name\"\u000a\udcff","slots":1228568,"runs_sound":3,' "$(out)"
@@ -202,6 +204,8 @@ test_scan_json() {
     ended 1 7 0 "$(sentence 7)" "$header" 0500100309 recording
     ended 1 8 0 "$(sentence_of_8 scan x)" "$header" 05 recording
     ended 1 19 0 "$(sentence 19)" "$header" "$marker" empty
+    head -c 20000 slots >short
+    ended 1 8 0 'The recording ends within the run.' "$header" "$marker" short
     ended 1 10 7000 "$(sentence 10)" "$header" "$marker" damaged
     "$mahyrei" -q scan --json 00 "$marker" recording >/dev/full 2>"$said/err"
     same 'status where a refusal cannot be printed' 2 $?
