@@ -98,6 +98,18 @@ static bool ready(const struct operands *operands, struct output *output) {
     return output_ready(output);
 }
 
+/* Every line of a run begins with the marker, so that a run may begin later. */
+static void say_refused_start(const struct operands *operands) {
+    char from[64] = "";
+    if (operands->from > 0) {
+        snprintf(from, sizeof from, " from slot %" PRIu64 " on", operands->from);
+    }
+    remark(is_dash(operands->capture) ? "standard input" : operands->capture,
+           "the first whole marker%s begins at slot %" PRIu64 ", in byte %" PRIu64
+           "; `mahyrei scan` tries every start",
+           from, operands->slot, operands->slot / 8);
+}
+
 /* A run in a capture is found, cut out and read. What is refused once the marker is found is said
  * with where that is. */
 static enum status call_captured(struct operands *operands, struct lent *run, struct entry *entry) {
@@ -111,7 +123,7 @@ static enum status call_captured(struct operands *operands, struct lent *run, st
         status = call(false, operands, run, entry);
     }
     if (status == REFUSED) {
-        say_start(operands, "the first whole marker begins at");
+        say_refused_start(operands);
     }
     return status;
 }

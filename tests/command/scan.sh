@@ -96,6 +96,9 @@ test_read_from() {
     rm out
     run 0 -q verify --capture --from 614304 "$header" "$marker" recording
     refused 10 7570 verify --capture --from 160014 "$header" "$marker" recording
+    # shellcheck disable=SC2016  # it is said so
+    has 'what was taken for the start' \
+        'recording: the first whole marker from slot 160014 on begins at slot 235713, in byte 29464; `mahyrei scan` tries every start' "$err"
     refused 8 0 read --capture --from 1068560 "$header" "$marker" recording out
     refused 19 0 read --capture --from 1228568 "$header" "$marker" recording out
     unharmed 2 '--from: slots begin with the run; --capture says that this is a capture' \
