@@ -312,7 +312,9 @@ static bool take_in_recording(struct scan *scan) {
         !is_described(&scan->operands, &scan->recording.bytes)) {
         return false;
     }
-    scan->counts.slots = 8 * (uint64_t)scan->recording.bytes.len;
+    const uint64_t slots = 8 * (uint64_t)scan->recording.bytes.len, from = scan->operands.from;
+    scan->counts.slots = slots;
+    scan->counts.from = from < slots ? from : slots;
     entry_part(&scan->entry->capture, NULL, scan->recording.bytes.len, false);
     return make_buffers(scan) && sent_once(&scan->operands, &scan->run);
 }

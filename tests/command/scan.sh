@@ -177,6 +177,22 @@ test_scan_by_hand() {
         "$(sed 's/.*"refused_by_number":{\([^}]*\)}.*/\1/; s/"\([0-9]*\)":\([0-9]*\),*/\2 \1 /g' "$said/out" | xargs)"
 }
 
+# What --from passes over was not searched, and is no gap: a run may well be there.
+test_scan_from() {
+    begin_recording
+    run 0 -q scan --from 400000 "$header" "$marker" recording --svg picture.svg
+    has 'the slots before it' 'slots not searched                 400,000' "$(out)"
+    has 'the slots after it' 'slots not in any run               374,368' "$(out)"
+    has 'the gap' 'longest gap                        214,304  from slot 400000 to slot 614303' "$(out)"
+    has 'in the picture' '>slots not searched: 400000</text>' "$(<picture.svg)"
+    run 0 -q scan --json --from 400000 "$header" "$marker" recording
+    has 'as JSON' '"slots_not_searched":400000,"slots_not_in_any_run":374368,"longest_gap":{"slot":400000,"slots":214304}' "$(out)"
+    run 1 -q scan --json --from 18446744073709551615 "$header" "$marker" recording
+    has 'all of it' '"slots_not_searched":1228568,"slots_not_in_any_run":0,"longest_gap":{"slot":1228568,"slots":0},"status":1,"number":19' "$(out)"
+    run 0 -q scan "$header" "$marker" recording
+    same 'from the first on' 0 "$(grep -c 'not searched' "$said/out")"
+}
+
 test_scan_json() {
     begin_recording
     run 0 -q scan --json "$header" "$marker" recording to
