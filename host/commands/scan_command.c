@@ -60,6 +60,7 @@ static bool put_frames(struct scan *scan, uint64_t slot, struct entry *of_run) {
         struct output output = output_as_told(scan->line, name.at);
         output.ask = false;
         output.same_will_do = true;
+        output.to_disk = true;
         spare_capture(&output, scan->recording.id);
         output_spare(&output, log_id(scan->line->log));
         of_run->frames.name = name.at;

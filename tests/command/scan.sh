@@ -319,6 +319,27 @@ test_scan_again() {
     alike 'the recording then' kept recording
 }
 
+# What has a run's name and is no file would keep nothing: a pipe is not waited for, and a device gets
+# nothing.
+test_scan_to_no_file() {
+    begin_recording
+    local kind force
+    for kind in pipe device; do
+        for force in '' -f; do
+            rm -rf to
+            mkdir to
+            [ "$kind" = pipe ] && mkfifo to/run-160013.frames || ln -s /dev/null to/run-160013.frames
+            prefix=(timeout 20)
+            # shellcheck disable=SC2086  # none or one
+            run 2 -q scan $force "$header" "$marker" recording to
+            prefix=()
+            same "what is said of a $kind" \
+                'mahyrei: to/run-160013.frames: this is no file, and would keep nothing on the disk' "$err"
+            same "no line of a $kind in the log" 0 "$(grep -c 'slot=160013' "$said/err")"
+        done
+    done
+}
+
 test_scan_picture() {
     begin_recording
     run 0 -q scan "$header" "$marker" recording --svg picture.svg
