@@ -374,6 +374,12 @@ once_inspect_browser() {
     # Where the ring is, is the place of the refusal; and the marker is where it is drawn.
     at=$(sed -n 's/.*<circle cx="\([0-9]*\)" cy="\([0-9]*\)".*/\1,\2/p' page.html)
     has 'the symbol in the ring' 'symbol 3000: row 0, word 0 symbol 2995 ' "$(shown_at "page.html#at=$at")"
+    # The pointer itself, over a picture that is drawn at half its size.
+    { cat page.html && echo "<style>svg { width: 504px; height: auto }</style><script>
+const r = picture.getBoundingClientRect(), [x, y] = [${at%,*} / 2, ${at#*,} / 2];
+picture.dispatchEvent(new PointerEvent('pointermove', {clientX: r.left + x, clientY: r.top + y}));
+</script>"; } >pointed.html
+    same 'the symbol below the pointer' "$(shown_at "page.html#at=$at")" "$(shown_at pointed.html)"
     has 'a marker symbol' 'symbol 3787: row 1, marker symbol 2 ' "$(shown_at 'page.html#at=121,277')"
     # A spot of several rows shows its fault, in whichever row that is, and not a symbol beside it.
     "$mahyrei" -q write "$example" "$example_marker" example many
