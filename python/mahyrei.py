@@ -345,7 +345,7 @@ class _Stack(threading.local):
                 system.pthread_attr_getguardsize(attributes, ctypes.byref(guard))
                 system.pthread_attr_destroy(attributes)
                 self.size = size.value
-                # getcontext tells the stack pointer, at a place that depends on the machine.
+                # getcontext gives the stack pointer, at a place that depends on the machine.
                 if platform.machine() == "x86_64" and sys.platform == "linux":
                     self.buffer = ctypes.create_string_buffer(4096)  # a ucontext_t has 968
                     self.pointer = ctypes.c_uint64.from_buffer(self.buffer, 160)
