@@ -213,7 +213,7 @@ static void print_caption(FILE *to, const struct map *map) {
     const uint64_t cells = map->lines_per_row * MAP_COLUMNS;
     const uint64_t spot = (map->run->sizes.S + cells - 1) / cells * map->rows_per_line;
     open_text(to, MAP_SYMBOLS, MAP_TOP - 10, 11, PALE);
-    if (map->lines_per_row > 1) {
+    if (map->lines_per_row != 1) {
         fprintf(to, "a row of words' symbols, over %" PRIu64 " lines", map->lines_per_row);
     } else if (map->rows_per_line > 1) {
         fprintf(to, "words' symbols, %" PRIu64 " rows to a line", map->rows_per_line);

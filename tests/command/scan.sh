@@ -328,7 +328,11 @@ test_scan_to_no_file() {
         for force in '' -f; do
             rm -rf to
             mkdir to
-            [ "$kind" = pipe ] && mkfifo to/run-160013.frames || ln -s /dev/null to/run-160013.frames
+            if [ "$kind" = pipe ]; then
+                mkfifo to/run-160013.frames
+            else
+                ln -s /dev/null to/run-160013.frames
+            fi
             prefix=(timeout 20)
             # shellcheck disable=SC2086  # none or one
             run 2 -q scan $force "$header" "$marker" recording to
