@@ -1,5 +1,5 @@
 /*
- * The delay calls beside a ring buffer in plain C, which is told N and B and asks nothing:
+ * The delay calls beside a ring buffer in plain C, which takes N and B and asks nothing:
  * nanoseconds a step, on the same symbols, in one run. The two take turns, and the best turn of
  * each counts, so a busy machine harms both alike and little.
  */

@@ -21,10 +21,10 @@
 
 #include "files/inputs.h"
 #include "files/outputs.h"
-#include "runs/capture.h"
 #include "runs/layout.h"
+#include "runs/run_slots.h"
 
-static struct capture capture;
+static struct run_slots slots;
 
 static _Noreturn void give_up(const char *why) {
     fprintf(stderr, "slots: %s\n", why);
@@ -32,24 +32,24 @@ static _Noreturn void give_up(const char *why) {
 }
 
 static void flip(uint64_t slot) {
-    if (slot / 8 >= capture.slots.len) {
+    if (slot / 8 >= slots.bytes.len) {
         give_up("no such slot");
     }
-    capture.slots.at[slot / 8] = (uint8_t)(capture.slots.at[slot / 8] ^ 0x80 >> slot % 8);
+    slots.bytes.at[slot / 8] = (uint8_t)(slots.bytes.at[slot / 8] ^ 0x80 >> slot % 8);
 }
 
 /* The slot of a symbol's pulse. */
 static uint64_t pulse_of(uint64_t symbol) {
-    if (symbol >= capture.run.sizes.pooled || group_of(&capture, symbol).pulses == 0) {
+    if (symbol >= slots.run.sizes.pooled || group_of(&slots, symbol).pulses == 0) {
         give_up("no such symbol, or no pulse in it");
     }
-    return group_of(&capture, symbol).first;
+    return group_of(&slots, symbol).first;
 }
 
 /* A slot of every copy of a symbol. */
 static void flip_copies(uint64_t symbol, uint64_t at) {
-    for (uint64_t copy = 0; copy < capture.run.fields.copies; copy++) {
-        flip(first_slot(&capture, symbol) + copy * capture.run.sizes.group + at);
+    for (uint64_t copy = 0; copy < slots.run.fields.copies; copy++) {
+        flip(first_slot(&slots, symbol) + copy * slots.run.sizes.group + at);
     }
 }
 
@@ -66,8 +66,8 @@ static void change(uint64_t symbol, uint64_t difference) {
 
 /* Step 8: the symbol that holds this bit of a word. */
 static void turn(uint64_t word, uint64_t bit) {
-    const uint64_t m = capture.run.fields.m;
-    change(symbol_of(&capture.run, word, bit / m), UINT64_C(1) << (m - 1 - bit % m));
+    const uint64_t m = slots.run.fields.m;
+    change(symbol_of(&slots.run, word, bit / m), UINT64_C(1) << (m - 1 - bit % m));
 }
 
 /* Steps 5 and 6: from the place that takes the coded bit on, the accumulator turns all over. */
@@ -82,22 +82,21 @@ static void turn_coded(uint64_t word, uint64_t coded) {
 }
 
 /* A capture with the run at this slot, and the bits around it all alike. */
-static void surround(uint64_t slot, uint64_t behind, bool pulses) {
-    struct bytes wide;
-    const uint64_t count = capture.run.sizes.slots;
-    if (slot > UINT32_MAX || behind > UINT32_MAX ||
-        !make_room((size_t)((slot + count + 7) / 8 + behind), &wide)) {
+static struct bytes capture_around(uint64_t slot, uint64_t after, bool pulses) {
+    struct bytes capture;
+    const uint64_t count = slots.run.sizes.slots;
+    if (slot > UINT32_MAX || after > UINT32_MAX ||
+        !make_buffer((size_t)((slot + count + 7) / 8 + after), &capture)) {
         give_up("no room for such a capture");
     }
-    memset(wide.at, pulses ? 0xFF : 0, wide.len);
+    memset(capture.at, pulses ? 0xFF : 0, capture.len);
     for (uint64_t x = 0; x < count; x++) {
         const uint64_t at = slot + x;
-        if (pulse_at(&capture, x) != pulses) {
-            wide.at[at / 8] = (uint8_t)(wide.at[at / 8] ^ 0x80 >> at % 8);
+        if (pulse_at(&slots, x) != pulses) {
+            capture.at[at / 8] = (uint8_t)(capture.at[at / 8] ^ 0x80 >> at % 8);
         }
     }
-    free(capture.slots.at);
-    capture.slots = wide;
+    return capture;
 }
 
 /* ---- the command line */
@@ -115,14 +114,15 @@ static uint64_t number(const char *text) {
 static void turn_each(char *const numbers[], int count, uint64_t limit,
                       void (*one)(uint64_t, uint64_t)) {
     for (int i = 1; i < count; i++) {
-        if (number(numbers[0]) >= capture.run.sizes.C || number(numbers[i]) >= limit) {
+        if (number(numbers[0]) >= slots.run.sizes.C || number(numbers[i]) >= limit) {
             give_up("no such word, or no such bit");
         }
         one(number(numbers[0]), number(numbers[i]));
     }
 }
 
-static void damage(const char *how, char *const numbers[], int count) {
+/* What goes out. */
+static struct bytes damaged(const char *how, char *const numbers[], int count) {
     if (strcmp(how, "flip") == 0) {
         flip(number(numbers[0]));
     } else if (strcmp(how, "lose") == 0) {
@@ -134,22 +134,23 @@ static void damage(const char *how, char *const numbers[], int count) {
     } else if (strcmp(how, "code") == 0) {
         turn_each(numbers, count, MAHYREI_WORD_BITS, turn_coded);
     } else if (strcmp(how, "capture") == 0 && count == 3) {
-        surround(number(numbers[0]), number(numbers[1]), number(numbers[2]) != 0);
+        return capture_around(number(numbers[0]), number(numbers[1]), number(numbers[2]) != 0);
     } else {
         give_up("no such damage");
     }
+    return slots.bytes;
 }
 
 int main(int argc, char *argv[]) {
-    struct bytes header, slots;
+    struct bytes header, given;
     if (argc < 4) {
         give_up("HEADER, what to do, and numbers");
     }
-    if (!take_in_text(argv[1], HEADER_LIMIT, &header) || !take_in("-", SLOTS_LIMIT, &slots) ||
-        capture_of(&header, &slots, &capture) != 0 || slots.len != capture.run.sizes.slot_bytes) {
+    if (!take_in_text(argv[1], HEADER_LIMIT, &header) || !take_in("-", SLOTS_LIMIT, &given) ||
+        run_slots_of(&header, &given, &slots) != 0 || given.len != slots.run.sizes.slot_bytes) {
         give_up("no such header, or slots of another length");
     }
-    damage(argv[2], argv + 3, argc - 3);
+    const struct bytes out = damaged(argv[2], argv + 3, argc - 3);
     const struct output output = {.name = "-"};
-    return output_put(&output, capture.slots.at, capture.slots.len) ? 0 : 2;
+    return output_put(&output, out.at, out.len) ? 0 : 2;
 }

@@ -1,6 +1,6 @@
 /*
  * mahyrei: writes and reads runs from the command line. Every question about a run is put to the
- * library; here are only files, room to lend, and words for the answer.
+ * library; here are only files, buffers to lend, and words for the answer.
  */
 #include <fcntl.h>
 

@@ -94,8 +94,8 @@ unsigned mahyrei_sizes(const uint8_t *header, size_t header_len, struct mahyrei_
  *         may be symbols itself, and otherwise overlaps nothing. The area overlaps neither.
  * Returns 0 when every symbol was taken. Otherwise place * 256 + number, with a number from 1 to 8,
  *         or 20 or 26; the place is the symbol that was refused, counted from 0. Those before it
- *         were taken, and given holds what they gave; nothing behind them has been changed. Only 26
- *         can come after the first symbol. 8 stands too for given_len that is not symbols_len, and
+ *         were taken, and given holds what they gave; nothing after them has been changed. Only 26
+ *         can come after the first symbol. 8 comes too for a given_len that is not symbols_len, and
  *         for step numbers that would pass 2^64 - 1; nothing was taken then. No symbols are
  *         accepted, and no question is asked.
  */

@@ -345,17 +345,17 @@ class _Stack(threading.local):
                 system.pthread_attr_getguardsize(attributes, ctypes.byref(guard))
                 system.pthread_attr_destroy(attributes)
                 self.size = size.value
-                # getcontext tells the stack pointer, at a place that depends on the machine.
+                # getcontext gives the stack pointer, at a place that depends on the machine.
                 if platform.machine() == "x86_64" and sys.platform == "linux":
-                    self.room = ctypes.create_string_buffer(4096)  # a ucontext_t has 968
-                    self.pointer = ctypes.c_uint64.from_buffer(self.room, 160)
+                    self.buffer = ctypes.create_string_buffer(4096)  # a ucontext_t has 968
+                    self.pointer = ctypes.c_uint64.from_buffer(self.buffer, 160)
                     self.context, self.end = system.getcontext, low.value + guard.value
         except (AttributeError, OSError):
             pass
 
     def left(self):
         """The bytes of stack that are left, or those of the whole stack; 0 where it is not known."""
-        if self.context is not None and self.context(self.room) == 0:
+        if self.context is not None and self.context(self.buffer) == 0:
             return self.pointer.value - self.end
         return self.size
 
@@ -409,7 +409,7 @@ def _accepted(answer):
     return answer >> 8
 
 
-def _room(length, out, parts):
+def _out_slice(length, out, parts):
     """A slice for a result of so many bytes. Where there can be none, the other parts are let go."""
     try:
         if out is None:
@@ -429,16 +429,16 @@ def _in_row(out, item="B"):
     return view
 
 
-def _result(room, out):
-    return room.address if out is None else _in_row(out)
+def _result(written, out):
+    return written.address if out is None else _in_row(out)
 
 
 def _written(call, length, out, *parts):
     """What a call writes: bytes of this length, or a memoryview of `out`. The slice for it comes
     after the other parts."""
-    room = _room(length, out, parts)
-    _accepted(_asked(call, *parts, room))
-    return _result(room, out)
+    written = _out_slice(length, out, parts)
+    _accepted(_asked(call, *parts, written))
+    return _result(written, out)
 
 
 def _lengths(header):
@@ -538,7 +538,7 @@ def run_read(header, marker, slots, *, out=None):
 
 
 def run_find(header, marker, capture):
-    """The earliest slot of a capture, counted from 0, at which the whole marker stands, its guard
+    """The earliest slot of a capture, counted from 0, at which the whole marker begins, its guard
     slots empty, each symbol once: where a run of factor 1 begins, if no earlier slot fits. Every
     bit of the capture is a slot, so one that has a byte a slot goes through slots_packed first; as
     it is, it gets 19. Refused with a number from 1 to 8, or 20, or with 19 where there is none."""
@@ -591,12 +591,12 @@ def fades_count(header, fades, *, out=None):
     header, given = _slices(header, fades)
     words = _lengths(header).C
     counts = (ctypes.c_uint32 * words)() if out is None else out
-    room = _room(4 * words, counts, (header, given))
-    if room.length % 4 or (room.length and room.address % 4):
-        _let_go((header, given, room))
+    written = _out_slice(4 * words, counts, (header, given))
+    if written.length % 4 or (written.length and written.address % 4):
+        _let_go((header, given, written))
         raise ValueError("counts are numbers of 32 bits, aligned")
-    given.item = room.item = 4
-    _accepted(_asked(_library.mahyrei_fades_count, header, given, room))
+    given.item = written.item = 4
+    _accepted(_asked(_library.mahyrei_fades_count, header, given, written))
     return list(counts) if out is None else _in_row(out, "I")
 
 
@@ -633,7 +633,7 @@ def delay_area(header):
 
 def delay_write(header, step, symbol, area):
     """One step of the channel interleaver: takes a symbol of the words, below M, and gives the next
-    of the interleaved sequence, markers left out. Steps are told 0, 1, 2 and so on; the area, a
+    of the interleaved sequence, markers left out. Steps are numbered 0, 1, 2 and so on; the area, a
     bytearray as delay_area makes it, is changed in place and is all that is kept between them.
     Refused with a number from 1 to 8, or 20 or 26, and then nothing was taken."""
     return _stepped(_library.mahyrei_delay_write, header, step, symbol, area)
@@ -674,13 +674,13 @@ def _stepped(call, header, step, symbol, area):
 def _stepped_many(call, header, step, symbols, area, out):
     step, area = _step(step), _Slice(area, writable=True)
     header, symbols = _slices(header, symbols)
-    room = _room(symbols.length, out, (area, header, symbols))
-    answer = _asked(call, header, step, symbols, area, room, in_place=True)
+    written = _out_slice(symbols.length, out, (area, header, symbols))
+    answer = _asked(call, header, step, symbols, area, written, in_place=True)
     if answer & 255 != 0:
-        with memoryview(_result(room, out)) as result:
+        with memoryview(_result(written, out)) as result:
             given = result[: answer >> 8].tobytes()
         raise Refused(answer & 255, answer >> 8, given)
-    return _result(room, out)
+    return _result(written, out)
 
 
 # ---- racks
@@ -750,11 +750,11 @@ def fields(header):
 def header(rate, m, N, B, F, W, A, copies=1):
     """The header of these fields, ten bytes. Refused with a number from 2 to 7, or 20."""
     given = _CFields(*map(_number, (rate, m, N, B, F, W, A, copies)))
-    room, wrong = ctypes.create_string_buffer(_HEADER_BYTES), ctypes.c_char_p()
-    number = _library.mahyrei_header_make(given, room, wrong)
+    made, wrong = ctypes.create_string_buffer(_HEADER_BYTES), ctypes.c_char_p()
+    number = _library.mahyrei_header_make(given, made, wrong)
     if number != 0:
         raise Refused(number, 0)
-    return room.raw
+    return made.raw
 
 
 def sentence(number):
@@ -831,10 +831,10 @@ def _put(made, length, out):
     """What was made, as bytes or in `out`."""
     if out is None:
         return bytes(made)
-    room = _room(length, out, ())
-    room.let_go()
-    if room.length != length:
-        raise ValueError(f"{length} bytes are written, and out has {room.length}")
+    written = _out_slice(length, out, ())
+    written.let_go()
+    if written.length != length:
+        raise ValueError(f"{length} bytes are written, and out has {written.length}")
     result = _in_row(out)
     result[:] = made
     return result

@@ -303,11 +303,11 @@ static bool prepare(struct batch *batch, const char *results) {
     if (!count_jobs(batch->line, &batch->jobs) ||
         !list_take(batch->line->operands[0], &batch->list) ||
         !list_check(&batch->list, others, sizeof others / sizeof others[0]) ||
-        !make_room(batch->jobs * sizeof *batch->workers, &workers)) {
+        !make_buffer(batch->jobs * sizeof *batch->workers, &workers)) {
         return false;
     }
     batch->workers = (void *)workers.at;
-    if (!make_room(batch->jobs * sizeof *batch->polled, &polled)) {
+    if (!make_buffer(batch->jobs * sizeof *batch->polled, &polled)) {
         return false;
     }
     batch->polled = (void *)polled.at;

@@ -181,13 +181,13 @@ static bool make_text(const char *name, struct bytes *text) {
 }
 
 bool list_take(const char *name, struct batch_list *list) {
-    struct bytes room;
+    struct bytes buffer;
     *list = (struct batch_list){0};
     if (!take_in(name, LIST_LIMIT, &list->text) || !make_text(name, &list->text) ||
-        !make_room(count_lines(&list->text) * sizeof *list->items, &room)) {
+        !make_buffer(count_lines(&list->text) * sizeof *list->items, &buffer)) {
         return false;
     }
-    list->items = (void *)room.at;
+    list->items = (void *)buffer.at;
     return take_lines(list);
 }
 
@@ -351,7 +351,7 @@ static bool gather_item(const struct item *item, size_t count, struct names *nam
     return true;
 }
 
-/* All names, into room for them; false without memory. */
+/* All names, into a buffer for them; false without memory. */
 static bool gather(const struct batch_list *list, const struct other others[], size_t count,
                    struct names *names) {
     for (size_t i = 0; i < list->count; i++) {

@@ -92,15 +92,15 @@ static int compare_records(const void *a, const void *b) {
 }
 
 static bool take_records(struct results *results) {
-    struct bytes room;
+    struct bytes buffer;
     size_t lines = 1, order = 0;
     for (size_t i = 0; i < results->text.len; i++) {
         lines += results->text.at[i] == '\n';
     }
-    if (!make_room(lines * sizeof *results->records, &room)) {
+    if (!make_buffer(lines * sizeof *results->records, &buffer)) {
         return false;
     }
-    results->records = (void *)room.at;
+    results->records = (void *)buffer.at;
     /* What a power cut leaves can have NUL bytes, so lines end by length and not by the first. */
     char *const all = (char *)results->text.at;
     for (size_t at = 0, end; at < results->text.len; at = end + 1) {
@@ -175,7 +175,7 @@ static bool prepare(struct results *results, const char *name) {
 static bool read_text(struct results *results, const char *name) {
     struct stat status;
     if (fstat(results->file, &status) != 0 ||
-        !make_room((size_t)status.st_size + 1, &results->text)) {
+        !make_buffer((size_t)status.st_size + 1, &results->text)) {
         complain(name, errno);
         return false;
     }

@@ -6,7 +6,7 @@
 #include "files/inputs.h"
 #include "report/messages.h"
 #include "report/progress.h"
-#include "runs/capture.h"
+#include "runs/run_slots.h"
 #include "runs/sheet.h"
 #include "runs/sigmf.h"
 #include "system/descriptors.h"
@@ -111,9 +111,9 @@ void say_start(const struct operands *operands, const char *what) {
 enum status cut_run(const struct operands *operands, struct lent *run, struct entry *entry) {
     struct sheet sheet;
     uint64_t answer;
-    /* Where the header is refused there is no room, and the call says why. */
+    /* Where the header is refused there is no buffer, and the call says why. */
     sheet_of(&run->header, &sheet);
-    if (!make_room(sheet.sizes.slot_bytes, &run->slots)) {
+    if (!make_buffer(sheet.sizes.slot_bytes, &run->slots)) {
         return FAILED;
     }
     progress_phase(CODING);
@@ -142,7 +142,7 @@ enum status cut_to_look(const struct operands *operands, struct lent *run, struc
 
 /* A marker that is damaged at slot 0 is found again where the next line begins, and that is no sign
  * of a capture. */
-bool stands_elsewhere(const struct lent *run, uint64_t *slot) {
+bool marker_found_elsewhere(const struct lent *run, uint64_t *slot) {
     struct sheet sheet;
     struct lent as_capture = {.header = run->header, .marker = run->marker};
     uint64_t answer;
@@ -158,7 +158,7 @@ bool stands_elsewhere(const struct lent *run, uint64_t *slot) {
 
 void say_elsewhere(const struct operands *operands, const struct lent *run) {
     uint64_t slot;
-    if (stands_elsewhere(run, &slot)) {
+    if (marker_found_elsewhere(run, &slot)) {
         remark(is_dash(operands->slots) ? "standard input" : operands->slots,
                "the whole marker begins at slot %" PRIu64
                " and not at slot 0. Slots begin with the run; if this is a capture, which begins "

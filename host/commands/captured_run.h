@@ -53,7 +53,7 @@ enum status cut_to_look(const struct operands *operands, struct lent *run, struc
 
 /* Of slots that were refused: whether the whole marker begins elsewhere in them, as in a capture,
  * and not where a line of a run begins; and where. */
-bool stands_elsewhere(const struct lent *run, uint64_t *slot);
+bool marker_found_elsewhere(const struct lent *run, uint64_t *slot);
 
 /* Says that, where it is so. */
 void say_elsewhere(const struct operands *operands, const struct lent *run);

@@ -129,9 +129,9 @@ static enum status call(const struct line *line, const struct bytes *header,
                         struct reckoning *reckoning, struct entry *entry) {
     struct bytes counts;
     uint64_t answer;
-    /* Where the header is refused there is no room, and the call says why. */
+    /* Where the header is refused there is no buffer, and the call says why. */
     const unsigned refused = sheet_of(header, &reckoning->run);
-    if (!make_room(reckoning->run.sizes.C * sizeof *reckoning->counts, &counts)) {
+    if (!make_buffer(reckoning->run.sizes.C * sizeof *reckoning->counts, &counts)) {
         return FAILED;
     }
     reckoning->counts = (uint32_t *)(void *)counts.at;

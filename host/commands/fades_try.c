@@ -151,7 +151,7 @@ static bool try_all(const struct reckoning *reckoning, const struct pairs *pairs
         complain("memory", ENOMEM);
         return false;
     }
-    bool good = make_room(reckoning->run.sizes.C * sizeof(uint32_t), &counts);
+    bool good = make_buffer(reckoning->run.sizes.C * sizeof(uint32_t), &counts);
     for (size_t i = 0; good && i < pairs->count; i++) {
         trials[i] = (struct trial){.pair = pairs->at[i]};
         good = try_pair(reckoning, (uint32_t *)(void *)counts.at, &trials[i]);

@@ -19,15 +19,28 @@ static void print_option(FILE *to, enum option_id option) {
     fputc(']', to);
 }
 
+/* Operands that --sigmf takes the place of, where a command reads slots or a capture. */
+static const char DESCRIBED_NAMES[] = "HEADER MARKER ";
+
+static bool reads_described(const struct command *command) {
+    return (command->options & WITH(SIGMF)) != 0 && command->run != write_command;
+}
+
 void print_usage_of(FILE *to, const char *before, const struct command *command) {
+    const char *inputs = command->inputs;
     fprintf(to, "%s mahyrei %s", before, command->name);
     for (int option = 0; option < OPTION_COUNT; option++) {
-        if ((command->options & WITH(option)) != 0) {
+        if ((command->options & WITH(option)) != 0 &&
+            !(option == SIGMF && reads_described(command))) {
             print_option(to, (enum option_id)option);
         }
     }
     print_names(to, command->first);
-    print_names(to, command->inputs);
+    if (reads_described(command)) {
+        fputs(" {--sigmf | HEADER MARKER}", to);
+        inputs += strlen(DESCRIBED_NAMES);
+    }
+    print_names(to, inputs);
     print_names(to, command->words);
     print_names(to, command->output);
     fputc('\n', to);
@@ -42,8 +55,19 @@ static void print_usage(FILE *to) {
     fprintf(to, "%s mahyrei --help | --version\n", before);
 }
 
-/* An option, where it is one of the set. */
-static void print_options(FILE *to, unsigned set) {
+/* What an option does for a command, or for all of them where that is NULL. */
+static const char *option_help(const struct command *command, int option) {
+    if (option != SIGMF || command == NULL) {
+        return OPTIONS[option].help;
+    }
+    return reads_described(command) ? "takes header and marker from the metadata beside the slots"
+                                    : "puts metadata beside SLOTS";
+}
+
+/* The options that a command has, or all. */
+static void print_options(FILE *to, const struct command *command) {
+    const unsigned set =
+        command == NULL ? ~0U : options_of(command) & ~(WITH(HELP) | WITH(VERSION));
     for (int option = 0; option < OPTION_COUNT; option++) {
         const struct option_line *const line = &OPTIONS[option];
         char letter[] = "    ", text[40];
@@ -55,7 +79,7 @@ static void print_options(FILE *to, unsigned set) {
         }
         snprintf(text, sizeof text, "%s--%s%s%s", letter, line->name,
                  line->value == NULL ? "" : " ", line->value == NULL ? "" : line->value);
-        fprintf(to, "  %-28s %s\n", text, line->help);
+        fprintf(to, "  %-28s %s\n", text, option_help(command, option));
     }
 }
 
@@ -77,7 +101,7 @@ static void print_all_help(FILE *to) {
         "a line, its first symbol and its length, and for batch one run a line. AREA is the file\n"
         "of a rack; CALLER, OWNER and TO are missions, 0 to 3, and PLACE is 0 to 3.\n\n",
         to);
-    print_options(to, ~0U);
+    print_options(to, NULL);
     fputs("\nThe log is the file of --log, or the one that MAHYREI_LOG names, or standard error if "
           "that "
           "is\nno terminal.\n"
@@ -155,7 +179,7 @@ static void print_one_help(FILE *to, const struct command *command) {
     print_operands(to, command, command->words);
     print_operands(to, command, command->output);
     fputc('\n', to);
-    print_options(to, options_of(command) & ~(WITH(HELP) | WITH(VERSION)));
+    print_options(to, command);
     fprintf(to, "\nFor example:\n  %s\n", command->example);
 }
 

@@ -1,4 +1,4 @@
-/* inspect: what is wrong in a capture, counted and listed, and as a picture. */
+/* inspect: what is wrong in the slots of a run, counted and listed, and as a picture. */
 #include <errno.h>
 #include <inttypes.h>
 #include <stdio.h>
@@ -11,15 +11,15 @@
 #include "files/outputs.h"
 #include "formats/text.h"
 #include "library/library.h"
-#include "pictures/capture_page.h"
-#include "pictures/capture_picture.h"
+#include "pictures/run_page.h"
+#include "pictures/run_picture.h"
 #include "report/messages.h"
 #include "report/progress.h"
 #include "runs/annotations.h"
-#include "runs/capture.h"
 #include "runs/findings.h"
 #include "runs/layout.h"
 #include "runs/refusal_details.h"
+#include "runs/run_slots.h"
 #include "runs/sheet.h"
 #include "runs/sigmf.h"
 #include "system/descriptors.h"
@@ -38,9 +38,9 @@ static void count_line(FILE *to, char letter, const char *what, uint64_t count, 
 }
 
 /* How many symbols could have this fault. */
-static uint64_t candidates(const struct capture *capture, size_t fault) {
-    const struct mahyrei_sizes *const sizes = &capture->run.sizes;
-    return fault == WRONG_MARKER ? sizes->R * capture->run.fields.W
+static uint64_t candidates(const struct run_slots *slots, size_t fault) {
+    const struct mahyrei_sizes *const sizes = &slots->run.sizes;
+    return fault == WRONG_MARKER ? sizes->R * slots->run.fields.W
            : fault == NOT_ZERO   ? (sizes->R - sizes->C) * sizes->S
                                  : sizes->pooled;
 }
@@ -64,22 +64,22 @@ static const char *const FRAME_LINES[] = {
     [FRAME_UNKNOWN] = "frames not known: a word was not accepted",
 };
 
-static void print_counts(FILE *to, const struct capture *capture, const struct findings *findings) {
-    const struct mahyrei_sizes *const sizes = &capture->run.sizes;
-    const uint64_t frame_bits = capture->run.fields.A * marked_bits(&capture->run);
+static void print_counts(FILE *to, const struct run_slots *slots, const struct findings *findings) {
+    const struct mahyrei_sizes *const sizes = &slots->run.sizes;
+    const uint64_t frame_bits = slots->run.fields.A * marked_bits(&slots->run);
     for (size_t i = 0; i < FAULTS; i++) {
-        count_line(to, FAULT_LINES[i].letter, fault_name(capture, i), findings->symbols[i].count,
-                   candidates(capture, i));
+        count_line(to, FAULT_LINES[i].letter, fault_name(slots, i), findings->symbols[i].count,
+                   candidates(slots, i));
     }
     count_line(to, ' ', "spare bits set after the slots", findings->spare.count,
                sizes->slot_bytes * 8 - sizes->slots);
     for (size_t i = 0; i < sizeof WORD_LINES / sizeof WORD_LINES[0]; i++) {
-        count_line(to, ' ', WORD_LINES[i].what,
-                   count_words(capture, findings, WORD_LINES[i].number), sizes->C);
+        count_line(to, ' ', WORD_LINES[i].what, count_words(slots, findings, WORD_LINES[i].number),
+                   sizes->C);
     }
     for (size_t i = 0; i <= FRAME_UNKNOWN; i++) {
-        count_line(to, ' ', FRAME_LINES[i], count_frames(capture, findings, (enum frame_state)i),
-                   capture->run.fields.A);
+        count_line(to, ' ', FRAME_LINES[i], count_frames(slots, findings, (enum frame_state)i),
+                   slots->run.fields.A);
     }
     count_line(to, ' ', "fill bits set after the frames", findings->fill.count,
                sizes->C * sizes->k - frame_bits);
@@ -99,9 +99,9 @@ static void print_position(FILE *to, const struct position *position) {
 }
 
 static void print_symbol(FILE *to, const struct scene *scene, uint64_t symbol, enum fault fault) {
-    const struct capture *const capture = scene->capture;
-    const uint64_t slot = scene->slot + fault_slot(capture, symbol, fault);
-    const struct position position = position_of(&capture->run, symbol);
+    const struct run_slots *const slots = scene->slots;
+    const uint64_t slot = scene->slot + fault_slot(slots, symbol, fault);
+    const struct position position = position_of(&slots->run, symbol);
     fprintf(to, "    symbol %" PRIu64 ", slot %" PRIu64 ", byte %" PRIu64 ": ", symbol, slot,
             slot / 8);
     print_position(to, &position);
@@ -117,7 +117,7 @@ static void print_symbols(FILE *to, const struct scene *scene) {
     for (size_t i = 0; i < FAULTS; i++) {
         const struct found *const found = &scene->findings->symbols[i];
         if (found->count > 0) {
-            fprintf(to, "  %s\n", fault_name(scene->capture, i));
+            fprintf(to, "  %s\n", fault_name(scene->slots, i));
         }
         for (size_t j = 0; j < found->count && j < FIRST_FEW; j++) {
             print_symbol(to, scene, found->first[j], (enum fault)i);
@@ -136,10 +136,10 @@ static void print_bits(FILE *to, const struct found *found, const char *what, co
     print_rest(to, found->count);
 }
 
-static void print_words(FILE *to, const struct capture *capture, const struct findings *findings,
+static void print_words(FILE *to, const struct run_slots *slots, const struct findings *findings,
                         const struct word_line *line) {
     uint64_t listed = 0;
-    for (uint64_t i = 0; i < capture->run.sizes.C; i++) {
+    for (uint64_t i = 0; i < slots->run.sizes.C; i++) {
         const uint64_t answer = findings->words[i];
         const uint64_t number = answer == NOT_ASKED ? NOT_ASKED : mahyrei_answer_number(answer);
         if (number != line->number || ++listed > FIRST_FEW) {
@@ -152,16 +152,16 @@ static void print_words(FILE *to, const struct capture *capture, const struct fi
         if (number == MAHYREI_BAD_CODE) {
             fprintf(to, ", first wrong coded bit %" PRIu64, mahyrei_answer_place(answer));
         }
-        fprintf(to, ", its first symbol is symbol %" PRIu64 "\n", symbol_of(&capture->run, i, 0));
+        fprintf(to, ", its first symbol is symbol %" PRIu64 "\n", symbol_of(&slots->run, i, 0));
     }
     print_rest(to, listed);
 }
 
-static void print_frames(FILE *to, const struct capture *capture, const struct findings *findings,
+static void print_frames(FILE *to, const struct run_slots *slots, const struct findings *findings,
                          enum frame_state state) {
-    const uint64_t marked = marked_bits(&capture->run);
+    const uint64_t marked = marked_bits(&slots->run);
     uint64_t listed = 0;
-    for (uint64_t i = 0; i < capture->run.fields.A; i++) {
+    for (uint64_t i = 0; i < slots->run.fields.A; i++) {
         if (findings->frames[i] != state || ++listed > FIRST_FEW) {
             continue;
         }
@@ -169,21 +169,21 @@ static void print_frames(FILE *to, const struct capture *capture, const struct f
             fprintf(to, "  %s\n", FRAME_LINES[state]);
         }
         fprintf(to, "    frame %" PRIu64 ", from word %" PRIu64 " bit %" PRIu64 " on\n", i,
-                i * marked / capture->run.sizes.k, i * marked % capture->run.sizes.k);
+                i * marked / slots->run.sizes.k, i * marked % slots->run.sizes.k);
     }
     print_rest(to, listed);
 }
 
 static void print_first(FILE *to, const struct scene *scene) {
-    const struct capture *const capture = scene->capture;
+    const struct run_slots *const slots = scene->slots;
     const struct findings *const findings = scene->findings;
     print_symbols(to, scene);
     print_bits(to, &findings->spare, "spare bits set after the slots", "slot");
     for (size_t i = 1; i < sizeof WORD_LINES / sizeof WORD_LINES[0]; i++) {
-        print_words(to, capture, findings, &WORD_LINES[i]);
+        print_words(to, slots, findings, &WORD_LINES[i]);
     }
-    print_frames(to, capture, findings, FRAME_WRONG);
-    print_frames(to, capture, findings, FRAME_UNKNOWN);
+    print_frames(to, slots, findings, FRAME_WRONG);
+    print_frames(to, slots, findings, FRAME_UNKNOWN);
     print_bits(to, &findings->fill, "fill bits set after the frames", "bit of the joined frames");
 }
 
@@ -195,10 +195,10 @@ struct parts {
     uint64_t counts[PARTS][FAULTS], totals[PARTS], most;
 };
 
-static void count_parts(const struct capture *capture, const uint8_t *marker, struct parts *parts) {
-    for (uint64_t symbol = 0; symbol < capture->run.sizes.pooled; symbol++) {
-        const enum fault fault = fault_of(capture, marker, symbol);
-        const uint64_t part = symbol * PARTS / capture->run.sizes.pooled;
+static void count_parts(const struct run_slots *slots, const uint8_t *marker, struct parts *parts) {
+    for (uint64_t symbol = 0; symbol < slots->run.sizes.pooled; symbol++) {
+        const enum fault fault = fault_of(slots, marker, symbol);
+        const uint64_t part = symbol * PARTS / slots->run.sizes.pooled;
         if (fault != SOUND) {
             parts->counts[part][fault]++;
             parts->totals[part]++;
@@ -218,16 +218,16 @@ static void print_bar(FILE *to, const uint64_t counts[FAULTS], uint64_t most) {
     }
 }
 
-static void print_histogram(FILE *to, const struct capture *capture, const uint8_t *marker) {
+static void print_histogram(FILE *to, const struct run_slots *slots, const uint8_t *marker) {
     struct parts parts = {0};
-    count_parts(capture, marker, &parts);
+    count_parts(slots, marker, &parts);
     if (parts.most == 0) {
         return;
     }
     fputs("\nOver the run, from which symbol on, how many, and of which letter:\n", to);
     for (uint64_t i = 0; i < PARTS; i++) {
         /* The first symbol of a part: the division in count_parts, turned round. */
-        const uint64_t first = (i * capture->run.sizes.pooled + PARTS - 1) / PARTS;
+        const uint64_t first = (i * slots->run.sizes.pooled + PARTS - 1) / PARTS;
         fprintf(to, "  %9" PRIu64 " %9" PRIu64 "  ", first, parts.totals[i]);
         print_bar(to, parts.counts[i], parts.most);
         fputs("\n", to);
@@ -264,32 +264,32 @@ static void print_start(FILE *to, const struct scene *scene) {
 }
 
 static void print_report(FILE *to, const struct scene *scene) {
-    const struct capture *const capture = scene->capture;
+    const struct run_slots *const slots = scene->slots;
     const struct findings *const findings = scene->findings;
     print_answer(to, scene);
     fputs(FOREWORD, to);
     print_start(to, scene);
-    if (capture->slots.len != capture->run.sizes.slot_bytes) {
+    if (slots->bytes.len != slots->run.sizes.slot_bytes) {
         fprintf(to, "\nThe %s %zu bytes, and the header implies %zu.\n",
-                scene->captured ? "capture has of the run" : "slots have", capture->slots.len,
-                capture->run.sizes.slot_bytes);
+                scene->captured ? "capture has of the run" : "slots have", slots->bytes.len,
+                slots->run.sizes.slot_bytes);
     }
-    if (scene->answer != MAHYREI_ACCEPTED && !scene->captured && look_unpacked(&capture->slots)) {
+    if (scene->answer != MAHYREI_ACCEPTED && !scene->captured && look_unpacked(&slots->bytes)) {
         fputs(
             "\nEach byte is 0 or 1: these look like slots that are not packed, a byte to a slot;\n"
             "`mahyrei pack` packs them.\n",
             to);
     }
-    if (capture->run.fields.copies > 1) {
+    if (slots->run.fields.copies > 1) {
         fprintf(to, "\nEach symbol is sent %" PRIu64 " times, and its copies are pooled.\n",
-                capture->run.fields.copies);
+                slots->run.fields.copies);
     }
     fputs("\nHow many:\n", to);
-    print_counts(to, capture, findings);
+    print_counts(to, slots, findings);
     if (scene->answer != MAHYREI_ACCEPTED) {
         fputs("\nThe first of each:\n", to);
         print_first(to, scene);
-        print_histogram(to, capture, scene->marker);
+        print_histogram(to, slots, scene->marker);
     }
 }
 
@@ -325,15 +325,15 @@ static enum status take_in_slots(struct operands *operands, struct lent *run, st
 static bool make_frames(struct lent *run) {
     struct sheet sheet;
     sheet_of(&run->header, &sheet);
-    return make_room(sheet.sizes.frame_bytes, &run->frames);
+    return make_buffer(sheet.sizes.frame_bytes, &run->frames);
 }
 
 /* There is nothing to inspect where the header or the marker is wrong. */
-static bool has_run(const struct lent *run, const struct capture *capture, uint64_t answer) {
+static bool has_run(const struct lent *run, const struct run_slots *slots, uint64_t answer) {
     const unsigned number = mahyrei_answer_number(answer);
     return number == MAHYREI_ACCEPTED ||
            (number > MAHYREI_BAD_LENGTH && number != MAHYREI_BAD_COPIES) ||
-           (number == MAHYREI_BAD_LENGTH && run->marker.len == capture->run.sizes.marker_bytes);
+           (number == MAHYREI_BAD_LENGTH && run->marker.len == slots->run.sizes.marker_bytes);
 }
 
 /* The page has the report too. */
@@ -367,7 +367,7 @@ static bool annotate(FILE *to, const void *what) {
     const struct annotated *const annotated = what;
     const struct scene *const scene = annotated->scene;
     sigmf_print_begin(to, annotated->dataset);
-    annotate_run(to, scene->capture, scene->marker, scene->slot, scene->answer);
+    annotate_run(to, scene->slots, scene->marker, scene->slot, scene->answer, scene->sentence);
     sigmf_print_end(to);
     return true;
 }
@@ -397,7 +397,7 @@ static bool drawings_ready(const struct line *line, struct drawings *drawings) {
 
 static enum status put_report(const struct drawings *drawings, const struct scene *scene) {
     const struct annotated annotated = {&drawings->dataset, scene};
-    if (expected_answer(scene->capture, scene->findings) != scene->answer) {
+    if (expected_answer(scene->slots, scene->findings) != scene->answer) {
         complain_text("inspect",
                       "what was found does not go with the answer of mahyrei_run_read, so it is "
                       "not shown");
@@ -431,9 +431,9 @@ static const char *sentence_of(uint64_t answer, bool captured) {
 static enum status put_findings(const struct drawings *drawings, const struct operands *operands,
                                 const struct lent *run, uint64_t answer) {
     struct findings findings = {0};
-    struct capture capture;
-    capture_of(&run->header, &run->slots, &capture);
-    if (!has_run(run, &capture, answer)) {
+    struct run_slots slots;
+    run_slots_of(&run->header, &run->slots, &slots);
+    if (!has_run(run, &slots, answer)) {
         say_refusal(answer, "The marker is longer or shorter than the header says.");
         say_where(answer, run, operands);
         return REFUSED;
@@ -441,18 +441,18 @@ static enum status put_findings(const struct drawings *drawings, const struct op
     const bool captured = operands->capture != NULL;
     const char *const name = captured ? operands->capture : operands->slots;
     struct scene scene = {.name = is_dash(name) ? "standard input" : name,
-                          .capture = &capture,
+                          .slots = &slots,
                           .marker = run->marker.at,
                           .findings = &findings,
                           .answer = answer,
                           .sentence = sentence_of(answer, captured),
                           .captured = captured,
                           .slot = operands->slot};
-    if (answer != MAHYREI_ACCEPTED && !captured && !stands_elsewhere(run, &scene.elsewhere)) {
+    if (answer != MAHYREI_ACCEPTED && !captured && !marker_found_elsewhere(run, &scene.elsewhere)) {
         scene.elsewhere = 0;
     }
     const enum status status =
-        find_all(&capture, run->marker.at, &findings) ? put_report(drawings, &scene) : FAILED;
+        find_all(&slots, run->marker.at, &findings) ? put_report(drawings, &scene) : FAILED;
     free_findings(&findings);
     return status;
 }

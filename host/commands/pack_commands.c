@@ -13,7 +13,7 @@
 
 /* A byte that is neither 0 nor 1 is no slot: nobody could say what was meant by it. */
 static bool pack(const char *name, const struct bytes *from, struct bytes *to) {
-    if (!make_room(from->len / 8 + (from->len % 8 != 0), to)) {
+    if (!make_buffer(from->len / 8 + (from->len % 8 != 0), to)) {
         return false;
     }
     if (to->len > 0) {
@@ -32,7 +32,7 @@ static bool pack(const char *name, const struct bytes *from, struct bytes *to) {
 
 static bool unpack(const char *name, const struct bytes *from, struct bytes *to) {
     (void)name;
-    if (!make_room(8 * from->len, to)) {
+    if (!make_buffer(8 * from->len, to)) {
         return false;
     }
     for (size_t i = 0; i < to->len; i++) {

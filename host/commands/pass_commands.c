@@ -31,9 +31,9 @@ static bool take_in_pass(bool writing, const struct line *line, struct pass *pas
 /* Room for as many words or blocks as were read, whatever the library will say of their number. */
 static bool make_room_for(bool writing, struct pass *pass) {
     const size_t each = mahyrei_word_block_bytes(pass->rate);
-    return writing ? make_room(each == 0 ? 0 : pass->blocks.len / each * MAHYREI_WORD_BYTES,
-                               &pass->words)
-                   : make_room(pass->words.len / MAHYREI_WORD_BYTES * each, &pass->blocks);
+    return writing ? make_buffer(each == 0 ? 0 : pass->blocks.len / each * MAHYREI_WORD_BYTES,
+                                 &pass->words)
+                   : make_buffer(pass->words.len / MAHYREI_WORD_BYTES * each, &pass->blocks);
 }
 
 /* Lends the pass to the library, and says what comes back. */

@@ -39,7 +39,7 @@ bool put_piece(printer *print, const void *what) {
     return good;
 }
 
-/* A picture in place of what was captured would be a loss that nobody meant. */
+/* A picture in place of the slots or the capture would be a loss that nobody meant. */
 struct output picture_as_told(const struct line *line, enum option_id option) {
     struct output picture = output_as_told(line, line->options[option]);
     picture.spared.what = "this is what is looked at, and no picture goes there";

@@ -13,7 +13,7 @@ typedef bool printer(FILE *to, const void *what);
 /* What is printed goes out as every output does, or where there is none to standard output. */
 bool put_printed(const struct output *output, printer *print, const void *what);
 
-/* The same for a piece of what goes to standard output; end_text comes behind the last. */
+/* The same for a piece of what goes to standard output; end_text comes after the last. */
 bool put_piece(printer *print, const void *what);
 
 /* The picture of --svg or the page of --html, which goes over none of the files that are read; no

@@ -170,7 +170,7 @@ static bool take_area(const char *name, struct rack *rack, struct file_id *id) {
     *id = (struct file_id){0};
     const bool has_folder = place_open(name, true, &place);
     place_close(&place);
-    if (!has_folder || !make_room(MAHYREI_RACK_BYTES, &rack->area)) {
+    if (!has_folder || !make_buffer(MAHYREI_RACK_BYTES, &rack->area)) {
         return false;
     }
     memset(rack->area.at, 0, rack->area.len);

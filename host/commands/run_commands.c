@@ -60,15 +60,15 @@ static bool take_in_run(bool writing, const struct operands *operands, struct le
     return writing || !whole || is_described(operands, from);
 }
 
-/* Lends the run's rooms to the library, and says what comes back. */
+/* Lends the run's buffers to the library, and says what comes back. */
 static enum status call(bool writing, const struct operands *operands, struct lent *run,
                         struct entry *entry) {
     struct sheet sheet;
     struct bytes *const to = writing ? &run->slots : &run->frames;
     uint64_t answer = 0;
-    /* Where the header is refused there is no room, and the call says why. */
+    /* Where the header is refused there is no buffer, and the call says why. */
     sheet_of(&run->header, &sheet);
-    if (!make_room(writing ? sheet.sizes.slot_bytes : sheet.sizes.frame_bytes, to)) {
+    if (!make_buffer(writing ? sheet.sizes.slot_bytes : sheet.sizes.frame_bytes, to)) {
         return FAILED;
     }
     progress_phase(CODING);
@@ -98,6 +98,18 @@ static bool ready(const struct operands *operands, struct output *output) {
     return output_ready(output);
 }
 
+/* Every line of a run begins with the marker, so that a run may begin later. */
+static void say_refused_start(const struct operands *operands) {
+    char from[64] = "";
+    if (operands->from > 0) {
+        snprintf(from, sizeof from, " from slot %" PRIu64 " on", operands->from);
+    }
+    remark(is_dash(operands->capture) ? "standard input" : operands->capture,
+           "the first whole marker%s begins at slot %" PRIu64 ", in byte %" PRIu64
+           "; `mahyrei scan` tries every start",
+           from, operands->slot, operands->slot / 8);
+}
+
 /* A run in a capture is found, cut out and read. What is refused once the marker is found is said
  * with where that is. */
 static enum status call_captured(struct operands *operands, struct lent *run, struct entry *entry) {
@@ -111,7 +123,7 @@ static enum status call_captured(struct operands *operands, struct lent *run, st
         status = call(false, operands, run, entry);
     }
     if (status == REFUSED) {
-        say_start(operands, "the first whole marker begins at");
+        say_refused_start(operands);
     }
     return status;
 }
@@ -166,7 +178,7 @@ static bool read_back(const struct output *output, const struct lent *run) {
     uint64_t answer = 0;
     back.slots = run->slots;
     bool good = output_read_back(output, run->slots.at, run->slots.len) &&
-                make_room(run->frames.len, &back.frames) && library_read(&back, &answer);
+                make_buffer(run->frames.len, &back.frames) && library_read(&back, &answer);
     if (good && (answer != MAHYREI_ACCEPTED ||
                  memcmp(back.frames.at, run->frames.at, run->frames.len) != 0)) {
         complain_text(output->name, "what is read back gives other frames");
@@ -175,6 +187,13 @@ static bool read_back(const struct output *output, const struct lent *run) {
     free(back.frames.at);
     return good;
 }
+
+/* What all is well means here, for programs. */
+static const char *const SENTENCES[] = {
+    [WRITING] = "All is well: the slots have been written, every byte of them.",
+    [READING] =
+        "All is well: the run is sound, and its frames have been written, every byte of them.",
+    [VERIFYING] = "All is well: the run is sound. Nothing was written."};
 
 /* For somebody at a terminal, who may erase another copy next. */
 static void put_words(enum way way, const struct line *line, const struct lent *run,
@@ -221,6 +240,7 @@ static enum status put_out(enum way way, const struct line *line, struct lent *r
         !metadata_put(line, metadata, output->name, run)) {
         return FAILED;
     }
+    entry->sentence = SENTENCES[way];
     put_words(way, line, run, entry);
     return DONE;
 }

@@ -60,6 +60,7 @@ static bool put_frames(struct scan *scan, uint64_t slot, struct entry *of_run) {
         struct output output = output_as_told(scan->line, name.at);
         output.ask = false;
         output.same_will_do = true;
+        output.to_disk = true;
         spare_capture(&output, scan->recording.id);
         output_spare(&output, log_id(scan->line->log));
         of_run->frames.name = name.at;
@@ -241,6 +242,18 @@ static uint64_t outcome(const struct scan_counts *counts) {
                                   : counts->first_refusal;
 }
 
+/* The same in a sentence; NULL where the number's own will do. */
+static const char *sentence_of(const struct scan_counts *counts) {
+    const unsigned number = mahyrei_answer_number(outcome(counts));
+    if (number == MAHYREI_BAD_LENGTH) {
+        return "The recording ends within the run.";
+    }
+    return number != MAHYREI_ACCEPTED ? NULL
+           : counts->folder == NULL
+               ? "All is well: a run is sound. Nothing was written."
+               : "All is well: a run is sound, and the frames of each that is are on the disk.";
+}
+
 static enum status conclude(struct scan *scan) {
     if (scan->counts.count > 0) {
         return DONE;
@@ -271,6 +284,7 @@ static enum status summarize(struct scan *scan, const struct drawings *drawings)
         return FAILED;
     }
     entry_answer(scan->entry, outcome(&scan->counts));
+    scan->entry->sentence = sentence_of(&scan->counts);
     if (!put_printed(NULL, report, scan)) {
         return FAILED;
     }
@@ -283,13 +297,13 @@ static enum status summarize(struct scan *scan, const struct drawings *drawings)
 
 /* ---- the command */
 
-/* Where the header is refused there is no room, and the search says why. */
-static bool make_rooms(struct scan *scan) {
+/* Where the header is refused there are no buffers, and the search says why. */
+static bool make_buffers(struct scan *scan) {
     const struct mahyrei_sizes *const sizes = &scan->counts.run.sizes;
     sheet_of(&scan->run.header, &scan->counts.run);
-    return make_room(sizes->slot_bytes + 1, &scan->run.capture) &&
-           make_room(sizes->slot_bytes, &scan->run.slots) &&
-           make_room(sizes->frame_bytes, &scan->run.frames) &&
+    return make_buffer(sizes->slot_bytes + 1, &scan->run.capture) &&
+           make_buffer(sizes->slot_bytes, &scan->run.slots) &&
+           make_buffer(sizes->frame_bytes, &scan->run.frames) &&
            search_begin(&scan->search, &scan->recording, &scan->run.header, &scan->run.marker);
 }
 
@@ -299,9 +313,11 @@ static bool take_in_recording(struct scan *scan) {
         !is_described(&scan->operands, &scan->recording.bytes)) {
         return false;
     }
-    scan->counts.slots = 8 * (uint64_t)scan->recording.bytes.len;
+    const uint64_t slots = 8 * (uint64_t)scan->recording.bytes.len, from = scan->operands.from;
+    scan->counts.slots = slots;
+    scan->counts.from = from < slots ? from : slots;
     entry_part(&scan->entry->capture, NULL, scan->recording.bytes.len, false);
-    return make_rooms(scan) && sent_once(&scan->operands, &scan->run);
+    return make_buffers(scan) && sent_once(&scan->operands, &scan->run);
 }
 
 static enum status go(struct scan *scan) {

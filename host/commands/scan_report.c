@@ -72,6 +72,9 @@ void print_scan(FILE *to, const struct scan_counts *counts) {
             counts->count == 1 ? "" : "s", grouped(counts->refused, refused),
             counts->refused == 1 ? "" : "s");
     print_count(to, "slots in the recording", counts->slots, "");
+    if (counts->from > 0) {
+        print_count(to, "slots not searched", counts->from, "");
+    }
     print_count(to, "runs sound", counts->count, "");
     print_refused(to, counts);
     print_count(to, "slots not in any run", scan_outside(counts), "");
@@ -115,8 +118,12 @@ void print_scan_json(FILE *to, const struct scan_counts *counts, const struct en
             before = ",";
         }
     }
+    fputc('}', to);
+    if (counts->from > 0) {
+        fprintf(to, ",\"slots_not_searched\":%" PRIu64, counts->from);
+    }
     fprintf(to,
-            "},\"slots_not_in_any_run\":%" PRIu64 ",\"longest_gap\":{\"slot\":%" PRIu64
+            ",\"slots_not_in_any_run\":%" PRIu64 ",\"longest_gap\":{\"slot\":%" PRIu64
             ",\"slots\":%" PRIu64 "}",
             scan_outside(counts), gap.first, gap.slots);
     const int status = entry->answer == MAHYREI_ACCEPTED ? DONE : REFUSED;

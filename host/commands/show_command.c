@@ -10,9 +10,9 @@
 #include "files/outputs.h"
 #include "library/library.h"
 #include "report/messages.h"
-#include "runs/capture.h"
 #include "runs/layout.h"
 #include "runs/refusal_details.h"
+#include "runs/run_slots.h"
 #include "runs/sheet.h"
 
 enum { BEFORE_SLOTS = 36 }; /* columns of a line */
@@ -28,9 +28,9 @@ static void print_position(FILE *to, const struct position *position) {
     }
 }
 
-static void print_slots(FILE *to, const struct capture *capture, uint64_t start) {
-    for (uint64_t slot = 0; slot < capture->run.sizes.group; slot++) {
-        const bool guard = slot >= capture->run.sizes.M, pulse = pulse_at(capture, start + slot);
+static void print_slots(FILE *to, const struct run_slots *slots, uint64_t start) {
+    for (uint64_t slot = 0; slot < slots->run.sizes.group; slot++) {
+        const bool guard = slot >= slots->run.sizes.M, pulse = pulse_at(slots, start + slot);
         fputc(pulse ? (guard ? '!' : '|') : (guard ? '_' : '.'), to);
     }
 }
@@ -50,18 +50,18 @@ static void print_fault(FILE *to, const struct group *group, bool once) {
 }
 
 /* The copies after the first, each below the one before. */
-static void print_copies(FILE *to, const struct capture *capture, uint64_t symbol) {
-    const uint64_t group = capture->run.sizes.group, start = first_slot(capture, symbol);
-    for (uint64_t copy = 1; copy < capture->run.fields.copies; copy++) {
+static void print_copies(FILE *to, const struct run_slots *slots, uint64_t symbol) {
+    const uint64_t group = slots->run.sizes.group, start = first_slot(slots, symbol);
+    for (uint64_t copy = 1; copy < slots->run.fields.copies; copy++) {
         fprintf(to, "%*s", BEFORE_SLOTS, "");
-        print_slots(to, capture, start + copy * group);
+        print_slots(to, slots, start + copy * group);
         fputc('\n', to);
     }
 }
 
-static void print_symbol(FILE *to, const struct capture *capture, uint64_t symbol) {
-    const struct position position = position_of(&capture->run, symbol);
-    const struct group group = group_of(capture, symbol);
+static void print_symbol(FILE *to, const struct run_slots *slots, uint64_t symbol) {
+    const struct position position = position_of(&slots->run, symbol);
+    const struct group group = group_of(slots, symbol);
     fprintf(to, "%7" PRIu64 "  ", symbol);
     print_position(to, &position);
     if (group.pulses == 1 && group.guard_pulses == 0) {
@@ -69,32 +69,32 @@ static void print_symbol(FILE *to, const struct capture *capture, uint64_t symbo
     } else {
         fputs("  -  ", to);
     }
-    print_slots(to, capture, first_slot(capture, symbol));
-    print_fault(to, &group, capture->run.fields.copies == 1);
+    print_slots(to, slots, first_slot(slots, symbol));
+    print_fault(to, &group, slots->run.fields.copies == 1);
     fputc('\n', to);
-    print_copies(to, capture, symbol);
+    print_copies(to, slots, symbol);
 }
 
 /* Some symbols at a time: all of a long run would be gigabytes of text. */
 enum { AT_ONCE = 1024 };
 
 struct some {
-    const struct capture *capture;
+    const struct run_slots *slots;
     uint64_t from, count;
 };
 
 static bool print_some(FILE *to, const void *what) {
     const struct some *const some = what;
     for (uint64_t i = 0; i < some->count; i++) {
-        print_symbol(to, some->capture, some->from + i);
+        print_symbol(to, some->slots, some->from + i);
     }
     return true;
 }
 
-static enum status draw(const struct capture *capture, uint64_t from, uint64_t count) {
-    const uint64_t there = capture->present - from, end = from + (count < there ? count : there);
+static enum status draw(const struct run_slots *slots, uint64_t from, uint64_t count) {
+    const uint64_t there = slots->present - from, end = from + (count < there ? count : there);
     while (from < end) {
-        const struct some some = {capture, from, end - from < AT_ONCE ? end - from : AT_ONCE};
+        const struct some some = {slots, from, end - from < AT_ONCE ? end - from : AT_ONCE};
         if (!put_piece(print_some, &some)) {
             return FAILED;
         }
@@ -151,7 +151,7 @@ static enum status judge_header(const struct operands *operands, const struct le
 static enum status show(const struct line *line, struct lent *run, struct entry *entry) {
     char *const *const given = line->operands;
     struct operands operands = {.header = given[0], .marker = line->options[MARKER]};
-    struct capture capture;
+    struct run_slots slots;
     uint64_t from, count;
     *(line->options[CAPTURE] != NULL ? &operands.capture : &operands.slots) = given[1];
     if (!take_number(given[2], &from) || !take_number(given[3], &count) ||
@@ -163,15 +163,15 @@ static enum status show(const struct line *line, struct lent *run, struct entry 
     if (status != DONE) {
         return status;
     }
-    capture_of(&run->header, &run->slots, &capture);
-    if (from >= capture.present) {
+    run_slots_of(&run->header, &run->slots, &slots);
+    if (from >= slots.present) {
         complain_text(given[2], "there is no such symbol");
         return FAILED;
     }
     if (operands.capture != NULL && line->options[QUIET] == NULL) {
         say_start(&operands, "symbols are counted from");
     }
-    return draw(&capture, from, count);
+    return draw(&slots, from, count);
 }
 
 enum status show_command(const struct line *line, struct entry *entry) {

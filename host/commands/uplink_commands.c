@@ -31,8 +31,8 @@ static bool take_in_uplink(bool writing, const struct line *line, struct uplink 
  * number. */
 static bool make_room_for(bool writing, struct uplink *uplink) {
     const size_t frame = MAHYREI_UPLINK_FRAME_BYTES, codeblock = MAHYREI_UPLINK_CODEBLOCK_BYTES;
-    return writing ? make_room(uplink->frames.len / frame * codeblock, &uplink->slots)
-                   : make_room(uplink->slots.len / codeblock * frame, &uplink->frames);
+    return writing ? make_buffer(uplink->frames.len / frame * codeblock, &uplink->slots)
+                   : make_buffer(uplink->slots.len / codeblock * frame, &uplink->frames);
 }
 
 /* Lends frames and slots to the library, and says what comes back. */

@@ -58,7 +58,7 @@ static enum status make_trip(struct trip *trip, const struct line *line, struct 
         return FAILED;
     }
     entry_form(trip->from_entry, trip->from->at, trip->from->len);
-    if (!make_room(to_len, trip->to)) {
+    if (!make_buffer(to_len, trip->to)) {
         return FAILED;
     }
     const enum status status = call(trip, line, entry);

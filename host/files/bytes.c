@@ -5,10 +5,10 @@
 
 #include "report/messages.h"
 
-bool make_room(size_t len, struct bytes *room) {
-    room->len = len;
-    room->at = len == 0 ? NULL : malloc(len);
-    if (len > 0 && room->at == NULL) {
+bool make_buffer(size_t len, struct bytes *buffer) {
+    buffer->len = len;
+    buffer->at = len == 0 ? NULL : malloc(len);
+    if (len > 0 && buffer->at == NULL) {
         complain("memory", ENOMEM);
         return false;
     }

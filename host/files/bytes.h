@@ -13,6 +13,6 @@ struct bytes {
 };
 
 /* Room for so many bytes; what is wrong has been said. */
-bool make_room(size_t len, struct bytes *room);
+bool make_buffer(size_t len, struct bytes *buffer);
 
 #endif

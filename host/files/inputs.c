@@ -158,7 +158,7 @@ static size_t gap(const char *text) {
 
 /* Two digits to a byte. */
 static bool read_digits(const char *text, size_t limit, struct bytes *to) {
-    if (!make_room(strlen(text) / 2, to)) {
+    if (!make_buffer(strlen(text) / 2, to)) {
         return false;
     }
     to->len = 0;

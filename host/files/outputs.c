@@ -179,6 +179,10 @@ bool output_put(const struct output *output, const void *from, size_t len) {
         return good;
     }
     if (stat(output->name, &status) == 0 && !S_ISREG(status.st_mode)) {
+        if (output->to_disk && !S_ISDIR(status.st_mode)) {
+            complain_text(output->name, "this is no file, and would keep nothing on the disk");
+            return false;
+        }
         return write_device(output, from, len);
     }
     if (handed == FOREIGN_DESCRIPTOR) {

@@ -17,6 +17,7 @@ struct output {
     bool ask;             /* where the file is there, somebody at a terminal may be asked */
     struct file_id own;   /* a file that may be replaced in any case */
     bool same_will_do;    /* a file that is there and has these very bytes is the output */
+    bool to_disk;         /* it is a file, and no device or pipe of that name */
     struct spared spared; /* files that are not replaced, even with force */
 };
 

@@ -8,7 +8,7 @@
 /* Decimal digits and nothing else, up to the largest number. */
 bool read_number(const char *text, uint64_t *number);
 
-/* A number for people, 1,500, in room for the largest; what is printed is also given back. */
+/* A number for people, 1,500, in a buffer for the largest; what is printed is also given back. */
 enum { GROUPED = 32 };
 const char *grouped(uint64_t number, char text[GROUPED]);
 

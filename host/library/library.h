@@ -30,8 +30,8 @@ bool library_read(const struct lent *lent, uint64_t *answer);
  */
 bool library_find(const struct lent *lent, uint64_t from, uint64_t *answer);
 
-/* All slots from this one on at which the marker stands, as many as there is room for; where there
- * are fewer, no more are in the capture. */
+/* All slots from this one on at which the marker begins, STARTS_MOST at most; where there are
+ * fewer, no more are in the capture. */
 enum { STARTS_MOST = 4096 };
 struct starts {
     size_t count;
@@ -40,7 +40,7 @@ struct starts {
 bool library_find_many(const struct lent *lent, uint64_t from, struct starts *starts);
 bool library_cut(const struct lent *lent, uint64_t slot, uint64_t *answer);
 
-/* A word of MAHYREI_WORD_BYTES, and room for a block of this rate. */
+/* A word of MAHYREI_WORD_BYTES, and a buffer for a block of this rate. */
 bool library_word_read(uint64_t rate, const uint8_t *word, uint8_t *block, uint64_t *answer);
 
 /* What a pass call is lent. */
@@ -60,7 +60,8 @@ struct uplink {
 bool library_uplink_write(const struct uplink *uplink, uint64_t *answer);
 bool library_uplink_read(const struct uplink *uplink, uint64_t *answer);
 
-/* What a rack call is lent and told: a load and a read the header, a loan the borrower. */
+/* What a rack call is lent, and its numbers: a load and a read have the header, a loan the
+ * borrower. */
 struct rack {
     struct bytes area, header;
     uint64_t caller, owner, place, to;
@@ -77,7 +78,7 @@ bool library_spread(uint64_t rate, uint64_t bit, uint8_t *places, uint64_t *answ
 /* The answer to a header alone: 0, or a number from 1 to 7, and of 7 only W's range, or 20. */
 bool library_header(const struct bytes *header, uint64_t *answer);
 
-/* A header in one form, and room for the other. */
+/* A header in one form, and a buffer for the other. */
 struct forms {
     struct bytes eight, ten;
 };
@@ -85,7 +86,7 @@ struct forms {
 bool library_widen(const struct forms *forms, uint64_t *answer);
 bool library_narrow(const struct forms *forms, uint64_t *answer);
 
-/* A header, pairs of first symbol and length, and room for a count of each word. Lengths count
+/* A header, pairs of first symbol and length, and a buffer for a count of each word. Lengths count
  * numbers. */
 struct reckoned {
     struct bytes header;

@@ -41,9 +41,10 @@ static void print_title(FILE *to, const struct reckoning *reckoning, uint32_t mo
     open_text(to, 24, 69, 12, PALE);
     fprintf(to,
             "rate %s, M %" PRIu64 ", N %" PRIu64 ", B %" PRIu64 ", F %" PRIu64 ", W %" PRIu64
-            ", A %" PRIu64 ": %" PRIu64 " words in %" PRIu64 " rows of %" PRIu64 " + %" PRIu64
+            ", A %" PRIu64 ": %" PRIu64 " word%s in %" PRIu64 " row%s of %" PRIu64 " + %" PRIu64
             "</text>\n",
-            rate_name(f->rate), s->M, f->N, f->B, f->F, f->W, f->A, s->C, s->R, f->W, s->S);
+            rate_name(f->rate), s->M, f->N, f->B, f->F, f->W, f->A, s->C, s->C == 1 ? "" : "s",
+            s->R, s->R == 1 ? "" : "s", f->W, s->S);
 }
 
 /* ---- the map */
@@ -77,7 +78,7 @@ static uint64_t bar_width(uint64_t C) {
 static void print_levels(FILE *to, uint32_t most, uint64_t top) {
     const uint64_t step = round_step(most, LEVELS);
     for (uint64_t level = 0; level <= most; level += step) {
-        const uint64_t y = top + CHART_HEIGHT - (most == 0 ? 0 : level * CHART_HEIGHT / most);
+        const uint64_t y = top + CHART_HEIGHT - level * CHART_HEIGHT / most;
         fprintf(to, "<path stroke=\"#d5dde6\" d=\"M%d %" PRIu64 "h%d\"/>\n", MAP_SYMBOLS - 4, y,
                 MAP_WIDTH + 4);
         open_text(to, MAP_SYMBOLS - 8, y + 3, 10, PALE_RIGHT);
@@ -127,12 +128,14 @@ static uint64_t sum_of(const struct reckoning *reckoning) {
 static void print_picture(FILE *to, const struct reckoning *reckoning, const struct map *map) {
     const uint64_t worst = worst_word(reckoning->counts, reckoning->run.sizes.C);
     const uint32_t most = reckoning->counts[worst];
-    const uint64_t legend = map_end(map) + MAP_SCALE + 28, chart = legend + LEGEND_LINE + 40;
-    const uint64_t end = chart + CHART_HEIGHT + 34, sum = sum_of(reckoning);
+    const uint64_t sum = sum_of(reckoning), harmless = fade_symbols(&reckoning->list) - sum;
+    const uint64_t legend = map_end(map) + MAP_SCALE + 28;
+    const uint64_t keys = (sum > 0 ? 1U : 0U) + (harmless > 0 ? 1U : 0U);
+    const uint64_t chart = legend + keys * LEGEND_LINE + 22;
+    const uint64_t end = sum > 0 ? chart + CHART_HEIGHT + 34 : chart - 22;
     svg_begin(to, reckoning->name, WIDTH, end + 30);
     print_title(to, reckoning, most, worst);
     map_print(to, map);
-    const uint64_t harmless = fade_symbols(&reckoning->list) - sum;
     if (sum > 0) {
         print_key(to, MAP_SYMBOLS, legend, COLOURS[HIT], "symbols of words that are hit", sum);
     }
@@ -140,8 +143,10 @@ static void print_picture(FILE *to, const struct reckoning *reckoning, const str
         print_key(to, MAP_SYMBOLS, legend + (sum > 0 ? LEGEND_LINE : 0), COLOURS[HARMLESS],
                   "markers, and places of no word, that are hit", harmless);
     }
-    print_axis(to, reckoning, most, chart);
-    print_bars(to, reckoning, most, chart);
+    if (sum > 0) {
+        print_axis(to, reckoning, most, chart);
+        print_bars(to, reckoning, most, chart);
+    }
     print_text(
         to, 24, end + 12, 11, PALE,
         "Words are counted by the library's mahyrei_fades_count. The map is drawn in plain C.");

@@ -11,7 +11,9 @@ enum {
     FEW_ROWS = 40,
     MOST_LINES = 120,
     MAP_HEIGHT = 480,
+    MARKER_CELL_MOST = 12,
     ROW_GAP = 3,
+    LABEL_GAP = 14,
     SHADES = 5,    /* from all symbols of words to none */
     STRENGTHS = 6, /* from few symbols of a cell to most */
     FEW = 32, /* a share of one in so many is the least, and each strength is for twice as many */
@@ -39,13 +41,18 @@ static void cut_map(struct map *map) {
     map->height = least(MAP_HEIGHT / map->lines < 4 ? 4 : MAP_HEIGHT / map->lines, 12);
 }
 
+/* How wide a marker's symbol is drawn: few of them are no wider than a line is high. */
+static uint64_t marker_cell(const struct map *map) {
+    return least(MAP_MARKER_WIDTH / map->run->fields.W, MARKER_CELL_MOST);
+}
+
 static struct map_cell *make_cells(uint64_t count) {
-    struct bytes room;
-    if (!make_room(count * sizeof(struct map_cell), &room)) {
+    struct bytes buffer;
+    if (!make_buffer(count * sizeof(struct map_cell), &buffer)) {
         return NULL;
     }
-    memset(room.at, 0, room.len);
-    return (void *)room.at;
+    memset(buffer.at, 0, buffer.len);
+    return (void *)buffer.at;
 }
 
 bool map_make(struct map *map, const struct sheet *run, size_t kinds, const char *const *colours) {
@@ -101,7 +108,7 @@ void map_add(struct map *map, uint64_t symbol, size_t kind) {
 
 void map_middle(const struct map *map, uint64_t symbol, uint64_t *x, uint64_t *y) {
     const struct spot spot = spot_of(map, symbol);
-    const uint64_t width = spot.marker ? MAP_MARKER_WIDTH / map->run->fields.W : MAP_CELL;
+    const uint64_t width = spot.marker ? marker_cell(map) : MAP_CELL;
     *x = (spot.marker ? MAP_LEFT : MAP_SYMBOLS) + spot.column * width + width / 2;
     *y = line_top(map, spot.line) + map->height / 2;
 }
@@ -183,9 +190,8 @@ static void print_look(FILE *to, const struct map *map, size_t look) {
             map->cells + line * MAP_COLUMNS, MAP_COLUMNS, MAP_SYMBOLS, top, MAP_CELL, map->height};
         print_cells(to, map, &symbols, look, &open);
         if (line % map->lines_per_row == 0) {
-            const struct cell_row marker = {
-                map->markers + line * W,         W, MAP_LEFT, top, MAP_MARKER_WIDTH / W,
-                map->height * map->lines_per_row};
+            const struct cell_row marker = {map->markers + line * W, W,          MAP_LEFT, top,
+                                            marker_cell(map),        map->height};
             print_cells(to, map, &marker, look, &open);
         }
     }
@@ -194,20 +200,45 @@ static void print_look(FILE *to, const struct map *map, size_t look) {
     }
 }
 
-/* The first symbol of a line, where the number before is not too near. */
+static bool is_marked(const struct map *map) {
+    uint64_t i = 0;
+    while (i < map->lines * MAP_COLUMNS && look_of(map, &map->cells[i]) < SHADES) {
+        i++;
+    }
+    return i < map->lines * MAP_COLUMNS;
+}
+
+/* How rows and lines go together, and what pale spots are. */
+static void print_caption(FILE *to, const struct map *map) {
+    const uint64_t cells = map->lines_per_row * MAP_COLUMNS;
+    const uint64_t spot = (map->run->sizes.S + cells - 1) / cells * map->rows_per_line;
+    open_text(to, MAP_SYMBOLS, MAP_TOP - 10, 11, PALE);
+    if (map->lines_per_row != 1) {
+        fprintf(to, "a row of words' symbols, over %" PRIu64 " lines", map->lines_per_row);
+    } else if (map->rows_per_line > 1) {
+        fprintf(to, "words' symbols, %" PRIu64 " rows to a line", map->rows_per_line);
+    } else {
+        fputs("words' symbols, a row to a line", to);
+    }
+    if (spot > 1 && is_marked(map)) {
+        fprintf(to, "; up to %" PRIu64 " symbols make a spot, pale where few of them are marked",
+                spot);
+    }
+    fputs("</text>\n", to);
+}
+
+/* The first symbol of a line, where the number before is not too near; clear of a ring around the
+ * marker's first symbol. */
 static void print_scale(FILE *to, const struct map *map) {
     const uint64_t row = map->run->sizes.S + map->run->fields.W, per_row = map->lines_per_row;
     uint64_t free_from = 0;
-    print_text(to, MAP_LEFT - 8, MAP_TOP - 10, 11, PALE_RIGHT, "symbol");
+    print_text(to, MAP_LEFT - LABEL_GAP, MAP_TOP - 10, 11, PALE_RIGHT, "symbol");
     print_text(to, MAP_LEFT, MAP_TOP - 10, 11, PALE, "marker");
-    print_text(to, MAP_SYMBOLS, MAP_TOP - 10, 11, PALE,
-               per_row > 1              ? "a row of words' symbols, over several lines"
-               : map->rows_per_line > 1 ? "words' symbols, several rows to a line"
-                                        : "words' symbols, a row to a line");
+    print_caption(to, map);
     for (uint64_t line = 0; line < map->lines; line += per_row) {
         const uint64_t y = line_top(map, line) + map->height;
         if (y >= free_from) {
-            open_text(to, MAP_LEFT - 8, y, 10, PALE_RIGHT);
+            open_text(to, MAP_LEFT - LABEL_GAP, y, 10, PALE_RIGHT);
             fprintf(to, "%" PRIu64 "</text>\n", line / per_row * map->rows_per_line * row);
             free_from = y + 16;
         }
@@ -233,9 +264,9 @@ void map_print(FILE *to, const struct map *map) {
 
 void map_print_numbers(FILE *to, const struct map *map) {
     fprintf(to,
-            "\"columns\":%d,\"cell\":%d,\"left\":%d,\"markerWidth\":%d,\"symbols\":%d,\"top\":%d,"
-            "\"gap\":%d,\"linesPerRow\":%" PRIu64 ",\"rowsPerLine\":%" PRIu64 ",\"lines\":%" PRIu64
-            ",\"height\":%" PRIu64,
-            MAP_COLUMNS, MAP_CELL, MAP_LEFT, MAP_MARKER_WIDTH, MAP_SYMBOLS, MAP_TOP, ROW_GAP,
+            "\"columns\":%d,\"cell\":%d,\"left\":%d,\"markerCell\":%" PRIu64
+            ",\"symbols\":%d,\"top\":%d,\"gap\":%d,\"linesPerRow\":%" PRIu64
+            ",\"rowsPerLine\":%" PRIu64 ",\"lines\":%" PRIu64 ",\"height\":%" PRIu64,
+            MAP_COLUMNS, MAP_CELL, MAP_LEFT, marker_cell(map), MAP_SYMBOLS, MAP_TOP, ROW_GAP,
             map->lines_per_row, map->rows_per_line, map->lines, map->height);
 }

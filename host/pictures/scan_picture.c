@@ -20,6 +20,7 @@ enum {
 #define SOUND_COLOUR "#2f8f4e"
 #define REFUSED_COLOUR "#b91c1c"
 #define EMPTY_COLOUR "#e3e9f0"
+#define UNSEARCHED_COLOUR "#ffffff"
 
 /* Where a slot is. */
 static uint64_t x_of(const struct scan_counts *counts, uint64_t slot) {
@@ -43,6 +44,19 @@ static void print_title(FILE *to, const struct scan_counts *counts) {
             rate_name(f->rate), counts->run.sizes.M, f->N, f->B, f->F, f->W, f->A,
             grouped(counts->run.sizes.slots, runs));
     fprintf(to, "%s</text>\n", grouped(counts->slots, runs));
+}
+
+/* The bar, and over it what was not searched. */
+static void print_bar(FILE *to, const struct scan_counts *counts) {
+    fprintf(to, "<rect x=\"%d\" y=\"%d\" width=\"%d\" height=\"%d\" fill=\"" EMPTY_COLOUR "\"/>\n",
+            LEFT, TOP, LENGTH, BAR);
+    if (counts->from > 0) {
+        fprintf(to,
+                "<rect x=\"%d\" y=\"%d\" width=\"%" PRIu64
+                "\" height=\"%d\" fill=\"" UNSEARCHED_COLOUR "\" stroke=\"" GREY
+                "\" stroke-width=\"0.5\"/>\n",
+                LEFT, TOP, x_of(counts, counts->from) - LEFT, BAR);
+    }
 }
 
 static void print_runs(FILE *to, const struct scan_counts *counts) {
@@ -84,24 +98,36 @@ static void print_scale(FILE *to, const struct scan_counts *counts) {
     print_text(to, LEFT, TOP - 10, 11, PALE, "slots of the recording");
 }
 
+/* What the colours say, of those that there are. Starts refused all have one colour, and below are
+ * the numbers. */
 static void print_keys(FILE *to, const struct scan_counts *counts) {
-    uint64_t y = KEYS;
-    print_key(to, LEFT, y, SOUND_COLOUR, "runs sound", counts->count);
-    print_key(to, LEFT + LENGTH / 2, y, EMPTY_COLOUR, "slots not in any run", scan_outside(counts));
-    y += KEY_LINE;
+    uint64_t x = LEFT, y = KEYS;
+    if (counts->count > 0) {
+        print_key(to, x, y, SOUND_COLOUR, "runs sound", counts->count);
+        x += LENGTH / 2;
+    }
+    if (scan_outside(counts) > 0) {
+        print_key(to, x, y, EMPTY_COLOUR, "slots not in any run", scan_outside(counts));
+    }
+    y += counts->refused > 0 || counts->from > 0 ? KEY_LINE : 0;
+    if (counts->from > 0) {
+        print_key(to, LEFT + LENGTH / 2, y, UNSEARCHED_COLOUR, "slots not searched", counts->from);
+    }
+    if (counts->refused > 0) {
+        print_key(to, LEFT, y, REFUSED_COLOUR, "starts refused", counts->refused);
+    }
     for (unsigned number = 0; number < SCAN_NUMBERS; number++) {
         if (counts->by_number[number] > 0) {
-            char text[96];
-            snprintf(text, sizeof text, "starts refused by number %u, %s", number,
-                     scan_reason(number));
-            print_key(to, LEFT, y, REFUSED_COLOUR, text, counts->by_number[number]);
             y += KEY_LINE;
+            open_text(to, LEFT + 2 * KEY_TEXT, y, 12, PALE);
+            fprintf(to, "by number %u, %s: %" PRIu64 "</text>\n", number, scan_reason(number),
+                    counts->by_number[number]);
         }
     }
 }
 
 static uint64_t key_lines(const struct scan_counts *counts) {
-    uint64_t lines = 1;
+    uint64_t lines = counts->refused > 0 || counts->from > 0 ? 2 : 1;
     for (unsigned number = 0; number < SCAN_NUMBERS; number++) {
         lines += counts->by_number[number] > 0;
     }
@@ -112,8 +138,7 @@ void draw_scan(FILE *to, const struct scan_counts *counts) {
     const uint64_t end = KEYS + key_lines(counts) * KEY_LINE;
     svg_begin(to, counts->name, WIDTH, end + 24);
     print_title(to, counts);
-    fprintf(to, "<rect x=\"%d\" y=\"%d\" width=\"%d\" height=\"%d\" fill=\"" EMPTY_COLOUR "\"/>\n",
-            LEFT, TOP, LENGTH, BAR);
+    print_bar(to, counts);
     print_runs(to, counts);
     print_refused(to, counts);
     print_scale(to, counts);

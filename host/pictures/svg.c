@@ -123,6 +123,6 @@ void print_key(FILE *to, uint64_t x, uint64_t y, const char *colour, const char 
                uint64_t count) {
     open_square(to, x, y - 10, colour);
     fputs(" stroke=\"" GREY "\" stroke-width=\"0.5\"/>\n", to); /* pale colours, on white */
-    open_text(to, x + 18, y, 12, "");
+    open_text(to, x + KEY_TEXT, y, 12, "");
     fprintf(to, "%s: %" PRIu64 "</text>\n", text, count);
 }

@@ -38,7 +38,8 @@ uint64_t print_sentence(FILE *to, uint64_t x, uint64_t y, const char *text);
 /* A square of 11 pixels, left open: `/>`, or `>`, what it holds, and `</rect>`. */
 void open_square(FILE *to, uint64_t x, uint64_t y, const char *colour);
 
-/* A square, and what its colour says of how many. */
+/* A square, and what its colour says of how many, in text that begins so far from its left end. */
+enum { KEY_TEXT = 18 };
 void print_key(FILE *to, uint64_t x, uint64_t y, const char *colour, const char *text,
                uint64_t count);
 

@@ -6,7 +6,7 @@
 #include "runs/findings.h"
 #include "runs/sigmf.h"
 
-enum { COMMENT = 256 };
+enum { COMMENT = 512 };
 
 static uint64_t least(uint64_t a, uint64_t b) {
     return a < b ? a : b;
@@ -59,23 +59,16 @@ void annotate_scan(FILE *to, const struct scan_counts *counts) {
 
 /* ---- of a run */
 
-/* In at most twenty letters, which is what SigMF advises. */
-static const char *const LABELS[FAULTS] = {
-    [MISSING] = "missing",           [GUARD_PULSE] = "guard pulse",
-    [NO_PULSE] = "no pulse",         [SEVERAL_PULSES] = "several pulses",
-    [WRONG_MARKER] = "wrong marker", [NOT_ZERO] = "not zero",
-};
-
-static void annotate_whole(FILE *to, const struct capture *capture, uint64_t slot,
-                           uint64_t answer) {
-    const unsigned number = mahyrei_answer_number(answer);
-    char comment[COMMENT];
-    snprintf(comment, sizeof comment, "%s, number %u, place %" PRIu64 ": %s",
-             answer == MAHYREI_ACCEPTED ? "sound" : "refused", number, mahyrei_answer_place(answer),
-             mahyrei_sentence(number));
+static void annotate_whole(FILE *to, const struct run_slots *slots, uint64_t slot, uint64_t answer,
+                           const char *sentence) {
+    char comment[COMMENT] = "sound";
+    if (answer != MAHYREI_ACCEPTED) {
+        snprintf(comment, sizeof comment, "refused, number %u, place %" PRIu64 ": %s",
+                 mahyrei_answer_number(answer), mahyrei_answer_place(answer), sentence);
+    }
     const struct sigmf_annotation annotation = {
         .slot = slot,
-        .slots = least(capture->run.sizes.slots, 8 * (uint64_t)capture->slots.len),
+        .slots = least(slots->run.sizes.slots, 8 * (uint64_t)slots->bytes.len),
         .label = answer == MAHYREI_ACCEPTED ? "sound run" : "refused run",
         .comment = comment,
         .answer = answer};
@@ -83,36 +76,36 @@ static void annotate_whole(FILE *to, const struct capture *capture, uint64_t slo
 }
 
 /* Symbols from one to before another, which all have this fault. */
-static void annotate_symbols(FILE *to, const struct capture *capture, uint64_t slot, uint64_t from,
+static void annotate_symbols(FILE *to, const struct run_slots *slots, uint64_t slot, uint64_t from,
                              uint64_t end, enum fault fault) {
-    const uint64_t begins = first_slot(capture, from), ends = first_slot(capture, end);
+    const uint64_t begins = first_slot(slots, from), ends = first_slot(slots, end);
     char comment[COMMENT];
-    snprintf(comment, sizeof comment, "%s: %" PRIu64 " to %" PRIu64, fault_name(capture, fault),
-             from, end - 1);
+    snprintf(comment, sizeof comment, "%s: %" PRIu64 " to %" PRIu64, fault_name(slots, fault), from,
+             end - 1);
     const struct sigmf_annotation annotation = {.slot = slot + begins,
                                                 .slots = ends - begins,
-                                                .label = LABELS[fault],
+                                                .label = FAULT_LINES[fault].label,
                                                 .comment = comment,
                                                 .answer = from << 8 | FAULT_LINES[fault].number};
     sigmf_print_annotation(to, &annotation, false);
 }
 
 /* Of symbols that are missing there is nothing in the data to annotate. */
-void annotate_run(FILE *to, const struct capture *capture, const uint8_t *marker, uint64_t slot,
-                  uint64_t answer) {
+void annotate_run(FILE *to, const struct run_slots *slots, const uint8_t *marker, uint64_t slot,
+                  uint64_t answer, const char *sentence) {
     uint64_t from = 0, stretches = 0;
-    if (capture->slots.len == 0) {
+    if (slots->bytes.len == 0) {
         return;
     }
-    annotate_whole(to, capture, slot, answer);
-    while (from < capture->present && stretches < STRETCHES_MOST) {
-        const enum fault fault = fault_of(capture, marker, from);
+    annotate_whole(to, slots, slot, answer, sentence);
+    while (from < slots->present && stretches < STRETCHES_MOST) {
+        const enum fault fault = fault_of(slots, marker, from);
         uint64_t end = from + 1;
-        while (end < capture->present && fault_of(capture, marker, end) == fault) {
+        while (end < slots->present && fault_of(slots, marker, end) == fault) {
             end++;
         }
         if (fault != SOUND) {
-            annotate_symbols(to, capture, slot, from, end, fault);
+            annotate_symbols(to, slots, slot, from, end, fault);
             stretches++;
         }
         from = end;

@@ -9,19 +9,21 @@
 #include "runs/layout.h"
 
 const struct fault_line FAULT_LINES[FAULTS] = {
-    [MISSING] = {"symbols missing at the end", NULL, 'x', "#8c96a0", MAHYREI_BAD_LENGTH},
-    [GUARD_PULSE] = {"symbols with a guard pulse", "symbols with most pulses in a guard slot", 'g',
-                     "#c2410c", MAHYREI_BAD_PULSE},
-    [NO_PULSE] = {"symbols with no pulse", NULL, 'n', "#1d4ed8", MAHYREI_BAD_PULSE},
+    [MISSING] = {"symbols missing at the end", NULL, "missing", 'x', "#8c96a0", MAHYREI_BAD_LENGTH},
+    [GUARD_PULSE] = {"symbols with a guard pulse", "symbols with most pulses in a guard slot",
+                     "guard pulse", 'g', "#c2410c", MAHYREI_BAD_PULSE},
+    [NO_PULSE] = {"symbols with no pulse", NULL, "no pulse", 'n', "#1d4ed8", MAHYREI_BAD_PULSE},
     [SEVERAL_PULSES] = {"symbols with several pulses", "symbols with most pulses in several slots",
-                        's', "#e6a100", MAHYREI_BAD_PULSE},
-    [WRONG_MARKER] = {"wrong marker symbols", NULL, 'm', "#c026a3", MAHYREI_WRONG_MARKER},
-    [NOT_ZERO] = {"places that should be 0 and are not", NULL, 'z', "#0f8a6a", MAHYREI_BAD_IDLE},
+                        "several pulses", 's', "#e6a100", MAHYREI_BAD_PULSE},
+    [WRONG_MARKER] = {"wrong marker symbols", NULL, "wrong marker", 'm', "#c026a3",
+                      MAHYREI_WRONG_MARKER},
+    [NOT_ZERO] = {"places that should be 0 and are not", NULL, "not zero", 'z', "#0f8a6a",
+                  MAHYREI_BAD_IDLE},
 };
 
-const char *fault_name(const struct capture *capture, size_t fault) {
+const char *fault_name(const struct run_slots *slots, size_t fault) {
     const struct fault_line *const line = &FAULT_LINES[fault];
-    return line->pooled != NULL && capture->run.fields.copies > 1 ? line->pooled : line->name;
+    return line->pooled != NULL && slots->run.fields.copies > 1 ? line->pooled : line->name;
 }
 
 static void add(struct found *found, uint64_t at) {
@@ -33,18 +35,17 @@ static void add(struct found *found, uint64_t at) {
 
 /* ---- symbols */
 
-static void find_symbols(const struct capture *capture, const uint8_t *marker,
+static void find_symbols(const struct run_slots *slots, const uint8_t *marker,
                          struct findings *findings) {
-    for (uint64_t symbol = 0; symbol < capture->run.sizes.pooled; symbol++) {
-        const enum fault fault = fault_of(capture, marker, symbol);
+    for (uint64_t symbol = 0; symbol < slots->run.sizes.pooled; symbol++) {
+        const enum fault fault = fault_of(slots, marker, symbol);
         if (fault != SOUND) {
             add(&findings->symbols[fault], symbol);
         }
     }
-    for (uint64_t slot = capture->run.sizes.slots;
-         capture->slots.len == capture->run.sizes.slot_bytes && slot < capture->slots.len * 8;
-         slot++) {
-        if (pulse_at(capture, slot)) {
+    for (uint64_t slot = slots->run.sizes.slots;
+         slots->bytes.len == slots->run.sizes.slot_bytes && slot < slots->bytes.len * 8; slot++) {
+        if (pulse_at(slots, slot)) {
             add(&findings->spare, slot);
         }
     }
@@ -53,16 +54,16 @@ static void find_symbols(const struct capture *capture, const uint8_t *marker,
 /* ---- words */
 
 /* Step 8 undone. False where a symbol of the word has no value. */
-static bool word_of(const struct capture *capture, uint64_t word,
+static bool word_of(const struct run_slots *slots, uint64_t word,
                     uint8_t bytes[MAHYREI_WORD_BYTES]) {
-    const uint64_t m = capture->run.fields.m;
+    const uint64_t m = slots->run.fields.m;
     memset(bytes, 0, MAHYREI_WORD_BYTES);
-    for (uint64_t at = 0; at < capture->run.sizes.S; at++) {
-        const uint64_t symbol = symbol_of(&capture->run, word, at);
-        if (symbol >= capture->present) {
+    for (uint64_t at = 0; at < slots->run.sizes.S; at++) {
+        const uint64_t symbol = symbol_of(&slots->run, word, at);
+        if (symbol >= slots->present) {
             return false;
         }
-        const struct group group = group_of(capture, symbol);
+        const struct group group = group_of(slots, symbol);
         if (group.pulses != 1 || group.guard_pulses > 0) {
             return false;
         }
@@ -74,12 +75,12 @@ static bool word_of(const struct capture *capture, uint64_t word,
     return true;
 }
 
-static bool find_words(const struct capture *capture, struct findings *findings) {
+static bool find_words(const struct run_slots *slots, struct findings *findings) {
     uint8_t word[MAHYREI_WORD_BYTES];
-    for (uint64_t i = 0; i < capture->run.sizes.C; i++) {
+    for (uint64_t i = 0; i < slots->run.sizes.C; i++) {
         findings->words[i] = NOT_ASKED;
-        if (word_of(capture, i, word) &&
-            !library_word_read(capture->run.fields.rate, word,
+        if (word_of(slots, i, word) &&
+            !library_word_read(slots->run.fields.rate, word,
                                findings->blocks + i * MAHYREI_BLOCK_BYTES_MAX,
                                &findings->words[i])) {
             return false;
@@ -91,21 +92,21 @@ static bool find_words(const struct capture *capture, struct findings *findings)
 /* ---- frames */
 
 /* A bit of the joined frames; known only where its word was accepted. */
-static bool stream_bit(const struct capture *capture, const struct findings *findings, uint64_t bit,
+static bool stream_bit(const struct run_slots *slots, const struct findings *findings, uint64_t bit,
                        unsigned *value) {
-    const uint64_t block = bit / capture->run.sizes.k, in = bit % capture->run.sizes.k;
+    const uint64_t block = bit / slots->run.sizes.k, in = bit % slots->run.sizes.k;
     const uint8_t *const at = findings->blocks + block * MAHYREI_BLOCK_BYTES_MAX;
     *value = at[in / 8] >> (7 - in % 8) & 1;
     return findings->words[block] == MAHYREI_ACCEPTED;
 }
 
 /* A marker with a wrong bit is wrong, even if others of its bits are not known. */
-static enum frame_state frame_at(const struct capture *capture, const struct findings *findings,
+static enum frame_state frame_at(const struct run_slots *slots, const struct findings *findings,
                                  uint64_t frame) {
     enum frame_state state = FRAME_RIGHT;
     for (uint64_t i = 0; i < MAHYREI_FRAME_MARKER_BITS; i++) {
         unsigned bit;
-        if (!stream_bit(capture, findings, frame * marked_bits(&capture->run) + i, &bit)) {
+        if (!stream_bit(slots, findings, frame * marked_bits(&slots->run) + i, &bit)) {
             state = FRAME_UNKNOWN;
         } else if (bit != (MAHYREI_FRAME_MARKER >> (MAHYREI_FRAME_MARKER_BITS - 1 - i) & 1)) {
             return FRAME_WRONG;
@@ -114,15 +115,15 @@ static enum frame_state frame_at(const struct capture *capture, const struct fin
     return state;
 }
 
-static void find_frames(const struct capture *capture, struct findings *findings) {
-    const uint64_t A = capture->run.fields.A;
+static void find_frames(const struct run_slots *slots, struct findings *findings) {
+    const uint64_t A = slots->run.fields.A;
     for (uint64_t frame = 0; frame < A; frame++) {
-        findings->frames[frame] = frame_at(capture, findings, frame);
+        findings->frames[frame] = frame_at(slots, findings, frame);
     }
-    for (uint64_t bit = A * marked_bits(&capture->run);
-         bit < capture->run.sizes.C * capture->run.sizes.k; bit++) {
+    for (uint64_t bit = A * marked_bits(&slots->run); bit < slots->run.sizes.C * slots->run.sizes.k;
+         bit++) {
         unsigned set;
-        if (stream_bit(capture, findings, bit, &set) && set) {
+        if (stream_bit(slots, findings, bit, &set) && set) {
             add(&findings->fill, bit);
         }
     }
@@ -130,8 +131,8 @@ static void find_frames(const struct capture *capture, struct findings *findings
 
 /* ---- all of it */
 
-static bool make_rooms(const struct capture *capture, struct findings *findings) {
-    const uint64_t C = capture->run.sizes.C, A = capture->run.fields.A;
+static bool make_buffers(const struct run_slots *slots, struct findings *findings) {
+    const uint64_t C = slots->run.sizes.C, A = slots->run.fields.A;
     *findings = (struct findings){0};
     findings->words = calloc(C, sizeof *findings->words);
     findings->blocks = calloc(C, MAHYREI_BLOCK_BYTES_MAX);
@@ -143,15 +144,15 @@ static bool make_rooms(const struct capture *capture, struct findings *findings)
     return true;
 }
 
-bool find_all(const struct capture *capture, const uint8_t *marker, struct findings *findings) {
-    if (!make_rooms(capture, findings)) {
+bool find_all(const struct run_slots *slots, const uint8_t *marker, struct findings *findings) {
+    if (!make_buffers(slots, findings)) {
         return false;
     }
-    find_symbols(capture, marker, findings);
-    if (!find_words(capture, findings)) {
+    find_symbols(slots, marker, findings);
+    if (!find_words(slots, findings)) {
         return false;
     }
-    find_frames(capture, findings);
+    find_frames(slots, findings);
     return true;
 }
 
@@ -162,10 +163,10 @@ void free_findings(struct findings *findings) {
     *findings = (struct findings){0};
 }
 
-uint64_t count_words(const struct capture *capture, const struct findings *findings,
+uint64_t count_words(const struct run_slots *slots, const struct findings *findings,
                      uint64_t number) {
     uint64_t count = 0;
-    for (uint64_t i = 0; i < capture->run.sizes.C; i++) {
+    for (uint64_t i = 0; i < slots->run.sizes.C; i++) {
         const uint64_t answer = findings->words[i];
         count += number == NOT_ASKED
                      ? answer == NOT_ASKED
@@ -174,10 +175,10 @@ uint64_t count_words(const struct capture *capture, const struct findings *findi
     return count;
 }
 
-uint64_t count_frames(const struct capture *capture, const struct findings *findings,
+uint64_t count_frames(const struct run_slots *slots, const struct findings *findings,
                       enum frame_state state) {
     uint64_t count = 0;
-    for (uint64_t i = 0; i < capture->run.fields.A; i++) {
+    for (uint64_t i = 0; i < slots->run.fields.A; i++) {
         count += findings->frames[i] == state;
     }
     return count;
@@ -201,10 +202,10 @@ static uint64_t first_symbol(const struct findings *findings, enum mahyrei_numbe
     return first;
 }
 
-uint64_t expected_answer(const struct capture *capture, const struct findings *findings) {
+uint64_t expected_answer(const struct run_slots *slots, const struct findings *findings) {
     static const enum mahyrei_number SYMBOLS[] = {MAHYREI_BAD_PULSE, MAHYREI_WRONG_MARKER,
                                                   MAHYREI_BAD_IDLE};
-    if (capture->slots.len != capture->run.sizes.slot_bytes) {
+    if (slots->bytes.len != slots->run.sizes.slot_bytes) {
         return MAHYREI_BAD_LENGTH;
     }
     if (findings->spare.count > 0) {
@@ -216,12 +217,12 @@ uint64_t expected_answer(const struct capture *capture, const struct findings *f
             return answer_of(first, SYMBOLS[i]);
         }
     }
-    for (uint64_t i = 0; i < capture->run.sizes.C; i++) {
+    for (uint64_t i = 0; i < slots->run.sizes.C; i++) {
         if (findings->words[i] != MAHYREI_ACCEPTED) {
             return answer_of(i, mahyrei_answer_number(findings->words[i]));
         }
     }
-    for (uint64_t i = 0; i < capture->run.fields.A; i++) {
+    for (uint64_t i = 0; i < slots->run.fields.A; i++) {
         if (findings->frames[i] != FRAME_RIGHT) {
             return answer_of(i, MAHYREI_BAD_FRAME_MARKER);
         }

@@ -5,14 +5,14 @@
 
 /* After the step come the slots of the longest marker, 32 symbols of 320, and a byte: so a marker
  * that begins in the step lies in the copy. */
-enum { STEP = 4 << 20, BEHIND = MAHYREI_MARKER_MAX * 320 / 8 + 1 };
+enum { STEP = 4 << 20, AFTER = MAHYREI_MARKER_MAX * 320 / 8 + 1 };
 
 bool search_begin(struct search *search, const struct recording *recording,
                   const struct bytes *header, const struct bytes *marker) {
-    *search = (struct search){.recording = recording, .room = STEP + BEHIND, .step = STEP};
+    *search = (struct search){.recording = recording, .size = STEP + AFTER, .step = STEP};
     search->lent.header = *header;
     search->lent.marker = *marker;
-    if (!make_room(search->room, &search->lent.capture)) {
+    if (!make_buffer(search->size, &search->lent.capture)) {
         return false;
     }
     search->lent.capture.len = 0;
@@ -45,7 +45,7 @@ static void move_to(struct search *search, uint64_t byte) {
     if (byte < search->first || byte >= search->first + copied) {
         search->first = byte;
         search->lent.capture.len =
-            copy(search->recording, byte, search->room, search->lent.capture.at);
+            copy(search->recording, byte, search->size, search->lent.capture.at);
     }
 }
 

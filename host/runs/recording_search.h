@@ -17,7 +17,7 @@ struct search {
     const struct recording *recording;
     struct lent lent;  /* header and marker, which are the caller's; the capture is the copy */
     uint64_t first;    /* byte of the recording that the copy begins with */
-    size_t room, step; /* bytes of a copy, and of those the ones that a marker can begin in */
+    size_t size, step; /* bytes of a copy, and of those the ones that a marker can begin in */
 };
 
 /* The header and the marker stay the caller's. False where memory is short, which has been said;
@@ -32,7 +32,7 @@ void search_free(struct search *search);
 bool search_next(struct search *search, uint64_t *from, uint64_t *answer, bool *more);
 
 /* Copies the bytes that the run from this slot on lies in, as far as they are there; `at` is its
- * first slot among them. There is room in `to` for the slots of a run and a byte. */
+ * first slot among them. `to` is a buffer for the slots of a run and a byte. */
 void copy_run(const struct recording *recording, const struct sheet *run, uint64_t slot,
               struct bytes *to, uint64_t *at);
 

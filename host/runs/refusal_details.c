@@ -22,8 +22,9 @@ static const char *plural(size_t count) {
 
 /* Hexadecimal text in a file, where bytes are wanted. */
 static void say_if_text(const struct bytes *bytes, const char *operand) {
-    static const char FORM[] = "0123456789abcdefABCDEF :xX\t\r\n";
-    size_t like = 0;
+    static const char FORM[] = "0123456789abcdefABCDEF :xX\t\r\n", MARK[] = "\xEF\xBB\xBF";
+    const size_t mark = sizeof MARK - 1; /* of UTF-8, with which some editors begin */
+    size_t like = bytes->len > mark && memcmp(bytes->at, MARK, mark) == 0 ? mark : 0;
     while (like < bytes->len && bytes->at[like] != '\0' &&
            strchr(FORM, (char)bytes->at[like]) != NULL) {
         like++;

@@ -53,12 +53,12 @@ bool scan_keep_starts(struct scan_counts *counts) {
 }
 
 uint64_t scan_outside(const struct scan_counts *counts) {
-    return counts->slots - counts->count * counts->run.sizes.slots;
+    return counts->slots - counts->from - counts->count * counts->run.sizes.slots;
 }
 
 struct gap scan_longest_gap(const struct scan_counts *counts) {
-    struct gap longest = {0, 0};
-    uint64_t end = 0; /* of the run before */
+    struct gap longest = {counts->from, 0};
+    uint64_t end = counts->from; /* of the run before */
     for (size_t i = 0; i <= counts->count; i++) {
         const uint64_t next = i < counts->count ? counts->runs[i].slot : counts->slots;
         if (next - end > longest.slots) {

@@ -28,6 +28,7 @@ struct scan_counts {
     const char *name, *folder; /* the recording, and where frames went or NULL */
     struct sheet run;
     uint64_t slots; /* of the recording */
+    uint64_t from;  /* the first of them that was searched */
     size_t count, room;
     struct sound_run *runs; /* in the order of their slots */
     uint64_t refused, by_number[SCAN_NUMBERS], first_refusal;
@@ -43,7 +44,7 @@ void scan_free(struct scan_counts *counts);
 /* Before the first start: those that are refused are to be kept. False likewise. */
 bool scan_keep_starts(struct scan_counts *counts);
 
-/* Slots that are in no run, and the longest stretch of them. */
+/* Slots that are in no run, of those that were searched, and the longest stretch of them. */
 uint64_t scan_outside(const struct scan_counts *counts);
 struct gap {
     uint64_t first, slots;

@@ -55,7 +55,8 @@ static bool is_digits(const char *text) {
 /* Digits in pairs, of as many bytes as there is room for in a slice of this limit. */
 static bool take_digits(const char *text, size_t limit, struct bytes *to) {
     const size_t digits = text == NULL ? 1 : strlen(text);
-    if (digits % 2 != 0 || digits / 2 >= limit || !is_digits(text) || !make_room(digits / 2, to)) {
+    if (digits % 2 != 0 || digits / 2 >= limit || !is_digits(text) ||
+        !make_buffer(digits / 2, to)) {
         return false;
     }
     for (size_t i = 0; i < to->len; i++) {

@@ -15,7 +15,7 @@ static unsigned long checks, failures;
 
 enum { FAILURES_SHOWN = 20 }; /* the first say enough */
 
-/* Counts a check, and says of one that failed where it stands, what it checks and, where there is
+/* Counts a check, and says of one that failed where it is, what it checks and, where there is
  * a `name`, for which value of it. Returns whether it passed. */
 static inline bool check(bool good, const char *file, int line, const char *name, uint64_t value,
                          const char *what) {

@@ -221,7 +221,7 @@ static uint8_t get_symbol(const struct run *run, const uint8_t *slots, size_t sy
     return (uint8_t)q;
 }
 
-/* The symbols of the words that stand in the slots of mahyrei_run_write, through the writer, zeros
+/* The symbols of the words that are in the slots of mahyrei_run_write, through the writer, zeros
  * after them: its places come out. And through the reader: the symbols. */
 static void test_run(const struct run *given) {
     struct run run = *given;
@@ -245,12 +245,12 @@ static void test_run(const struct run *given) {
     const uint8_t *const lent = lend_header(header, sizeof header);
     memset(area, 0, len);
     for (size_t n = 0; n < all; n++) {
-        const uint8_t taken = n < symbols ? get_symbol(&run, slots, stand(&run, n)) : 0;
+        const uint8_t taken = n < symbols ? get_symbol(&run, slots, run_symbol(&run, n)) : 0;
         const uint64_t answer = put(false, lent, sizeof header, n, taken, area, len);
         const uint8_t place = get_symbol(&run, slots, symbol_of_place(&run, n));
         CHECK_FOR(n, answer == (uint64_t)place << 8);
         const uint64_t back = put(true, lent, sizeof header, n, place, read_area, len);
-        const uint8_t was = n < late ? 0 : get_symbol(&run, slots, stand(&run, n - late));
+        const uint8_t was = n < late ? 0 : get_symbol(&run, slots, run_symbol(&run, n - late));
         CHECK_FOR(n, back == (uint64_t)was << 8);
     }
     free(frames);

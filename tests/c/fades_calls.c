@@ -164,11 +164,11 @@ static size_t make_list(size_t symbols, size_t gap, size_t length) {
     return len;
 }
 
-/* The symbols of a word stand where the place rule puts them. */
+/* The symbols of a word are where the place rule puts them. */
 static uint32_t hits(const struct run *run, size_t word) {
     uint32_t count = 0;
     for (size_t i = 0; i < word_symbols(run); i++) {
-        count += covered[stand(run, word * word_symbols(run) + i)];
+        count += covered[run_symbol(run, word * word_symbols(run) + i)];
     }
     return count;
 }

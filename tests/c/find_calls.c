@@ -452,7 +452,7 @@ static void test_runs(void) {
     }
 }
 
-/* A marker that stands before the run by itself is the one that is found. */
+/* A marker by itself before the run is the one that is found. */
 static void test_decoy(void) {
     const uint8_t marker[] = {5};
     write_run(&ONE_WORD, marker);

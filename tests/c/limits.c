@@ -16,7 +16,7 @@ enum {
     CODED = MAHYREI_WORD_BITS,
     CHECK_BITS = 32,
     TERMINATION_BITS = 2,
-    WORD = 64 /* bits of a number that stands for 64 of a row */
+    WORD = 64 /* bits of a number, which has 64 bits of a row */
 };
 
 static const char *const RATE_NAMES[RATES] = {"1/3", "1/2", "2/3"};
@@ -304,7 +304,7 @@ static void column(struct sum *sum, uint64_t rate, size_t j, bool even) {
         if (j % 3 != 2) {
             add_checks(sum, rate, i, j % 3 == 0 ? TAPS_OF_A : TAPS_OF_B);
         }
-        if (j % 3 != 0) { /* the second output stands there twice */
+        if (j % 3 != 0) { /* the second output comes twice */
             turn_bit(sum->rows, inputs + TERMINATION_BITS + i);
         }
     } else if (rate == MAHYREI_RATE_1_2) {

@@ -32,7 +32,7 @@ static uint64_t read_slots(const uint8_t *slots, uint8_t *to) {
                             to, 1);
 }
 
-/* Each group of one copy stands there 32 times. */
+/* Each group of one copy is there 32 times. */
 static bool all_copied(const uint8_t *once, const uint8_t *often) {
     size_t same = 0;
     for (size_t i = 0; i < symbol_count(&OFTEN) * OFTEN.copies; i++) {

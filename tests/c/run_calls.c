@@ -204,7 +204,7 @@ static uint8_t words[WORDS_MAX][MAHYREI_WORD_BYTES];
 static uint8_t symbols[SYMBOLS_MAX];
 static uint8_t frames[MAHYREI_FRAMES_BYTES_MAX], slots[AREA], damaged[AREA];
 
-/* Block c of the stream in which a marker of so many bits stands before each frame. Bit `wrong` of
+/* Block c of the stream in which a marker of so many bits comes before each frame. Bit `wrong` of
  * the stream, if there is one, is changed. */
 static void make_block(const struct run *run, uint64_t marker, size_t marker_bits, size_t c,
                        size_t wrong, uint8_t block[MAHYREI_BLOCK_BYTES_MAX]) {
@@ -444,7 +444,7 @@ static void test_copies_of(const struct run *run, size_t s) {
         CHECK(read_moved(run, s, 0, k / 2, other) == refused);
         CHECK(read_moved(run, s, k / 2, k / 2, guard) == refused);
         CHECK(still_told(read_moved(run, s, 0, k / 2 - 1, guard), run));
-    } else { /* another symbol is told */
+    } else { /* another symbol is read */
         const unsigned number = mahyrei_answer_number(read_moved(run, s, 0, k / 2 + 1, other));
         CHECK(number > MAHYREI_BAD_PULSE && number < MAHYREI_BAD_CHECK);
     }
@@ -481,7 +481,7 @@ static void test_symbols(const struct run *run) {
     static bool hit[SYMBOLS_MAX];
     memset(hit, 0, sizeof hit);
     for (size_t t = 0; t < C * S; t++) {
-        hit[stand(run, t)] = true;
+        hit[run_symbol(run, t)] = true;
     }
     for (int i = 0; i < 100; i++) {
         const size_t s = i == 0 ? symbol_count(run) - 1 : random_below(symbol_count(run));
@@ -493,7 +493,7 @@ static void test_symbols(const struct run *run) {
         const size_t s = random_below(place_count(run) / S) * period(run) + random_below(run->W);
         CHECK(read_changed(run, s) == s * 256 + MAHYREI_WRONG_MARKER);
         const size_t t = random_below(C * S);
-        const uint64_t answer = read_changed(run, stand(run, t));
+        const uint64_t answer = read_changed(run, run_symbol(run, t));
         CHECK(mahyrei_answer_number(answer) == MAHYREI_BAD_CODE ||
               mahyrei_answer_number(answer) == MAHYREI_BAD_TERMINATION);
         CHECK(mahyrei_answer_place(answer) == t / S);
@@ -520,7 +520,7 @@ static uint64_t read_words(const struct run *run) {
 }
 
 /* Questions 14 and 15 are put to a word before 13 is put to the next. At rate 2/3 the last coded
- * bit stands for the last termination bit alone, and block bit 0 goes into coded bits 0 to 4. */
+ * bit depends on the last termination bit alone, and block bit 0 goes into coded bits 0 to 4. */
 static void test_words(void) {
     const struct run run = {2, 7, 4, 180, 1000, 3, 3, 1};
     sample_frames(&run, frames);

@@ -97,7 +97,7 @@ slot=- answer=- place=- status=2"
     has 'a header from standard input' 'standard input: a run that is found' "$err"
 }
 
-# What is wrong in a capture, over the copies: what mahyrei_run_read says is what is counted.
+# What is wrong in the slots of a run, over the copies: what mahyrei_run_read says is what is counted.
 test_copies_inspected() {
     begin
     local h

@@ -80,6 +80,7 @@ test_run_json() {
     has 'a run that was read' "\"run\":\"read\",\"status\":0,\"header_hex\":\"$header\",\"marker_hex\":\"$marker\",\"frames\":\"out\",$parts" "$(out)"
     run 0 -q verify --json "$header" "$marker" slots
     has 'a run that was verified' "\"frames\":null,$parts" "$(out)"
+    has 'what all is well means there' '"number":0,"place":0,"sentence":"All is well: the run is sound. Nothing was written."}' "$(out)"
     same 'lines of it' 1 "$(wc -l <"$said/out")"
     damage lose 7000
     run 1 -q verify --json "$header" "$marker" damaged

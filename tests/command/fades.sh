@@ -221,6 +221,7 @@ test_fades_picture() {
     fi
     run 0 -q fades -f --svg picture.svg "$three" empty
     has 'no fade' '>No word is hit: empty</text>' "$(<picture.svg)"
+    same 'no chart without bars' 0 "$(grep -c 'symbols hit, by word' picture.svg)"
     same 'no bar' '' "$(grep '<title>word ' picture.svg)"
     run 0 -q fades -f --svg picture.svg "$three" - <<<'0 7568'
     has 'all of it' '>Worst is word 0, 1890 of 1890 symbols: standard input</text>' "$(<picture.svg)"

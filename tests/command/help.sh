@@ -20,12 +20,13 @@ test_help_of_each() {
         for word in ${usage#*mahyrei "$command"}; do
             case $word in
                 [A-Z]* | '[FOLDER]' | '[COMMAND]')
-                    # The value of an option stands within brackets.
+                    word=${word%'}'}
+                    # The value of an option is within brackets.
                     [[ $word == *']' && $word != '['* ]] ||
                         same "$command on $word" 1 "$(grep -cE "^  ${word//[\[\]]/.} +[a-z]" one)"
                     ;;
-                '[--'*)
-                    word=${word#'['} word=${word%']'}
+                '[--'* | '{--'*)
+                    word=${word#[\[\{]} word=${word%']'}
                     same "$command on $word" 1 "$(grep -cE "^  (    |-., )$word " one)"
                     ;;
             esac
@@ -41,6 +42,18 @@ test_help_of_each() {
         (cd directory && "$mahyrei" ${example#  mahyrei } </dev/null >"$said/out" 2>"$said/err") || true
         same "the example of $command is right usage" 0 "$(grep -c '^usage:' "$said/err")"
     done < <(sed -En 's/^  ([a-z][a-z-]*) +.*/\1/p' all)
+}
+
+# With --sigmf there are no operands for header and marker, and the usage says so.
+test_usage_of_sigmf() {
+    begin
+    run 2 verify --sigmf "$header" "$marker" slots
+    has 'the usage' '{--sigmf | HEADER MARKER} SLOTS' "$err"
+    run 0 help verify
+    has 'what it does there' '--sigmf                  takes header and marker from the metadata' "$(out)"
+    run 0 help write
+    has 'and for what is written' '--sigmf                  puts metadata beside SLOTS' "$(out)"
+    has 'which has both' '[--sigmf] [--slot-rate HZ] HEADER MARKER FRAMES SLOTS' "$(out)"
 }
 
 test_mistyped() {
@@ -77,6 +90,9 @@ test_text_in_a_file() {
     says "$text" \
         sheet text
     printf '%s\r\n' "$header" >text
+    says "$text" \
+        sheet text
+    printf '\xEF\xBB\xBF%s\r\n' "$header" >text # as some editors begin
     says "$text" \
         sheet text
     echo "$marker" >text

@@ -1,4 +1,4 @@
-# inspect and show: what is said of a capture, and the picture.
+# inspect and show: what is said of the slots of a run, and the picture.
 # shellcheck shell=bash
 
 # report STATUS COUNTS: inspects `damaged`; the counts of x g n s m z, spare bits, words with 0, 13,
@@ -29,10 +29,10 @@ damages() {
 test_inspect_counts() {
     begin
     report 0 '0 0 0 0 0 0 0 2 0 0 0 0 3 0 0 0'
-    has 'a sound capture' 'damaged: mahyrei_run_read accepts it.' "$(out)"
+    has 'sound slots' 'damaged: mahyrei_run_read accepts it.' "$(out)"
     has 'what is plain C' 'counted in plain C' "$(out)"
     has 'that nothing is corrected' 'Nothing has been corrected.' "$(tr '\n' ' ' <"$said/out")"
-    same 'a sound capture has no list' '' "$(grep -E 'The first|Over the run' "$said/out")"
+    same 'sound slots have no list' '' "$(grep -E 'The first|Over the run' "$said/out")"
     damages lose 7000
     report 1 '0 0 1 0 0 0 0 1 0 0 0 1 2 0 1 0'
     has 'what mahyrei_run_read says' "mahyrei_run_read refuses it, number 10, place 7000: $(sentence 10)" "$(out)"
@@ -78,7 +78,7 @@ test_inspect_counts() {
     has 'set fill bits' 'bit of the joined frames' "$(out)"
 }
 
-# A capture of another length is looked at as far as it goes.
+# Slots of another length are looked at as far as they go.
 test_inspect_lengths() {
     begin
     head -c 25000 slots >damaged # 10000 symbols
@@ -155,7 +155,7 @@ dom.parse("picture.svg"); print("yes")')"
     fi
     run 0 inspect -f "$header" "$marker" slots --svg picture.svg
     drawn '#1d4ed8' 0
-    has 'the title of a sound capture' '>Accepted: slots<' "$(<picture.svg)"
+    has 'the title of sound slots' '>Accepted: slots<' "$(<picture.svg)"
     run 2 inspect "$header" "$marker" damaged --svg none/picture.svg
     has 'a picture that cannot be written' 'none/picture.svg: ' "$err"
     same 'no report then' '' "$(out)"
@@ -164,13 +164,13 @@ dom.parse("picture.svg"); print("yes")')"
     ln -s damaged leads
     for name in damaged ./damaged leads; do
         run 2 inspect "$header" "$marker" damaged --svg "$name"
-        has 'a picture over the capture' "$name: this is what is looked at" "$err"
+        has 'a picture over the slots' "$name: this is what is looked at" "$err"
     done
     run 2 inspect header marker - --svg damaged <damaged
     run 2 inspect header marker damaged --svg marker
     run 2 inspect header marker damaged --svg -
     has 'a picture on standard output' '-: the picture goes to a file' "$err"
-    alike 'the capture after that' kept damaged
+    alike 'the slots after that' kept damaged
     "$mahyrei" -q write "$example" "$example_marker" example many
     printf '\x80' | dd of=many bs=1 seek=4000001 conv=notrunc 2>"$said/err"
     run 1 inspect -f "$example" "$example_marker" many --svg picture.svg
@@ -192,7 +192,7 @@ test_show() {
       5  word 0   symbol 0      14  ..............|.____
       6  no word's symbol here   0  |...............____" "$(out)"
     run 0 show "$header" slots 11354 18446744073709551615
-    same 'as far as the capture goes' 1 "$(wc -l <"$said/out")"
+    same 'as far as the slots go' 1 "$(wc -l <"$said/out")"
     head -c 10 slots >short
     run 0 show "$header" short 0 100
     same 'symbols of ten bytes' 4 "$(wc -l <"$said/out")"
@@ -296,6 +296,13 @@ test_picture_looks() {
     same 'lines of the legend that count 0' 0 "$(grep -c ': 0</text>' picture.svg)"
     same 'swatches without an outline' 0 "$(grep -cE 'width="11" height="11" fill="[^"]*"/>' picture.svg)"
     has 'a tick of the scale' '>100</text>' "$(<picture.svg)"
+    # A marker symbol is no larger than a spot of a line, however few the marker has.
+    damages lose 0
+    run 1 inspect -f "$header" "$marker" damaged --svg picture.svg
+    has 'a marker symbol at fault' '<path fill="#1d4ed8" fill-opacity="1" d="M92 112h12v12h-12z"/>' "$(<picture.svg)"
+    "$tool" "$header" capture 13 5 0 <damaged >capture
+    run 1 inspect -f --capture --from 100 "$header" "$marker" capture --svg picture.svg
+    has 'which run of a capture it is' '>from slot 75713 of the capture on: rate 1/2' "$(<picture.svg)"
     # The specification's example has several rows to a line, and so many symbols to a cell: one of
     # them, and then more than half.
     "$mahyrei" -q write "$example" "$example_marker" example many
@@ -305,6 +312,7 @@ test_picture_looks() {
     }
     "$tool" "$example" lose 400016 <many >damaged
     same 'one fault of a cell' 0.25 "$(strength)"
+    has 'what pale spots are' "words' symbols, 3 rows to a line; up to 48 symbols make a spot, pale where few" "$(<picture.svg)"
     dd if=/dev/zero of=damaged bs=80 seek=50000 count=50 conv=notrunc 2>"$said/err"
     same 'many faults of two cells' '0.7 0.85' "$(strength)"
 }
@@ -358,14 +366,29 @@ once_inspect_browser() {
         echo 'command: Chromium does not start here; the page of inspect is not opened'
         return
     fi
-    same 'a symbol' 'symbol 7000: row 1, word 1 symbol 3210 slots 140000 to 140019, bytes 17500 to 17502: symbols with no pulse' "$at"
-    same 'a symbol in a capture' 'symbol 7000: row 1, word 1 symbol 3210 slots 140013 to 140032, bytes 17501 to 17504: symbols with no pulse' \
+    same 'a symbol' 'symbol 7000: row 1, word 1 symbol 3210 slots 140000 to 140019, bytes 17500 to 17502: no pulse' "$at"
+    same 'a symbol in a capture' 'symbol 7000: row 1, word 1 symbol 3210 slots 140013 to 140032, bytes 17501 to 17504: no pulse' \
         "$(shown_at 'captured.html#symbol=7000')"
     same 'a symbol of no word' "symbol 6: row 0, no word's symbol slots 120 to 139, bytes 15 to 17: sound" \
         "$(shown_at 'page.html#symbol=6')"
     # Where the ring is, is the place of the refusal; and the marker is where it is drawn.
     at=$(sed -n 's/.*<circle cx="\([0-9]*\)" cy="\([0-9]*\)".*/\1,\2/p' page.html)
     has 'the symbol in the ring' 'symbol 3000: row 0, word 0 symbol 2995 ' "$(shown_at "page.html#at=$at")"
-    has 'a marker symbol' 'symbol 3787: row 1, marker symbol 2 ' "$(shown_at 'page.html#at=121,300')"
+    # The pointer itself, over a picture that is drawn at half its size.
+    { cat page.html && echo "<style>svg { width: 504px; height: auto }</style><script>
+const r = picture.getBoundingClientRect(), [x, y] = [${at%,*} / 2, ${at#*,} / 2];
+picture.dispatchEvent(new PointerEvent('pointermove', {clientX: r.left + x, clientY: r.top + y}));
+</script>"; } >pointed.html
+    same 'the symbol below the pointer' "$(shown_at "page.html#at=$at")" "$(shown_at pointed.html)"
+    has 'a marker symbol' 'symbol 3787: row 1, marker symbol 2 ' "$(shown_at 'page.html#at=121,277')"
+    # A spot of several rows shows its fault, in whichever row that is, and not a symbol beside it.
+    "$mahyrei" -q write "$example" "$example_marker" example many
+    "$tool" "$example" lose 400016 <many >damaged
+    run 1 inspect "$example" "$example_marker" damaged --html many.html
+    at=$(sed -n 's/.*<circle cx="\([0-9]*\)" cy="\([0-9]*\)".*/\1,\2/p' many.html)
+    has 'a fault among many symbols' 'symbol 400016: row 157, ' "$(shown_at "many.html#at=$at")"
+    has 'how many there are' ': no pulse the only fault among the 48 symbols of this spot' \
+        "$(shown_at "many.html#at=$at")"
+    has 'a sound symbol of many' ': sound' "$(shown_at "many.html#at=200,$((${at#*,} - 8))")"
     has 'beside the map' 'Point at a symbol' "$(shown_at 'page.html#at=10,300')"
 }

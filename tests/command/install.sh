@@ -241,7 +241,7 @@ once_demo() {
     same 'status of the demo' 0 $?
     same 'its last line' 'all as expected' "$(tail -n 1 "$said/out")"
     has 'a command as one types it' "  \$ mahyrei scan $header $marker recording monday" "$(out)"
-    alike "README's picture, which make picture draws" "$root/docs/capture.svg" "$said/picture.svg"
+    alike "the manual's picture, which make picture draws" "$root/docs/damage.svg" "$said/picture.svg"
     # A command that answers otherwise is seen.
     printf '%s\n' '#!/bin/sh' "case \$1 in verify) exec '$mahyrei' verify \"\$2\" 00 \"\$4\" ;; esac" \
         "exec '$mahyrei' \"\$@\"" >other

@@ -79,7 +79,7 @@ test_find_all_dense() {
     printf '\x84\x21\x08\x42\x10%.0s' {1..6250} >dense
     run 0 -q find --all "$short" 00 dense
     same 'starts of a dense capture' "$(seq 0 5 249995 | cksum)" "$(cksum <"$said/out")"
-    head -c 2561 dense >less # behind the first are 4096, which are looked for at once, and no more
+    head -c 2561 dense >less # after the first come 4096, which are looked for at once, and no more
     run 0 -q find --all "$short" 00 less
     same 'starts of a shorter one' "$(seq 0 5 20480 | cksum)" "$(cksum <"$said/out")"
 }
@@ -96,6 +96,9 @@ test_read_from() {
     rm out
     run 0 -q verify --capture --from 614304 "$header" "$marker" recording
     refused 10 7570 verify --capture --from 160014 "$header" "$marker" recording
+    # shellcheck disable=SC2016  # it is said so
+    has 'what was taken for the start' \
+        'recording: the first whole marker from slot 160014 on begins at slot 235713, in byte 29464; `mahyrei scan` tries every start' "$err"
     refused 8 0 read --capture --from 1068560 "$header" "$marker" recording out
     refused 19 0 read --capture --from 1228568 "$header" "$marker" recording out
     unharmed 2 '--from: slots begin with the run; --capture says that this is a capture' \
@@ -174,13 +177,31 @@ test_scan_by_hand() {
         "$(sed 's/.*"refused_by_number":{\([^}]*\)}.*/\1/; s/"\([0-9]*\)":\([0-9]*\),*/\2 \1 /g' "$said/out" | xargs)"
 }
 
+# What --from passes over was not searched, and is no gap: a run may well be there.
+test_scan_from() {
+    begin_recording
+    run 0 -q scan --from 400000 "$header" "$marker" recording --svg picture.svg
+    has 'the slots before it' 'slots not searched                 400,000' "$(out)"
+    has 'the slots after it' 'slots not in any run               374,368' "$(out)"
+    has 'the gap' 'longest gap                        214,304  from slot 400000 to slot 614303' "$(out)"
+    has 'in the picture' '>slots not searched: 400000</text>' "$(<picture.svg)"
+    run 0 -q scan --json --from 400000 "$header" "$marker" recording
+    has 'as JSON' '"slots_not_searched":400000,"slots_not_in_any_run":374368,"longest_gap":{"slot":400000,"slots":214304}' "$(out)"
+    run 1 -q scan --json --from 18446744073709551615 "$header" "$marker" recording
+    has 'all of it' '"slots_not_searched":1228568,"slots_not_in_any_run":0,"longest_gap":{"slot":1228568,"slots":0},"status":1,"number":19' "$(out)"
+    run 0 -q scan "$header" "$marker" recording
+    same 'from the first on' 0 "$(grep -c 'not searched' "$said/out")"
+}
+
 test_scan_json() {
     begin_recording
     run 0 -q scan --json "$header" "$marker" recording to
     local digest
     digest=$(sha256sum frames | cut -d ' ' -f 1)
     has 'a run as JSON' "{\"slot\":160013,\"frames\":3,\"bytes\":1500,\"sha256\":\"$digest\",\"file\":\"to/run-160013.frames\"}" "$(out)"
-    has 'the counts as JSON' '"starts_refused":8,"refused_by_number":{"8":3,"10":5},"slots_not_in_any_run":547268,"longest_gap":{"slot":387113,"slots":227191},"status":0,"number":0,"place":0,"sentence":"' "$(out)"
+    has 'the counts as JSON' '"starts_refused":8,"refused_by_number":{"8":3,"10":5},"slots_not_in_any_run":547268,"longest_gap":{"slot":387113,"slots":227191},"status":0,"number":0,"place":0,"sentence":"All is well: a run is sound, and the frames of each that is are on the disk."' "$(out)"
+    run 0 -q scan --json "$header" "$marker" recording
+    has 'the end without a folder' '"sentence":"All is well: a run is sound. Nothing was written."' "$(out)"
     cp recording $'a "name"\n\xFF'
     run 0 -q scan --json "$header" "$marker" $'a "name"\n\xFF'
     has 'a name as JSON' '{"capture":"a \"name\"\u000a\udcff","slots":1228568,"runs_sound":3,' "$(out)"
@@ -202,6 +223,8 @@ test_scan_json() {
     ended 1 7 0 "$(sentence 7)" "$header" 0500100309 recording
     ended 1 8 0 "$(sentence_of_8 scan x)" "$header" 05 recording
     ended 1 19 0 "$(sentence 19)" "$header" "$marker" empty
+    head -c 20000 slots >short
+    ended 1 8 0 'The recording ends within the run.' "$header" "$marker" short
     ended 1 10 7000 "$(sentence 10)" "$header" "$marker" damaged
     "$mahyrei" -q scan --json 00 "$marker" recording >/dev/full 2>"$said/err"
     same 'status where a refusal cannot be printed' 2 $?
@@ -296,6 +319,31 @@ test_scan_again() {
     alike 'the recording then' kept recording
 }
 
+# What has a run's name and is no file would keep nothing: a pipe is not waited for, and a device gets
+# nothing.
+test_scan_to_no_file() {
+    begin_recording
+    local kind force
+    for kind in pipe device; do
+        for force in '' -f; do
+            rm -rf to
+            mkdir to
+            if [ "$kind" = pipe ]; then
+                mkfifo to/run-160013.frames
+            else
+                ln -s /dev/null to/run-160013.frames
+            fi
+            prefix=(timeout 20)
+            # shellcheck disable=SC2086  # none or one
+            run 2 -q scan $force "$header" "$marker" recording to
+            prefix=()
+            same "what is said of a $kind" \
+                'mahyrei: to/run-160013.frames: this is no file, and would keep nothing on the disk' "$err"
+            same "no line of a $kind in the log" 0 "$(grep -c 'slot=160013' "$said/err")"
+        done
+    done
+}
+
 test_scan_picture() {
     begin_recording
     run 0 -q scan "$header" "$marker" recording --svg picture.svg
@@ -303,6 +351,12 @@ test_scan_picture() {
     same 'starts of the picture' 8 "$(grep -c '>1 start refused</title>' picture.svg)"
     has 'the title' '3 runs sound, 8 starts refused: recording' "$(<picture.svg)"
     has 'the scale' '>200000</text>' "$(<picture.svg)"
+    has 'the starts refused' '>starts refused: 8</text>' "$(<picture.svg)"
+    same 'swatches of the picture' 3 "$(grep -c 'width="11" height="11"' picture.svg)"
+    head -c 1000 /dev/zero >quiet
+    run 1 -q scan -f "$header" "$marker" quiet --svg picture.svg
+    same 'lines of the legend that count 0' 0 "$(grep -c ': 0</text>' picture.svg)"
+    run 0 -q scan -f "$header" "$marker" recording --svg picture.svg
     if command -v python3 >"$said/which"; then
         same 'the picture is XML' yes "$(python3 -c 'import sys, xml.dom.minidom as dom
 dom.parse("picture.svg"); print("yes")')"

@@ -302,6 +302,8 @@ test_inspect_annotations() {
     run 1 inspect --annotations shorter.sigmf-meta "$header" "$marker" shorter
     same 'rules of slots that are cut short' '' "$(sigmf_rules shorter.sigmf-meta shorter)"
     same 'cut short' 'refused run 0 8;' "$(labels shorter.sigmf-meta)"
+    has 'why' '"refused, number 8, place 0: The slots are longer or shorter than the header says."' \
+        "$(<shorter.sigmf-meta)"
     head -c 17503 both >shorter
     run 1 -f inspect --annotations shorter.sigmf-meta "$header" "$marker" shorter
     same 'cut within the damage' 'refused run 0 8;no pulse 140000 10;' "$(labels shorter.sigmf-meta)"

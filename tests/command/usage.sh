@@ -39,7 +39,7 @@ test_usage() {
     unharmed 2 'only one input can be -' write - "$marker" - out
     unharmed 2 'only one input can be -' read "$header" - - out
     same 'usage after a mistake' \
-        'usage: mahyrei read [--no-clobber] [--force] [--json] [--capture] [--expect-sha256 DIGEST] [--from SLOT] [--sigmf] HEADER MARKER SLOTS FRAMES' \
+        'usage: mahyrei read [--no-clobber] [--force] [--json] [--capture] [--expect-sha256 DIGEST] [--from SLOT] {--sigmf | HEADER MARKER} SLOTS FRAMES' \
         "$(tail -n 1 "$said/err")"
     same 'lines of a mistake' 2 "$(wc -l <"$said/err")"
     same 'no line of the log for wrong usage' 0 "$(grep -Ec "$log_line" "$said/err")"

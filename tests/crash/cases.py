@@ -156,7 +156,7 @@ def pictures(made):
 
 
 def metadata(made):
-    """Slots and the metadata beside them, which comes behind them; and annotations.
+    """Slots and the metadata beside them, which comes after them; and annotations.
 
     Without --force the slots that a power cut has left alone would be in the way of the same command.
     """

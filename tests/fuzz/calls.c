@@ -763,7 +763,7 @@ static void get_word(const struct run *run, const uint8_t *slots, size_t c, uint
     const size_t S = word_symbols(run);
     memset(word, 0, MAHYREI_WORD_BYTES);
     for (size_t i = 0; i < S; i++) {
-        const size_t symbol = get_symbol(run, slots, stand(run, c * S + i));
+        const size_t symbol = get_symbol(run, slots, run_symbol(run, c * S + i));
         for (size_t j = 0; j < run->m; j++) { /* first bit highest */
             if (symbol >> (run->m - 1 - j) & 1) {
                 flip(word, i * run->m + j);
@@ -779,7 +779,7 @@ static void put_word_back(const struct run *run, uint8_t *slots, size_t c, const
         for (size_t x = i * run->m; x < (i + 1) * run->m; x++) {
             symbol = symbol * 2 + get_bit(word, x);
         }
-        const size_t s = stand(run, c * S + i);
+        const size_t s = run_symbol(run, c * S + i);
         if (!get_bit(slots, copy_start(run, s, 0) + symbol)) { /* most stand already */
             put_pulse(run, slots, s, symbol);
         }

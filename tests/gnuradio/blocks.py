@@ -31,7 +31,7 @@ def message(data):
 
 
 def stored(debug):
-    """The messages that were kept: of each what is told about it, and its data."""
+    """The messages that were kept: of each its dictionary, and its data."""
     for i in range(debug.num_messages()):
         got = debug.get_message(i)
         yield pmt.to_python(pmt.car(got)), bytes(pmt.u8vector_elements(pmt.cdr(got)))

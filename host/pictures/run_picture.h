@@ -1,18 +1,18 @@
-/* A capture as a picture: the run row by row with its markers, faults coloured, words and frames
+/* The slots of a run as a picture: row by row with its markers, faults coloured, words and frames
  * beside it. */
-#ifndef PICTURES_CAPTURE_PICTURE_H
-#define PICTURES_CAPTURE_PICTURE_H
+#ifndef PICTURES_RUN_PICTURE_H
+#define PICTURES_RUN_PICTURE_H
 
 #include <stdbool.h>
 #include <stdio.h>
 
-#include "runs/capture.h"
 #include "runs/findings.h"
+#include "runs/run_slots.h"
 
 /* What is drawn; the name and the answer are for the title. */
 struct scene {
     const char *name;
-    const struct capture *capture;
+    const struct run_slots *slots;
     const uint8_t *marker;
     const struct findings *findings;
     uint64_t answer;      /* of mahyrei_run_read */

@@ -1,18 +1,18 @@
-#include "runs/capture.h"
+#include "runs/run_slots.h"
 
 #include <string.h>
 
 #include "runs/layout.h"
 
-unsigned capture_of(const struct bytes *header, const struct bytes *slots,
-                    struct capture *capture) {
-    *capture = (struct capture){.slots = *slots};
-    const unsigned number = sheet_of(header, &capture->run);
+unsigned run_slots_of(const struct bytes *header, const struct bytes *bytes,
+                      struct run_slots *slots) {
+    *slots = (struct run_slots){.bytes = *bytes};
+    const unsigned number = sheet_of(header, &slots->run);
     if (number != MAHYREI_ACCEPTED) {
         return number;
     }
-    const uint64_t there = (uint64_t)slots->len * 8 / symbol_slots(&capture->run);
-    capture->present = there < capture->run.sizes.pooled ? there : capture->run.sizes.pooled;
+    const uint64_t there = (uint64_t)bytes->len * 8 / symbol_slots(&slots->run);
+    slots->present = there < slots->run.sizes.pooled ? there : slots->run.sizes.pooled;
     return number;
 }
 
@@ -22,7 +22,7 @@ bool pack_slots(const struct sheet *run, const struct bytes *capture, uint64_t s
     const uint64_t wanted = run->sizes.slots / 8;
     const size_t len = (size_t)(there < wanted ? there : wanted), first = (size_t)(slot / 8);
     const unsigned shift = (unsigned)(slot % 8);
-    if (!make_room(len, slots)) {
+    if (!make_buffer(len, slots)) {
         return false;
     }
     for (size_t i = 0; i < len; i++) {
@@ -35,12 +35,12 @@ bool pack_slots(const struct sheet *run, const struct bytes *capture, uint64_t s
 
 /* ---- slots */
 
-bool pulse_at(const struct capture *capture, uint64_t slot) {
-    return (capture->slots.at[slot / 8] >> (7 - slot % 8) & 1) != 0;
+bool pulse_at(const struct run_slots *slots, uint64_t slot) {
+    return (slots->bytes.at[slot / 8] >> (7 - slot % 8) & 1) != 0;
 }
 
-uint64_t first_slot(const struct capture *capture, uint64_t symbol) {
-    return symbol * symbol_slots(&capture->run);
+uint64_t first_slot(const struct run_slots *slots, uint64_t symbol) {
+    return symbol * symbol_slots(&slots->run);
 }
 
 static void add_leader(struct group *group, uint64_t at, uint64_t M) {
@@ -68,16 +68,15 @@ static void add_pulse(struct group *group, unsigned count, uint64_t at, uint64_t
 enum { GROUP_MOST = 320 };
 
 /* Most bytes are empty, so they are gone over first. */
-struct group group_of(const struct capture *capture, uint64_t symbol) {
-    const uint64_t from = first_slot(capture, symbol), end = first_slot(capture, symbol + 1);
-    const struct mahyrei_sizes *const sizes = &capture->run.sizes;
+struct group group_of(const struct run_slots *slots, uint64_t symbol) {
+    const uint64_t from = first_slot(slots, symbol), end = first_slot(slots, symbol + 1);
+    const struct mahyrei_sizes *const sizes = &slots->run.sizes;
     uint8_t counts[GROUP_MOST]; /* over the copies, of which there are at most 32 */
     struct group group = {0};
     memset(counts, 0, sizes->group);
     for (uint64_t byte = from / 8; byte * 8 < end; byte++) {
-        for (uint64_t slot = byte * 8; capture->slots.at[byte] != 0 && slot < byte * 8 + 8;
-             slot++) {
-            if (slot >= from && slot < end && pulse_at(capture, slot)) {
+        for (uint64_t slot = byte * 8; slots->bytes.at[byte] != 0 && slot < byte * 8 + 8; slot++) {
+            if (slot >= from && slot < end && pulse_at(slots, slot)) {
                 const uint64_t at = (slot - from) % sizes->group;
                 add_pulse(&group, ++counts[at], at, sizes->M);
             }
@@ -88,18 +87,18 @@ struct group group_of(const struct capture *capture, uint64_t symbol) {
 
 /* ---- faults */
 
-enum fault fault_of(const struct capture *capture, const uint8_t *marker, uint64_t symbol) {
-    if (symbol >= capture->present) {
+enum fault fault_of(const struct run_slots *slots, const uint8_t *marker, uint64_t symbol) {
+    if (symbol >= slots->present) {
         return MISSING;
     }
-    const struct group group = group_of(capture, symbol);
+    const struct group group = group_of(slots, symbol);
     if (group.guard_pulses > 0) {
         return GUARD_PULSE;
     }
     if (group.pulses != 1) {
         return group.pulses == 0 ? NO_PULSE : SEVERAL_PULSES;
     }
-    const struct position position = position_of(&capture->run, symbol);
+    const struct position position = position_of(&slots->run, symbol);
     if (position.part == MARKER_PART && group.first != marker[position.at]) {
         return WRONG_MARKER;
     }
@@ -107,25 +106,25 @@ enum fault fault_of(const struct capture *capture, const uint8_t *marker, uint64
 }
 
 /* The first copy of a symbol that has a pulse here. */
-static uint64_t pulse_of(const struct capture *capture, uint64_t symbol, uint64_t at) {
-    uint64_t slot = first_slot(capture, symbol) + at;
-    while (!pulse_at(capture, slot)) {
-        slot += capture->run.sizes.group;
+static uint64_t pulse_of(const struct run_slots *slots, uint64_t symbol, uint64_t at) {
+    uint64_t slot = first_slot(slots, symbol) + at;
+    while (!pulse_at(slots, slot)) {
+        slot += slots->run.sizes.group;
     }
     return slot;
 }
 
-uint64_t fault_slot(const struct capture *capture, uint64_t symbol, enum fault fault) {
-    const struct group group = fault != MISSING ? group_of(capture, symbol) : (struct group){0};
+uint64_t fault_slot(const struct run_slots *slots, uint64_t symbol, enum fault fault) {
+    const struct group group = fault != MISSING ? group_of(slots, symbol) : (struct group){0};
     switch (fault) {
     case GUARD_PULSE:
-        return pulse_of(capture, symbol, group.guard);
+        return pulse_of(slots, symbol, group.guard);
     case SEVERAL_PULSES:
-        return pulse_of(capture, symbol, group.second);
+        return pulse_of(slots, symbol, group.second);
     case WRONG_MARKER:
     case NOT_ZERO:
-        return pulse_of(capture, symbol, group.first);
+        return pulse_of(slots, symbol, group.first);
     default:
-        return first_slot(capture, symbol);
+        return first_slot(slots, symbol);
     }
 }

@@ -1,4 +1,4 @@
-#include "pictures/capture_page.h"
+#include "pictures/run_page.h"
 
 #include <inttypes.h>
 #include <string.h>
@@ -14,7 +14,7 @@ static const char HEAD[] =
     "<meta name=\"viewport\" content=\"width=device-width\">\n<style>\n"
     "body { font: 14px Helvetica, Arial, sans-serif; color: " INK "; margin: 0 1em 2em }\n"
     "#at { position: sticky; top: 0; background: #fff; border-bottom: 1px solid #d5dde6;\n"
-    "      padding: .6em 24px; min-height: 2.4em; white-space: pre-line }\n"
+    "      padding: .6em 24px; min-height: 3.6em; white-space: pre-line }\n"
     "pre { font-size: 13px; padding: 0 24px; white-space: pre-wrap }\n"
     "svg { cursor: crosshair; max-width: none }\n</style>\n";
 
@@ -40,22 +40,51 @@ static const char SCRIPT[] =
     "+\n"
     "    fault(s);\n"
     "}\n"
-    "function symbolAt(x, y) {\n"
-    "  const row = map.height * map.linesPerRow + (map.linesPerRow > 1 ? map.gap : 0);\n"
-    "  const inRow = (y - map.top) % row;\n"
-    "  const group = Math.floor((y - map.top) / row) * map.rowsPerLine, line = Math.floor(inRow / "
-    "map.height);\n"
-    "  if (y < map.top || group >= run.R || line >= map.linesPerRow) return -1;\n"
-    "  const first = group * (run.S + run.W);\n"
-    "  if (x >= map.left && x < map.left + run.W * Math.floor(map.markerWidth / run.W))\n"
-    "    return first + Math.floor((x - map.left) / Math.floor(map.markerWidth / run.W));\n"
-    "  const part = (x - map.symbols) / (map.columns * map.cell);\n"
-    "  if (part < 0 || part >= 1) return -1;\n"
-    "  return first + run.W + Math.floor((line + part) * run.S / map.linesPerRow);\n"
+    /* The symbols of the spot there: stretches of them, a row each, and the one pointed at. */
+    "function spotAt(x, y) {\n"
+    "  const high = map.height * map.linesPerRow + (map.linesPerRow > 1 ? map.gap : 0);\n"
+    "  const group = Math.floor((y - map.top) / high), inGroup = y - map.top - group * high;\n"
+    "  const line = Math.floor(inGroup / map.height), row = group * map.rowsPerLine;\n"
+    "  if (group < 0 || row >= run.R || line >= map.linesPerRow) return null;\n"
+    "  const marker = Math.floor((x - map.left) / map.markerCell);\n"
+    "  const part = (x - map.symbols) / map.cell, column = Math.floor(part);\n"
+    "  let first, end, at;\n"
+    "  if (line === 0 && marker >= 0 && marker < run.W) {\n"
+    "    first = at = marker;\n"
+    "    end = first + 1;\n"
+    "  } else if (column >= 0 && column < map.columns) {\n"
+    "    const cells = map.linesPerRow * map.columns, cell = line * map.columns + column;\n"
+    "    first = run.W + Math.ceil(cell * run.S / cells);\n"
+    "    end = run.W + Math.ceil((cell + 1) * run.S / cells);\n"
+    "    at = first + Math.floor((part - column) * (end - first));\n"
+    "  } else return null;\n"
+    "  const size = run.S + run.W, rows = Math.min(map.rowsPerLine, run.R - row);\n"
+    "  const stretches = Array.from({length: rows},\n"
+    "    (_, i) => [(row + i) * size + first, (row + i) * size + end]);\n"
+    "  const below = Math.floor((inGroup / map.height - line) * rows);\n"
+    "  return {stretches, symbol: (row + below) * size + at, count: rows * (end - first)};\n"
     "}\n"
+    "function faultsOf(spot) {\n"
+    "  let first = -1, count = 0;\n"
+    "  for (const [from, end] of spot.stretches)\n"
+    "    for (const f of faults) {\n"
+    "      const a = Math.max(from, f[0]), b = Math.min(end, f[0] + f[1]);\n"
+    "      if (a >= b) continue;\n"
+    "      first = first < 0 ? a : first;\n"
+    "      count += b - a;\n"
+    "    }\n"
+    "  return {first, count};\n"
+    "}\n"
+    /* A spot that is coloured has symbols with faults: the first of them is shown. */
     "function point(x, y) {\n"
-    "  const s = symbolAt(x, y);\n"
-    "  if (s >= 0) tell(s);\n"
+    "  const spot = spotAt(x, y);\n"
+    "  if (spot === null) return;\n"
+    "  const {first, count} = faultsOf(spot);\n"
+    "  tell(first < 0 ? spot.symbol : first);\n"
+    "  if (count > 0 && spot.count > 1)\n"
+    "    box.textContent += count > 1\n"
+    "      ? `\\nthe first of ${count} faults among the ${spot.count} symbols of this spot`\n"
+    "      : `\\nthe only fault among the ${spot.count} symbols of this spot`;\n"
     "}\n"
     "picture.addEventListener('pointermove', event => {\n"
     "  const corner = picture.getBoundingClientRect();\n"
@@ -91,8 +120,8 @@ static void print_lines(FILE *to, const char *text) {
 /* ---- what the script needs */
 
 static void print_run(FILE *to, const struct scene *scene) {
-    const struct mahyrei_fields *const f = &scene->capture->run.fields;
-    const struct mahyrei_sizes *const s = &scene->capture->run.sizes;
+    const struct mahyrei_fields *const f = &scene->slots->run.fields;
+    const struct mahyrei_sizes *const s = &scene->slots->run.sizes;
     fprintf(to,
             "const run = {\"S\":%" PRIu64 ",\"W\":%" PRIu64 ",\"N\":%" PRIu64 ",\"B\":%" PRIu64
             ",\"C\":%" PRIu64 ",\"R\":%" PRIu64 ",\"group\":%" PRIu64 ",\"copies\":%" PRIu64
@@ -100,24 +129,24 @@ static void print_run(FILE *to, const struct scene *scene) {
             s->S, f->W, f->N, f->B, s->C, s->R, s->group, f->copies, s->pooled, scene->slot);
 }
 
-static void print_names(FILE *to, const struct capture *capture) {
+static void print_names(FILE *to) {
     fputs("const names = [", to);
     for (size_t i = 0; i < FAULTS; i++) {
-        fprintf(to, "%s\"%s\"", i == 0 ? "" : ",", fault_name(capture, i));
+        fprintf(to, "%s\"%s\"", i == 0 ? "" : ",", FAULT_LINES[i].label);
     }
     fputs("];\n", to);
 }
 
 /* Stretches of symbols that have the same fault: first, how many, and which. */
 static void print_faults(FILE *to, const struct scene *scene) {
-    const struct capture *const capture = scene->capture;
-    const uint64_t all = capture->run.sizes.pooled;
+    const struct run_slots *const slots = scene->slots;
+    const uint64_t all = slots->run.sizes.pooled;
     uint64_t symbol = 0, stretches = 0;
     fputs("const faults = [", to);
     while (symbol < all && stretches < STRETCHES_MOST) {
-        const enum fault fault = fault_of(capture, scene->marker, symbol);
+        const enum fault fault = fault_of(slots, scene->marker, symbol);
         const uint64_t first = symbol;
-        while (symbol < all && fault_of(capture, scene->marker, symbol) == fault) {
+        while (symbol < all && fault_of(slots, scene->marker, symbol) == fault) {
             symbol++;
         }
         if (fault != SOUND) {
@@ -132,13 +161,13 @@ static void print_faults(FILE *to, const struct scene *scene) {
 static bool print_data(FILE *to, const struct scene *scene) {
     static const char *const NO_COLOURS[1] = {""};
     struct map map;
-    const bool good = map_make(&map, &scene->capture->run, 0, NO_COLOURS);
+    const bool good = map_make(&map, &scene->slots->run, 0, NO_COLOURS);
     if (good) {
         print_run(to, scene);
         fputs("const map = {", to);
         map_print_numbers(to, &map);
         fputs("};\n", to);
-        print_names(to, scene->capture);
+        print_names(to);
         print_faults(to, scene);
     }
     map_free(&map);

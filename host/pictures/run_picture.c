@@ -1,4 +1,4 @@
-#include "pictures/capture_picture.h"
+#include "pictures/run_picture.h"
 
 #include <inttypes.h>
 
@@ -19,8 +19,8 @@ enum {
 #define BAD "#b91c1c"
 
 static void print_title(FILE *to, const struct scene *scene) {
-    const struct mahyrei_fields *const f = &scene->capture->run.fields;
-    const struct mahyrei_sizes *const s = &scene->capture->run.sizes;
+    const struct mahyrei_fields *const f = &scene->slots->run.fields;
+    const struct mahyrei_sizes *const s = &scene->slots->run.sizes;
     const unsigned number = mahyrei_answer_number(scene->answer);
     uint64_t y = 49;
     open_text(to, 24, 32, 16, BOLD);
@@ -36,12 +36,15 @@ static void print_title(FILE *to, const struct scene *scene) {
         y = print_sentence(to, 24, y, scene->sentence);
     }
     open_text(to, 24, y, 12, PALE);
+    if (scene->captured) {
+        fprintf(to, "from slot %" PRIu64 " of the capture on: ", scene->slot);
+    }
     fprintf(to,
             "rate %s, M %" PRIu64 ", N %" PRIu64 ", B %" PRIu64 ", F %" PRIu64 ", W %" PRIu64
             ", A %" PRIu64 ": %" PRIu64 " symbols of %" PRIu64 " slots, in %" PRIu64
-            " rows of %" PRIu64 " + %" PRIu64,
-            rate_name(f->rate), s->M, f->N, f->B, f->F, f->W, f->A, s->pooled, s->group, s->R, f->W,
-            s->S);
+            " row%s of %" PRIu64 " + %" PRIu64,
+            rate_name(f->rate), s->M, f->N, f->B, f->F, f->W, f->A, s->pooled, s->group, s->R,
+            s->R == 1 ? "" : "s", f->W, s->S);
     if (f->copies > 1) {
         fprintf(to, ", each sent %" PRIu64 " times", f->copies);
     }
@@ -110,12 +113,11 @@ static uint64_t print_squares(FILE *to, const struct scene *scene, const char *w
 }
 
 static uint64_t count_of_words(const struct scene *scene, size_t state) {
-    return count_words(scene->capture, scene->findings, WORD_STATES[state].value);
+    return count_words(scene->slots, scene->findings, WORD_STATES[state].value);
 }
 
 static uint64_t count_of_frames(const struct scene *scene, size_t state) {
-    return count_frames(scene->capture, scene->findings,
-                        (enum frame_state)FRAME_STATES[state].value);
+    return count_frames(scene->slots, scene->findings, (enum frame_state)FRAME_STATES[state].value);
 }
 
 /* How many states have a line: those that there are. */
@@ -142,20 +144,20 @@ static uint64_t print_keys(FILE *to, const struct scene *scene, uint64_t y,
 }
 
 static uint64_t frames_top(const struct scene *scene) {
-    return square_y(MAP_TOP, scene->capture->run.sizes.C - 1) + SQUARE + KEY_GAP +
+    return square_y(MAP_TOP, scene->slots->run.sizes.C - 1) + SQUARE + KEY_GAP +
            count_lines(scene, WORD_STATE_COUNT, count_of_words) * LEGEND_LINE + 28;
 }
 
 /* Words, then frames. */
 static void print_side(FILE *to, const struct scene *scene) {
-    const struct capture *const capture = scene->capture;
+    const struct run_slots *const slots = scene->slots;
     print_text(to, SIDE, MAP_TOP - 10, 11, PALE, "words, by mahyrei_word_read");
     uint64_t y =
-        print_squares(to, scene, "word", capture->run.sizes.C, MAP_TOP, word_state) + KEY_GAP;
+        print_squares(to, scene, "word", slots->run.sizes.C, MAP_TOP, word_state) + KEY_GAP;
     print_keys(to, scene, y, WORD_STATES, WORD_STATE_COUNT, count_of_words);
     y = frames_top(scene);
     print_text(to, SIDE, y - 10, 11, PALE, "frames");
-    y = print_squares(to, scene, "frame", capture->run.fields.A, y, frame_state) + KEY_GAP;
+    y = print_squares(to, scene, "frame", slots->run.fields.A, y, frame_state) + KEY_GAP;
     print_keys(to, scene, y, FRAME_STATES, FRAME_STATE_COUNT, count_of_frames);
 }
 
@@ -199,7 +201,7 @@ static void print_place(FILE *to, const struct scene *scene, const struct map *m
 
 /* Below the map: what the colours say, of those that there are. */
 static void print_legend(FILE *to, const struct scene *scene, uint64_t top) {
-    const struct mahyrei_sizes *const sizes = &scene->capture->run.sizes;
+    const struct mahyrei_sizes *const sizes = &scene->slots->run.sizes;
     uint64_t shown = 2;
     print_key(to, MAP_SYMBOLS, top, MAP_WORDS, "symbols of words", sizes->C * sizes->S);
     if (sizes->R > sizes->C) {
@@ -209,7 +211,7 @@ static void print_legend(FILE *to, const struct scene *scene, uint64_t top) {
     for (size_t i = 0; i < FAULTS; i++) {
         if (scene->findings->symbols[i].count > 0) {
             print_key(to, MAP_SYMBOLS + shown % 2 * (MAP_WIDTH / 2), top + shown / 2 * LEGEND_LINE,
-                      FAULT_LINES[i].colour, fault_name(scene->capture, i),
+                      FAULT_LINES[i].colour, fault_name(scene->slots, i),
                       scene->findings->symbols[i].count);
             shown++;
         }
@@ -227,8 +229,8 @@ static uint64_t legend_lines(const struct scene *scene) {
 static void print_picture(FILE *to, const struct scene *scene, const struct map *map) {
     const uint64_t legend_top = map_end(map) + MAP_SCALE + 28;
     const uint64_t left_end = legend_top + legend_lines(scene) * LEGEND_LINE;
-    const uint64_t side_end = square_y(frames_top(scene), scene->capture->run.fields.A - 1) +
-                              SQUARE + 14 +
+    const uint64_t side_end = square_y(frames_top(scene), scene->slots->run.fields.A - 1) + SQUARE +
+                              14 +
                               count_lines(scene, FRAME_STATE_COUNT, count_of_frames) * LEGEND_LINE;
     const uint64_t end = left_end > side_end ? left_end : side_end;
     svg_begin(to, scene->name, WIDTH, end + 30);
@@ -245,16 +247,16 @@ static void print_picture(FILE *to, const struct scene *scene, const struct map 
 }
 
 bool draw_picture(FILE *to, const struct scene *scene) {
-    const struct capture *const capture = scene->capture;
+    const struct run_slots *const slots = scene->slots;
     const char *colours[FAULTS];
     struct map map;
     for (size_t i = 0; i < FAULTS; i++) {
         colours[i] = FAULT_LINES[i].colour;
     }
-    const bool good = map_make(&map, &capture->run, FAULTS, colours);
+    const bool good = map_make(&map, &slots->run, FAULTS, colours);
     if (good) {
-        for (uint64_t symbol = 0; symbol < capture->run.sizes.pooled; symbol++) {
-            map_add(&map, symbol, fault_of(capture, scene->marker, symbol));
+        for (uint64_t symbol = 0; symbol < slots->run.sizes.pooled; symbol++) {
+            map_add(&map, symbol, fault_of(slots, scene->marker, symbol));
         }
         print_picture(to, scene, &map);
     }
