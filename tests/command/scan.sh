@@ -125,7 +125,7 @@ test_scan() {
   runs sound                               3
   starts refused                           8
     by number 8                            3  the recording ends within the run
-    by number 10                           5  a symbol cannot be told
+    by number 10                           5  a symbol cannot be determined
   slots not in any run               547,268
   longest gap                        227,191  from slot 387113 to slot 614303
 
