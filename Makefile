@@ -238,7 +238,7 @@ deb-test: deb $(LIBS) $(SHARED) $(PROGRAM)
 clean:
 	rm -rf $(HOST) target/lib target/book target/book-source
 
-# `rt` proves what these stand on, where that is not done yet.
+# `rt` proves what these rest on, where that is not done yet.
 PROVED := crates.txt $(shell find crates -name '*.rt' -o -name '*.antt')
 target/staticlib/lib%.a: $(PROVED)
 	rt staticlib $*
@@ -345,7 +345,7 @@ $(HOST)/libsecond.rlib: $(SECOND)
 $(HOST)/compare_%: tests/second/compare_%.rs $(HOST)/libsecond.rlib $(LINKED)
 	@$(RUSTC) $(RUSTFLAGS) $< $(LINK_RUST) -o $@
 
-# The demo's tool stands on the command's parts.
+# The demo's tool is built on the command's parts.
 HOST_PARTS = $(filter-out host/main.c,$(HOST_SOURCES))
 $(HOST)/slots: demo/slots.c $(HOST_PARTS) $(HOST_HEADERS) $(HEADER) $(LINKED)
 	@$(COMPILE) $(HOST_FLAGS) $< $(HOST_PARTS) $(HOST_LIBS) $(LDFLAGS) -o $@

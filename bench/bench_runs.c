@@ -1,6 +1,6 @@
 /*
  * The run calls beside the plain C version, and beside memset and memcpy of the same slot bytes.
- * Runs of several copies also stand beside the same run of one copy, as many times.
+ * Runs of several copies are also shown beside the same run of one copy, as many times.
  *
  * Those that are compared take turns, and the best turn of each counts, so a busy machine harms all
  * alike and little. Output slices are not cleared between calls.

@@ -1,4 +1,4 @@
-/* write --sigmf: metadata that goes beside the slots, behind them. */
+/* write --sigmf: metadata that goes beside the slots, and is written after them. */
 #ifndef COMMANDS_METADATA_OUTPUT_H
 #define COMMANDS_METADATA_OUTPUT_H
 

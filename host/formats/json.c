@@ -201,7 +201,7 @@ static bool skip_digits(char **at) {
 static bool skip_numeral(char **at) {
     *at += **at == '-';
     if (**at == '0') {
-        (*at)++; /* no digit may come behind it */
+        (*at)++; /* no digit may follow it */
     } else if (!skip_digits(at)) {
         return false;
     }

@@ -76,7 +76,7 @@ static void compress(uint64_t H[8], const uint8_t block[BLOCK]) {
     H[7] += h;
 }
 
-/* The last bytes with a one behind them, zeros, and the length in bits: one block or two. */
+/* The last bytes with a one after them, zeros, and the length in bits: one block or two. */
 static void finish(uint64_t H[8], const uint8_t *rest, size_t left, uint64_t bits) {
     uint8_t last[2 * BLOCK] = {0};
     const size_t len = left + 1 + LENGTH <= BLOCK ? BLOCK : 2 * BLOCK;

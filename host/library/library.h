@@ -30,7 +30,7 @@ bool library_read(const struct lent *lent, uint64_t *answer);
  */
 bool library_find(const struct lent *lent, uint64_t from, uint64_t *answer);
 
-/* All slots from this one on at which the marker stands, as many as there is room for; where there
+/* All slots from this one on at which the marker begins, as many as there is room for; where there
  * are fewer, no more are in the capture. */
 enum { STARTS_MOST = 4096 };
 struct starts {

@@ -107,7 +107,7 @@ static inline void flip(uint8_t *bytes, size_t x) {
     bytes[x / 8] = (uint8_t)(bytes[x / 8] ^ 0x80 >> x % 8);
 }
 
-/* The symbol, markers counted, at which symbol t of the words stands. */
+/* The symbol, markers counted, that symbol t of the words becomes. */
 static inline size_t stand(const struct run *run, size_t t) {
     const size_t place = t + t % run->N * run->B * run->N;
     return place / word_symbols(run) * period(run) + run->W + place % word_symbols(run);
