@@ -85,9 +85,9 @@ help:
 	@echo '                $(SHARED)'
 	@echo 'make program    the command: $(PROGRAM)'
 	@echo 'make install    libraries, headers, pkg-config file, command, man pages and Python module,'
-	@echo '                under PREFIX=$(PREFIX) and DESTDIR; make uninstall takes them away'
+	@echo '                under PREFIX=$(PREFIX) and DESTDIR; make uninstall removes them'
 	@echo 'make book       the promises as pages for the browser: target/book/index.html; needs Sphinx,'
-	@echo '                which is installed where root; tests/book tries them'
+	@echo '                which is installed if you are root; tests/book tests them'
 	@echo 'make deb        Debian packages, in target/deb; make deb-test installs them into a fresh root'
 	@echo 'make clean      remove what was built outside the proofs'
 	@echo 'make soak       all calls against the second implementation, on all cores for'
@@ -98,7 +98,7 @@ help:
 	@echo 'make wheel      a Python wheel with the shared library in it, in target/wheel'
 	@echo 'make python-test  the Python module beside numpy and mypy, and the wheel'
 	@echo 'make gnuradio-test  the GNU Radio blocks of integrations/gnuradio, with GNU Radio itself'
-	@echo 'make lint       compilers, linters and formatters, of which none may have a complaint'
+	@echo 'make lint       compilers, linters and formatters, none of which may complain'
 	@echo 'make stack      the most stack that each call takes, read from the machine code'
 	@echo 'make controls   a harmless change beside each must-fail edit that has one, which the prover has'
 	@echo '                to accept; CONTROLS="crate crate/edit" for some of them'
@@ -238,7 +238,7 @@ deb-test: deb $(LIBS) $(SHARED) $(PROGRAM)
 clean:
 	rm -rf $(HOST) target/lib target/book target/book-source
 
-# `rt` proves what these are made of, where that is not done yet.
+# `rt` proves what these rest on, where that is not done yet.
 PROVED := crates.txt $(shell find crates -name '*.rt' -o -name '*.antt')
 target/staticlib/lib%.a: $(PROVED)
 	rt staticlib $*

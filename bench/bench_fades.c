@@ -1,8 +1,8 @@
 /*
  * mahyrei_fades_count over the run with the most symbols and over the one with the most slots, for
  * lists from no fade to one on every second symbol: microseconds, nanoseconds a symbol, and the
- * time beside that of no fade. The time must not grow with the number of fades, but for the symbols
- * that they cover.
+ * time beside that of no fade. The time must not grow with the number of fades, except for the
+ * symbols that they cover.
  *
  * Library and plain C take turns, and the best turn of each counts.
  */

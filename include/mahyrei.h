@@ -15,8 +15,8 @@
  * that is only if some frames make the slots, bit for bit. In a capture that begins on any slot,
  * mahyrei_run_find finds the first marker whose symbols are sent once, mahyrei_run_find_from the
  * first from a slot on, and mahyrei_run_cut packs the run that begins at a slot anew, so that
- * mahyrei_run_read can read it. The header says all of this; mahyrei_header_widen makes one of it
- * from the shorter header of earlier versions, and mahyrei_header_narrow goes back.
+ * mahyrei_run_read can read it. The header says all of this; mahyrei_header_widen makes one from
+ * the shorter header of earlier versions, and mahyrei_header_narrow goes back.
  * mahyrei_fades_count says of a header how many symbols of each word a list of fades would hit.
  * mahyrei_delay_write and mahyrei_delay_read are the channel interleaver and its way back a symbol
  * at a time, over an area, for whoever has no memory for its whole sequence.
@@ -38,7 +38,7 @@
  *
  * What the caller owes, and what no call can test:
  *   - a slice is a pointer and a length in bytes, and the pointer is valid for that many bytes;
- *     a slice of length 0 may be NULL; there is no rule of alignment. The two slices of numbers
+ *     a slice of length 0 may be NULL; nothing need be aligned. Only the two slices of numbers
  *     that mahyrei_fades_count is lent have lengths in numbers, and are aligned as uint32_t is;
  *   - the slice that a call writes does not overlap the others;
  *   - no other thread writes to a slice, or reads the one that is written, during the call.
@@ -249,11 +249,11 @@ enum mahyrei_number {
      * from 0, and the two spare bits do not count. */
     MAHYREI_BAD_BIT = 27,
 
-    /* mahyrei_uplink_read: a group of four slots is no bit: it is not 1000 or 0100. The place is
+    /* mahyrei_uplink_read: a group of four slots is not a bit: neither 1000 nor 0100. The place is
      * the group, counted over all codeblocks. */
     MAHYREI_BAD_GROUP = 28,
-    /* mahyrei_uplink_read: a codeblock is no codeword: one of its 64 parity checks fails. The place
-     * is the codeblock. Every group of the buffer has been found to be a bit before that. */
+    /* mahyrei_uplink_read: a codeblock is not a codeword: one of its 64 parity checks fails. The
+     * place is the codeblock. By then every group of the buffer has been found to be a bit. */
     MAHYREI_BAD_PARITY = 29
 };
 
@@ -301,7 +301,7 @@ uint64_t mahyrei_word_write(uint64_t rate, const uint8_t *block, size_t block_le
  *         whatever they held; none on refusal.
  * Returns 0 on acceptance: mahyrei_word_write at the same rate makes this word of this block, and
  *         of no other, spare bits aside. Otherwise place * 256 + number, with number 2, 8, 13,
- *         14 or 15; only 13 has a place. Take it apart by mahyrei_answer_number and
+ *         14 or 15; only 13 has a place. Split it with mahyrei_answer_number and
  *         mahyrei_answer_place.
  */
 uint64_t mahyrei_word_read(uint64_t rate, const uint8_t *word, size_t word_len, uint8_t *block,
@@ -329,7 +329,7 @@ uint64_t mahyrei_pass_write(uint64_t rate, const uint8_t *blocks, size_t blocks_
  *         one, back to back; none on refusal.
  * Returns 0 on acceptance. Otherwise place * 256 + number, with number 2, 8, 13, 14 or 15; for 13
  *         to 15 that is the number that mahyrei_word_read gives for the first word it refuses, and
- *         the place is that word, counted from 0. Take it apart by mahyrei_answer_number and
+ *         the place is that word, counted from 0. Split it with mahyrei_answer_number and
  *         mahyrei_answer_place.
  */
 uint64_t mahyrei_pass_read(uint64_t rate, const uint8_t *words, size_t words_len, uint8_t *blocks,
@@ -371,7 +371,7 @@ uint64_t mahyrei_run_write(const uint8_t *header, size_t header_len, const uint8
  * Returns 0 on acceptance: the pooled symbols are those that mahyrei_run_write sends for these
  *         frames, with the same header and marker, and for no others; where the factor is 1,
  *         mahyrei_run_write makes these slots of these frames. Otherwise place * 256 + number, with
- *         a number from 1 to 16, or 18 or 20; 10 to 16 have a place. Take it apart by
+ *         a number from 1 to 16, or 18 or 20; 10 to 16 have a place. Split it with
  *         mahyrei_answer_number and mahyrei_answer_place.
  */
 uint64_t mahyrei_run_read(const uint8_t *header, size_t header_len, const uint8_t *marker,
@@ -551,7 +551,8 @@ uint64_t mahyrei_rack_drop(uint8_t *area, size_t area_len, uint64_t caller, uint
                            uint64_t place);
 
 /*
- * mahyrei_rack_lend: lends reading of a loaded place to another mission, which ends a loan before.
+ * mahyrei_rack_lend: lends reading of a loaded place to another mission; that ends an earlier
+ * loan.
  *
  * Writes  area, MAHYREI_RACK_BYTES bytes, of which the first byte of the place's entry changes;
  *         none on refusal.
@@ -583,8 +584,8 @@ uint64_t mahyrei_uplink_write(const uint8_t *frames, size_t frames_len, uint8_t 
  * Writes  frames, n * MAHYREI_UPLINK_FRAME_BYTES bytes, all of them, whatever they held, and only
  *         when the last codeblock has been judged; none on refusal.
  * Returns 0 on acceptance: mahyrei_uplink_write makes these slots of these frames and of no others.
- *         Otherwise place * 256 + number, with number 8, 28 or 29; 28 and 29 have a place. Take it
- *         apart by mahyrei_answer_number and mahyrei_answer_place.
+ *         Otherwise place * 256 + number, with number 8, 28 or 29; 28 and 29 have a place. Split it
+ *         with mahyrei_answer_number and mahyrei_answer_place.
  */
 uint64_t mahyrei_uplink_read(const uint8_t *slots, size_t slots_len, uint8_t *frames,
                              size_t frames_len);

@@ -85,19 +85,20 @@ unsigned mahyrei_header_make(const struct mahyrei_fields *fields,
 unsigned mahyrei_sizes(const uint8_t *header, size_t header_len, struct mahyrei_sizes *sizes);
 
 /*
- * Many steps of a delay line in one call: mahyrei_delay_write is put to one symbol after another,
- * in steps step, step + 1 and so on, and the first refusal ends it. A step costs what it costs
- * alone; what is saved is the way into the library, which from another language is the longer one.
+ * Many steps of a delay line in one call: mahyrei_delay_write is called for one symbol after
+ * another, in steps step, step + 1 and so on, and the first refusal ends it. A step costs what it
+ * costs alone; what is saved is the way into the library, which from another language takes longer
+ * than the step.
  *
  * Reads   header and step as mahyrei_delay_write does; symbols, symbols_len of them, a byte each.
  * Writes  area as mahyrei_delay_write does; given, given_len symbols, which is symbols_len. given
  *         may be symbols itself, and otherwise overlaps nothing. The area overlaps neither.
  * Returns 0 when every symbol was taken. Otherwise place * 256 + number, with a number from 1 to 8,
  *         or 20 or 26; the place is the symbol that was refused, counted from 0. Those before it
- *         were taken, and given holds what they gave; nothing after them has been changed. Only 26
- *         can come after the first symbol. 8 comes too for a given_len that is not symbols_len, and
- *         for step numbers that would pass 2^64 - 1; nothing was taken then. No symbols are
- *         accepted, and no question is asked.
+ *         were taken, and given holds what they gave; nothing after that has been changed. Only 26
+ *         can come after the first symbol. 8 is also returned for a given_len that is not
+ *         symbols_len, and for step numbers that would pass 2^64 - 1; then nothing was taken. Where
+ *         there are no symbols, the call accepts and asks no question.
  */
 uint64_t mahyrei_delay_write_many(const uint8_t *header, size_t header_len, uint64_t step,
                                   const uint8_t *symbols, size_t symbols_len, uint8_t *area,

@@ -25,20 +25,21 @@ static const char *const SENTENCES[] = {
         "176 bytes.",
     [MAHYREI_BAD_SPARE] = "A spare bit after the last slot is set.",
     [MAHYREI_BAD_PULSE] =
-        "A symbol cannot be told: over all its copies, no data slot has more "
-        "pulses than every other slot (sent once: exactly one pulse, in a data "
-        "slot, is wanted); the place is that symbol, markers counted, copies not.",
+        "A symbol cannot be determined: over all its copies, no data slot has more pulses than "
+        "every other slot (sent once, it needs exactly one pulse, in a data slot); the place is "
+        "that symbol, counting markers and not copies.",
     [MAHYREI_WRONG_MARKER] = "A marker symbol is not the one that was lent; the place is that "
-                             "symbol, markers counted.",
+                             "symbol, counting markers.",
     [MAHYREI_BAD_IDLE] = "A symbol that must be 0, since the channel interleaver puts nothing "
-                         "there, is not; the place is that symbol, markers counted.",
+                         "there, is not; the place is that symbol, counting markers.",
     [MAHYREI_BAD_CODE] =
         "A word was damaged, or written by version 0.1: no input of the code makes it; the place "
-        "is the word, or of a word read alone the first wrong coded bit.",
+        "is the word, or for a word read alone the first wrong coded bit.",
     [MAHYREI_BAD_TERMINATION] = "The two bits that end a word's input are not zero; the place is "
-                                "the word, or 0 of a word read alone.",
-    [MAHYREI_BAD_CHECK] = "A word's check is not that of its block; the place is the word, or 0 of "
-                          "a word read alone.",
+                                "the word, or 0 for a word read alone.",
+    [MAHYREI_BAD_CHECK] =
+        "A word's check is not that of its block; the place is the word, or 0 for "
+        "a word read alone.",
     [MAHYREI_BAD_FRAME_MARKER] =
         "The frame marker is missing where a frame should begin; the place "
         "is that frame.",
@@ -57,8 +58,9 @@ static const char *const SENTENCES[] = {
                              "not lent to it for reading.",
     [MAHYREI_BAD_SYMBOL] = "The symbol is not below the pulse order; nothing was taken.",
     [MAHYREI_BAD_BIT] = "There is no such block bit; a block has 5006, 7526 or 10046.",
-    [MAHYREI_BAD_GROUP] = "Four slots are no bit: they do not hold exactly one pulse, or it is in "
-                          "a guard slot; the place is the group.",
+    [MAHYREI_BAD_GROUP] =
+        "Four slots are not a bit: they do not hold exactly one pulse, or it is in "
+        "a guard slot; the place is the group.",
     [MAHYREI_BAD_PARITY] = "A codeblock fails the parity check; the place is the codeblock.",
 };
 

@@ -13,7 +13,7 @@ Any contiguous buffer is read where it is: bytes, bytearray, memoryview, array, 
 What counts is its bytes, whatever its items are; one that is not contiguous is copied first. A call
 gives its whole result or raises Refused. The result is bytes, made without a copy; with out=, a
 writable contiguous buffer of exactly the bytes of the result, it is written there, and the call
-returns a memoryview of it. A call that refuses writes nothing, out= included, but for the steps that
+returns a memoryview of it. A call that refuses writes nothing, out= included, except for the steps that
 delay_write_many and delay_read_many took before the refused one. The area of a delay line or of a
 rack is a writable buffer too, such as a bytearray, which a call changes in place. What is written
 must not overlap what is read: that is a ValueError.
@@ -106,7 +106,7 @@ _STACK_BYTES = 768 * 1024
 
 
 class Refused(Exception):
-    """The library refused a call, and nothing was written, but for what `given` says.
+    """The library refused a call, and nothing was written, except for what `given` says.
 
     number    that of the first question answered no, as in docs/manual/numbers.md and mahyrei(3)
     place     what fails it first, counted from 0; 0 where the number has no place

@@ -1,10 +1,10 @@
-/* A run in a capture: the slot at which its marker stands, and its slots cut out. */
+/* A run in a capture: the slot at which its marker begins, and its slots cut out. */
 #include <string.h>
 
 #include "parts.h"
 #include "reference.h"
 
-/* Whether the marker stands at slot x; given up at the first wrong slot. */
+/* Whether the marker begins at slot x; given up at the first wrong slot. */
 static int marker_at(const struct run *run, const uint8_t *marker, const uint8_t *capture,
                      size_t x) {
     for (size_t i = 0; i < run->W * run->group; i++) {

@@ -67,7 +67,7 @@ unsigned reference_ask_old_header(struct run *run, const uint8_t *header, size_t
 unsigned reference_ask_header(struct run *run, const uint8_t *header, size_t header_len,
                               const uint8_t *marker, size_t marker_len);
 
-/* Steps 9 and 10: the symbol, markers counted, at which symbol t of the words stands. */
+/* Steps 9 and 10: the symbol, markers counted, that symbol t of the words becomes. */
 static inline size_t symbol_of(const struct run *run, size_t t) {
     const size_t place = t + t % run->N * run->B * run->N;
     return place / run->S * (run->S + run->W) + run->W + place % run->S;

@@ -190,7 +190,7 @@ static void end_said(struct worker *worker) {
 static void name_run(const struct batch *batch, const struct worker *worker) {
     static const char OURS[] = "mahyrei: ";
     const char *const said =
-        worker->said_len == 0 ? "it was ended, and said nothing" : worker->said;
+        worker->said_len == 0 ? "it was ended without a message" : worker->said;
     const size_t skipped = strncmp(said, OURS, sizeof OURS - 1) == 0 ? sizeof OURS - 1 : 0;
     char about[40];
     snprintf(about, sizeof about, "line %zu of the list", worker->item->line);

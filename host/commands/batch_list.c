@@ -79,18 +79,18 @@ static const char *member_of(const struct item *item, size_t operand) {
 static bool take_object(char *line, struct item *item) {
     struct json_object object;
     if (!json_take(line, &object)) {
-        return complain_line(item->line, "no object of JSON with texts and whole numbers");
+        return complain_line(item->line, "not a JSON object of strings and whole numbers");
     }
     item->kind = kind_named(json_text(&object, "run"));
     if (item->kind == NULL) {
-        return complain_line(item->line, "\"run\" is the name of no such command");
+        return complain_line(item->line, "\"run\" names no command that a list can have");
     }
     item->captured = item->kind->capturable && json_text(&object, "capture") != NULL;
     for (size_t i = 0; i < item_count(item); i++) {
         item->operands[i] = (char *)json_text(&object, member_of(item, i));
         if (item->operands[i] == NULL) {
             char why[48];
-            snprintf(why, sizeof why, "\"%s\" has to be a text", member_of(item, i));
+            snprintf(why, sizeof why, "\"%s\" has to be a string", member_of(item, i));
             return complain_line(item->line, why);
         }
     }
@@ -119,7 +119,8 @@ static bool take_words(char *line, struct item *item) {
     item->captured = item->kind->capturable && count > 1 && strcmp(words[1], "--capture") == 0;
     char **const operands = words + (item->captured ? 2 : 1);
     if (words + count != operands + item_count(item)) {
-        return complain_line(item->line, "another number of operands, with tabs between them");
+        return complain_line(item->line,
+                             "the wrong number of operands, which have tabs between them");
     }
     for (size_t i = 0; i < item_count(item); i++) {
         item->operands[i] = operands[i];
@@ -330,7 +331,7 @@ static bool is_plain(const char *name) {
 static bool check_kinds(const struct item *item) {
     for (size_t i = 0; i < item_count(item); i++) {
         if (is_named_file(item, i) && !is_plain(item->operands[i])) {
-            return complain_line(item->line, "an operand is no file");
+            return complain_line(item->line, "an operand is not a file");
         }
     }
     return true;

@@ -159,7 +159,7 @@ static bool prepare(struct results *results, const char *name) {
     }
     if (fcntl(results->file, F_SETLK, &lock) != 0) {
         if (errno == EACCES || errno == EAGAIN) {
-            complain_text(name, "another batch is at work on it");
+            complain_text(name, "another batch is using it");
         } else {
             complain_at(name, "this file cannot be", "locked", errno);
         }

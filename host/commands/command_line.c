@@ -91,7 +91,7 @@ static void note(struct wrong *wrong, int got, const char *word) {
     } else {
         snprintf(wrong->what, sizeof wrong->what, "%s", word);
     }
-    wrong->why = got == ':' ? "its word is missing" : "no such option";
+    wrong->why = got == ':' ? "its argument is missing" : "no such option";
 }
 
 /* Options may be anywhere before `--`. The other words are moved to the front of argv, where
@@ -130,7 +130,7 @@ static const char *wrong_count(const struct line *line) {
     const bool open = command->words != NULL && strstr(command->words, "...") != NULL;
     const bool optional = command->words != NULL && strchr(command->words, '[') != NULL;
     if (line->count < wanted - optional) {
-        return "another number of operands is needed";
+        return "the wrong number of operands";
     }
     return line->count > wanted && !open ? "one operand too many" : NULL;
 }

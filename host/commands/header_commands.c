@@ -102,7 +102,7 @@ static const char *take_field(const char *word, struct mahyrei_fields *fields,
     if (strcmp(name, "rate") == 0) {
         return read_rate(equals + 1, field) ? NULL : "the rate is 1/3, 1/2 or 2/3";
     }
-    return read_number(equals + 1, field) ? NULL : "the value is no number";
+    return read_number(equals + 1, field) ? NULL : "the value is not a number";
 }
 
 /* All of them, except that symbols are sent once where nothing else is said. */

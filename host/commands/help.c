@@ -104,7 +104,7 @@ static void print_all_help(FILE *to) {
     print_options(to, NULL);
     fputs("\nThe log is the file of --log, or the one that MAHYREI_LOG names, or standard error if "
           "that "
-          "is\nno terminal.\n"
+          "is\nnot a terminal.\n"
           "Status: 0 done; 1 refused, with number, place and sentence on standard error; 2 wrong\n"
           "usage, or input or output failed. An output file is never half written: it is whole or\n"
           "as it was, and one that is there is replaced only with --force.\n"
@@ -131,12 +131,12 @@ static const struct operand_line OPERANDS[] = {
     {"SLOTS", "slots, eight to a byte, the first the highest bit"},
     {"CAPTURE", "what a recorder has: slots, eight to a byte, which begin anywhere"},
     {"SLOT", "the number of a slot of the capture, from 0 on"},
-    {"[FOLDER]", "where the frames go, a file for each run; it is made where there is none"},
+    {"[FOLDER]", "where the frames go, a file for each run; it is created if there is none"},
     {"RATE", "the code rate: 1/3, 1/2 or 2/3"},
     {"BIT", "the number of a block's bit, from 0 on"},
     {"BLOCKS", "packed blocks of 626, 941 or 1256 bytes, by rate, back to back"},
     {"WORDS", "words of 1890 bytes, back to back"},
-    {"AREA", "the file of a rack; one that is not there is the empty rack"},
+    {"AREA", "the file of a rack; a missing one is the empty rack"},
     {"CALLER", "the mission that calls, 0 to 3"},
     {"OWNER", "the mission whose place it is, 0 to 3"},
     {"PLACE", "a place of the owner's, 0 to 3"},

@@ -26,7 +26,7 @@
 
 static const char FOREWORD[] = "Words are judged by the library's mahyrei_word_read, whose answers "
                                "are proved. All else here is\n"
-                               "counted in plain C, which is tested and goes with the answer of "
+                               "counted in plain C, which is tested and agrees with the answer of "
                                "mahyrei_run_read. Nothing has been\n"
                                "corrected.\n";
 
@@ -399,7 +399,7 @@ static enum status put_report(const struct drawings *drawings, const struct scen
     const struct annotated annotated = {&drawings->dataset, scene};
     if (expected_answer(scene->slots, scene->findings) != scene->answer) {
         complain_text("inspect",
-                      "what was found does not go with the answer of mahyrei_run_read, so it is "
+                      "what was found does not agree with the answer of mahyrei_run_read, so it is "
                       "not shown");
         return FAILED;
     }

@@ -1,4 +1,4 @@
-/* write --sigmf: metadata beside the slots, which is written after them. */
+/* write --sigmf: metadata that goes beside the slots, and is written after them. */
 #ifndef COMMANDS_METADATA_OUTPUT_H
 #define COMMANDS_METADATA_OUTPUT_H
 

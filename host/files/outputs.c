@@ -17,7 +17,7 @@ void output_spare(struct output *output, struct file_id file) {
     }
 }
 
-static const char THERE[] = "this file is there already; --force replaces it";
+static const char THERE[] = "this file already exists; --force replaces it";
 
 /* ---- open files, devices, pipes */
 
@@ -55,7 +55,7 @@ static bool open_device(const struct output *output, int *file) {
         return false;
     }
     if (S_ISREG(status.st_mode)) {
-        complain_text(output->name, "this was no file when it was looked at, and is one now");
+        complain_text(output->name, "this was not a file when it was checked, and is one now");
         return false;
     }
     return spares(output, *file, output->name);
@@ -242,7 +242,7 @@ static bool says_yes(const char *name) {
     if (isatty(STDIN_FILENO) == 0 || isatty(STDERR_FILENO) == 0) {
         return false;
     }
-    question(name, "this file is there already; replace it? [y/N] ");
+    question(name, "this file already exists; replace it? [y/N] ");
     const bool yes = take_yes();
     progress_start();
     return yes;

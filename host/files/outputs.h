@@ -13,7 +13,7 @@
 
 struct output {
     const char *name;
-    bool force;           /* replaces a file that is there, and writes bytes to a terminal */
+    bool force;           /* replaces an existing file, and writes bytes to a terminal */
     bool ask;             /* where the file is there, somebody at a terminal may be asked */
     struct file_id own;   /* a file that may be replaced in any case */
     bool same_will_do;    /* a file that is there and has these very bytes is the output */

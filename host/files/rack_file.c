@@ -146,7 +146,7 @@ static bool is_ours(const struct rack_file *rack) {
         return false;
     }
     if (geteuid() != 0 && geteuid() != status.st_uid) {
-        complain_text(rack->place.name, "this rack is another user's; who replaces it would lock "
+        complain_text(rack->place.name, "this rack is another user's; replacing it would lock "
                                         "others out, so only its owner can change it");
         return false;
     }

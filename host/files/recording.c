@@ -17,7 +17,7 @@ static bool prepare_lost(struct recording *recording) {
     }
     fputs("mahyrei: ", recording->lost.to);
     print_escaped(recording->lost.to, recording->name, false);
-    fputs(": a part of it is gone: it became shorter, or could not be read from the disk\n",
+    fputs(": part of it is gone: it became shorter, or could not be read from the disk\n",
           recording->lost.to);
     return text_end(&recording->lost);
 }
@@ -90,8 +90,8 @@ bool recording_unchanged(const struct recording *recording) {
     if (now.st_size != recording->before.st_size ||
         !same_time(&now.st_mtim, &recording->before.st_mtim)) {
         complain_text(recording->name,
-                      "it was changed while it was looked at. Each run that was found sound was "
-                      "copied first and judged so; the counts are of no one moment");
+                      "it changed while it was read. Each run that was found sound was "
+                      "judged on a copy; the counts are of no single moment");
         return false;
     }
     return true;

@@ -20,7 +20,7 @@ static const char *plural(size_t count) {
 
 /* ---- files of another form */
 
-/* Hexadecimal text in a file, where bytes are wanted. */
+/* Hexadecimal text in a file, where bytes are needed. */
 static void say_if_text(const struct bytes *bytes, const char *operand) {
     static const char FORM[] = "0123456789abcdefABCDEF :xX\t\r\n", MARK[] = "\xEF\xBB\xBF";
     const size_t mark = sizeof MARK - 1; /* of UTF-8, with which some editors begin */
@@ -31,8 +31,8 @@ static void say_if_text(const struct bytes *bytes, const char *operand) {
     }
     if (like > 3 && like == bytes->len && !is_text(operand)) {
         remark(shown(operand),
-               "this holds hexadecimal text, and bytes are wanted; give the text "
-               "itself, as by \"$(cat FILE)\", or make bytes of it, as xxd -r -p does");
+               "this holds hexadecimal text, but bytes are needed; give the text "
+               "itself, as with \"$(cat FILE)\", or turn it into bytes, as xxd -r -p does");
     }
 }
 
@@ -166,7 +166,7 @@ static void say_no_marker(const struct sheet *sheet, const struct lent *run,
     }
     if (sheet->fields.copies > 1) {
         remark(shown(operands->header),
-               "symbols are sent %" PRIu64 " times, and the search takes them to be sent once",
+               "symbols are sent %" PRIu64 " times, and the search assumes that they are sent once",
                sheet->fields.copies);
     }
 }

@@ -80,7 +80,7 @@ const char *scan_reason(unsigned number) {
     case MAHYREI_BAD_LENGTH:
         return "the recording ends within the run";
     case MAHYREI_BAD_PULSE:
-        return "a symbol cannot be told";
+        return "a symbol cannot be determined";
     case MAHYREI_WRONG_MARKER:
         return "a later marker is not the one given";
     case MAHYREI_BAD_IDLE:

@@ -79,13 +79,13 @@ static const char *take_members(const struct json_wanted wanted[WANTED], struct 
                "it";
     }
     if (!take_digits(wanted[IS_HEADER].is.text, HEADER_LIMIT, &sigmf->header)) {
-        return "mahyrei:header is no header in hexadecimal digits";
+        return "mahyrei:header is not a header in hexadecimal digits";
     }
     if (!take_digits(wanted[IS_MARKER].is.text, MARKER_LIMIT, &sigmf->marker)) {
-        return "mahyrei:marker is no marker in hexadecimal digits";
+        return "mahyrei:marker is not a marker in hexadecimal digits";
     }
     if (wanted[IS_SLOT_RATE].found && !wanted[IS_SLOT_RATE].is.whole) {
-        return "mahyrei:slot_rate is no whole number";
+        return "mahyrei:slot_rate is not a whole number";
     }
     sigmf->slot_rate = wanted[IS_SLOT_RATE].is.number;
     if (wanted[IS_DIGEST].found) {
@@ -104,7 +104,7 @@ static const char *take_document(struct bytes *document, struct sigmf *sigmf) {
         [IS_HEADER] = {.name = "mahyrei:header"},   [IS_MARKER] = {.name = "mahyrei:marker"},
         [IS_PACKING] = {.name = "mahyrei:packing"}, [IS_SLOT_RATE] = {.name = "mahyrei:slot_rate"}};
     if (document->len == META_LIMIT) {
-        return "larger than 64 MiB, and so no metadata of ours";
+        return "larger than 64 MiB, and so not metadata of ours";
     }
     char *const text = realloc(document->at, document->len + 1);
     if (text == NULL) {
@@ -113,7 +113,7 @@ static const char *take_document(struct bytes *document, struct sigmf *sigmf) {
     document->at = (uint8_t *)text;
     text[document->len] = '\0';
     if (strlen(text) != document->len || !json_take_part(text, "global", wanted, WANTED)) {
-        return "this is no JSON object with an object `global` in it, or has a name twice";
+        return "this is not a JSON object with an object `global` in it, or has a name twice";
     }
     return take_members(wanted, sigmf);
 }

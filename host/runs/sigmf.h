@@ -55,7 +55,7 @@ struct sigmf_annotation {
     uint64_t answer; /* the library's, or for a symbol that is wrong its question's number */
 };
 
-/* The whole but for annotations, which come between, in the order of their slots. */
+/* The whole except for annotations, which come between, in the order of their slots. */
 void sigmf_print_begin(FILE *to, const struct sigmf_dataset *dataset);
 void sigmf_print_annotation(FILE *to, const struct sigmf_annotation *annotation, bool first);
 void sigmf_print_end(FILE *to);

@@ -77,7 +77,7 @@ test_batch() {
     batched 2 2 2 0 2 0 --jobs 1 list
     alike 'an output that was changed' kept1 s1
     alike 'another that was changed' kept3 s3
-    has 'why it is left alone' 's1: this file is there already; --force replaces it' \
+    has 'why it is left alone' 's1: this file already exists; --force replaces it' \
         "$(<list.results)"
     batched 0 2 4 0 0 0 --force list
     made_all
@@ -107,7 +107,7 @@ test_batch_goes_on() {
     printf 'short' >f2
     rm f4
     mkdir s6 # found before anything is begun
-    unharmed 2 'line 6 of the list: an operand is no file' batch list
+    unharmed 2 'line 6 of the list: an operand is not a file' batch list
     same 'nothing was begun' no "$([ -e s1 ] || [ -e list.results ] || echo no)"
     rmdir s6
     batched 2 4 0 1 1 0 list
@@ -215,9 +215,9 @@ test_batch_wrong_lists() {
     done
     for wrong in - /dev/stdin directory /dev/null; do
         printf 'write\t%s\t%s\t%s\ts1\n' "$header" "$marker" "$wrong" >wrong
-        unharmed 2 'line 1 of the list: an operand is no file' batch wrong
+        unharmed 2 'line 1 of the list: an operand is not a file' batch wrong
         printf 'write\t%s\t%s\tf1\t%s\n' "$header" "$marker" "$wrong" >wrong
-        unharmed 2 'line 1 of the list: an operand is no file' batch wrong
+        unharmed 2 'line 1 of the list: an operand is not a file' batch wrong
     done
     printf 'write\t%s\t%s\tf1\tout\0\n' "$header" "$marker" >wrong
     unharmed 2 'a NUL in a line' batch wrong
@@ -296,7 +296,7 @@ time.sleep(60)' &
     local holder=$!
     until [ -e held ]; do sleep 0.05; done
     run 2 batch list
-    has 'two lists at once' 'list.results: another batch is at work on it' "$err"
+    has 'two lists at once' 'list.results: another batch is using it' "$err"
     kill "$holder"
     wait "$holder" 2>/dev/null
 }

@@ -79,7 +79,7 @@ test_copies_captured() {
 slot=13 answer=0 place=0 status=0"
     says "capture: the run has 454200 slots, and from slot 100000 on the capture has $((
         8 * $(stat -c %s capture) - 100000))" cut -f "$h" capture 100000 out
-    says "$h: symbols are sent 2 times, and the search takes them to be sent once" \
+    says "$h: symbols are sent 2 times, and the search assumes that they are sent once" \
         find "$h" "$marker" capture
     run 0 -q find "$h" "$marker" slots # whatever the factor is
     same 'a marker whose symbols are sent once' 0 "$(out)"

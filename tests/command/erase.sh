@@ -85,7 +85,7 @@ test_run_json() {
     damage lose 7000
     run 1 -q verify --json "$header" "$marker" damaged
     has 'a run that was refused' "\"frames_bytes\":null,\"frames_sha256\":null," "$(out)"
-    has 'why' "\"number\":10,\"place\":7000,\"sentence\":\"A symbol cannot be told" "$(out)"
+    has 'why' "\"number\":10,\"place\":7000,\"sentence\":\"A symbol cannot be determined" "$(out)"
     run 1 -q verify --json "$header" "$marker" frames
     has 'a sentence for this call' \
         '"number":8,"place":0,"sentence":"The marker or the slots are longer or shorter than the header says."}' "$(out)"

@@ -197,7 +197,7 @@ test_fades_pairs() {
             fades --try "--pairs=$pairs" "$three" list
     done
     unharmed 2 '--pairs: this goes with --try' fades --pairs 1:1 "$three" list
-    unharmed 2 'its word is missing' fades "$three" list --pairs
+    unharmed 2 'its argument is missing' fades "$three" list --pairs
     unharmed 2 'try: this command has no such option' write --try "$header" "$marker" frames out
     run 0 -q fades --try --pairs 18446744073709551615:1,1:1,1:1 "$three" list
     has 'numbers of any size' '18446744073709551615     1  no 4' "$(out)"

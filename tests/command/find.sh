@@ -298,9 +298,9 @@ test_find_outputs() {
     begin_capture
     echo old >out
     run 2 --no-clobber cut "$header" capture 13 out
-    has 'a file that is not to be replaced' 'out: this file is there already' "$err"
+    has 'a file that is not to be replaced' 'out: this file already exists' "$err"
     run 2 -n read --capture "$header" "$marker" capture out
-    has 'a file that is not to be replaced' 'out: this file is there already' "$err"
+    has 'a file that is not to be replaced' 'out: this file already exists' "$err"
     same 'that file' old "$(<out)"
     chmod 604 out
     run 0 cut -f "$header" capture 13 out

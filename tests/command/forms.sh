@@ -150,7 +150,7 @@ test_forms_usage() {
     same 'no output then' no "$([ -e out ] && echo yes || echo no)"
     echo there >out
     run 2 -n widen old out
-    has 'a file that is not to be replaced' 'out: this file is there already' "$err"
+    has 'a file that is not to be replaced' 'out: this file already exists' "$err"
     same 'that file' there "$(<out)"
     local forged=$'old\n2026-11-15T16:50:01Z widen answer=0 place=0 status=0'
     cp old "$forged"

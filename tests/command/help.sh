@@ -81,9 +81,9 @@ test_mistyped() {
 # A header or a marker in digits, in a file.
 test_text_in_a_file() {
     begin
-    local text='text: this holds hexadecimal text, and bytes are wanted; give the text itself, as by '
+    local text='text: this holds hexadecimal text, but bytes are needed; give the text itself, as with '
     # shellcheck disable=SC2016  # it is said so
-    text+='"$(cat FILE)", or make bytes of it, as xxd -r -p does'
+    text+='"$(cat FILE)", or turn it into bytes, as xxd -r -p does'
     echo "$header" >text
     says "$text" \
         write text "$marker" frames out

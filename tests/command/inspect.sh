@@ -119,7 +119,7 @@ once_inspect_at_odds() {
         damages $damage
         run 2 inspect "$header" "$marker" damaged --svg picture.svg
         same "a report after $damage" '' "$(out)"
-        has 'what is said then' 'what was found does not go with the answer of mahyrei_run_read' "$err"
+        has 'what is said then' 'what was found does not agree with the answer of mahyrei_run_read' "$err"
         same 'a picture then' no "$([ -e picture.svg ] || echo no)"
     done
     mahyrei=$top/bin/mahyrei
@@ -334,7 +334,7 @@ test_inspect_page() {
     has 'a page over the slots' 'this is what is looked at' "$err"
     alike 'the slots then' kept damaged
     run 2 inspect "$header" "$marker" damaged --html page.html
-    has 'a page that is there' 'page.html: this file is there already' "$err"
+    has 'a page that is there' 'page.html: this file already exists' "$err"
     run 2 inspect "$header" "$marker" damaged --html -
     has 'a page on standard output' '-: the picture goes to a file' "$err"
     run 2 show "$header" slots 0 1 --html page.html

@@ -293,7 +293,7 @@ test_replacing() {
         for word in --no-clobber -n --quiet; do
             run 2 "$word" write "$header" "$marker" frames "$name"
             has 'a file that is not to be replaced' \
-                "$name: this file is there already; --force replaces it" "$err"
+                "$name: this file already exists; --force replaces it" "$err"
             same 'that file' old "$(<out)"
         done
     done
@@ -345,7 +345,7 @@ test_nothing_is_lost() {
     same 'the file that is there' old "$(<out)"
     every 0 --force
     run 2 uplink-write commands.slots commands
-    has 'swapped operands' 'commands: this file is there already; --force replaces it' "$err"
+    has 'swapped operands' 'commands: this file already exists; --force replaces it' "$err"
     same 'the commands' command1command2 "$(<commands)"
 }
 
@@ -362,7 +362,7 @@ once_asked() {
         script -qec "$mahyrei --log log read $header $marker slots out; echo status \$?" /dev/null \
             <<<"${answer/yellow-not/ y}" >"$said/out"
         has "what is asked before the answer '$answer'" \
-            'mahyrei: out: this file is there already; replace it? [y/N] ' "$(out)"
+            'mahyrei: out: this file already exists; replace it? [y/N] ' "$(out)"
         has "the status after '$answer'" 'status 2' "$(out)"
         same "the file after '$answer'" old "$(<out)"
     done
@@ -382,7 +382,7 @@ once_asked() {
         script -qec "timeout 20 $mahyrei --log log uplink-write $name out; echo status \$?" /dev/null \
             <<<y >"$said/out"
         has "a run that reads $name asks nothing" \
-            'mahyrei: out: this file is there already; --force replaces it' "$(out)"
+            'mahyrei: out: this file already exists; --force replaces it' "$(out)"
         has "the status where $name is read" 'status 2' "$(out)"
         same "the file where $name is read" old "$(<out)"
     done
@@ -436,7 +436,7 @@ once_replacing_last_moment() {
         env "LD_PRELOAD=$faults" FAULT="$fault" SWAP=rename:precious:out "$mahyrei" -q write \
             "$header" "$marker" frames out 2>"$said/err"
         same "status where a file appears at last, $fault" 2 $?
-        has 'what is said' 'out: this file is there already; --force replaces it' "$(<"$said/err")"
+        has 'what is said' 'out: this file already exists; --force replaces it' "$(<"$said/err")"
         alike "the file that appeared, $fault" marker out
         same 'what is left beside it' '' "$(find . -name '.mahyrei*')"
         rm out
@@ -477,7 +477,7 @@ once_output_becomes_file() {
     env "LD_PRELOAD=$faults" SWAP=open:next:pipe "$mahyrei" -q write "$header" "$marker" frames pipe \
         2>"$said/err"
     same 'status where a pipe became a file' 2 $?
-    has 'what is said' 'pipe: this was no file when it was looked at, and is one now' \
+    has 'what is said' 'pipe: this was not a file when it was checked, and is one now' \
         "$(<"$said/err")"
     alike 'the file' frames precious
 }

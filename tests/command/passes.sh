@@ -181,7 +181,7 @@ test_pass_outputs() {
     begin_pass
     echo old >out
     run 2 --no-clobber pass-write 1/2 blocks out
-    has 'a file that is not to be replaced' 'out: this file is there already' "$err"
+    has 'a file that is not to be replaced' 'out: this file already exists' "$err"
     same 'that file' old "$(<out)"
     chmod 604 out
     run 0 pass-write -f 1/2 blocks out

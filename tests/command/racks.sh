@@ -222,7 +222,7 @@ test_rack_outputs() {
     begin_rack
     echo old >header
     run 2 rack-read rack 0 0 1 header
-    has 'a file that is not to be replaced' 'header: this file is there already' "$err"
+    has 'a file that is not to be replaced' 'header: this file already exists' "$err"
     same 'that file' old "$(<header)"
     chmod 604 header
     run 0 rack-read -f rack 0 0 1 given

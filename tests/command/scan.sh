@@ -43,7 +43,7 @@ answer=0 place=8596 status=0"
     refused 5 0 find --from 3 "$(header 1 4 2 189 500 5 3)" "$marker" recording
     refused 8 0 find --from 3 "$header" 05 recording
     unharmed 2 'x: not a number, or too large' find --from x "$header" "$marker" recording
-    unharmed 2 'its word is missing' find "$header" "$marker" recording --from
+    unharmed 2 'its argument is missing' find "$header" "$marker" recording --from
 }
 
 # Starts within a byte of each other, and markers that end with the capture: from every slot on, what
@@ -128,7 +128,7 @@ test_scan() {
   runs sound                               3
   starts refused                           8
     by number 8                            3  the recording ends within the run
-    by number 10                           5  a symbol cannot be told
+    by number 10                           5  a symbol cannot be determined
   slots not in any run               547,268
   longest gap                        227,191  from slot 387113 to slot 614303
 
@@ -299,7 +299,7 @@ test_scan_again() {
     echo other >to/run-614304.frames
     rm to/run-841421.frames
     run 2 -q scan "$header" "$marker" recording to
-    has 'frames over a file' 'to/run-614304.frames: this file is there already; --force replaces it' "$err"
+    has 'frames over a file' 'to/run-614304.frames: this file already exists; --force replaces it' "$err"
     same 'that file' other "$(<to/run-614304.frames)"
     same 'no summary then' '' "$(out)"
     run 0 -qf scan "$header" "$marker" recording to
@@ -422,13 +422,13 @@ once_scan_of_a_file_that_changes() {
     has 'its summary' 'recording: 0 runs sound, 4,096 starts refused' "$(out)"
     meanwhile 'truncate -s 5000 recording'
     same 'status where the recording becomes shorter' 2 "$status"
-    has 'what is said then' 'mahyrei: recording: a part of it is gone: it became shorter' \
+    has 'what is said then' 'mahyrei: recording: part of it is gone: it became shorter' \
         "$(tail -n 1 "$said/err")"
     same 'no summary then' '' "$(out)"
     cp start recording
     meanwhile 'printf x >>recording'
     same 'status where the recording changes' 2 "$status"
-    has 'what is said then' 'mahyrei: recording: it was changed while it was looked at.' "$(<"$said/err")"
+    has 'what is said then' 'mahyrei: recording: it changed while it was read.' "$(<"$said/err")"
     same 'no summary then' '' "$(out)"
 }
 

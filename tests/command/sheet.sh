@@ -128,7 +128,7 @@ test_header() {
         same "the header of $copies copies" "$(header 1 6 84 120 223 16 2 "$copies")" "$(out)"
     done
     run 2 header "${fields[@]}" -n -o file
-    has 'a header that is there' 'file: this file is there already' "$err"
+    has 'a header that is there' 'file: this file already exists' "$err"
     for wrong in 'm=9 3 m' 'N=0 4 N' 'B=257 4 B' 'F=2049 6 F' 'W=33 7 W' 'A=65 6 A' \
         'A=18446744073709551615 6 A' 'copies=0 20 copies' 'copies=5 20 copies' \
         'copies=33 20 copies' 'copies=64 20 copies' 'copies=65 20 copies' \
@@ -157,7 +157,7 @@ test_header() {
     has 'no field at all' '84: no such field' "$err"
     for wrong in m= m=x m=-1 m=+6 m=0x6 'm= 6' m=6.0 m=18446744073709551616 m=99999999999999999999; do
         run 2 header "${fields[@]/#m=*/$wrong}"
-        has 'a value that is no number' "$wrong: the value is no number" "$err"
+        has 'a value that is not a number' "$wrong: the value is not a number" "$err"
     done
     run 2 header "${fields[@]/#rate=*/rate=1}"
     has 'no such rate' 'the rate is 1/3, 1/2 or 2/3' "$err"

@@ -80,7 +80,7 @@ test_write_sigmf() {
     cp x.sigmf-meta before
     rm x.sigmf-data
     run 2 write --sigmf "$header" "$marker" frames x.sigmf-data
-    has 'metadata that is there' 'x.sigmf-meta: this file is there already' "$err"
+    has 'metadata that is there' 'x.sigmf-meta: this file already exists' "$err"
     alike 'metadata that was there' before x.sigmf-meta
     same 'no slots' '' "$(ls x.sigmf-data 2>/dev/null)"
     run 0 -q write --force --sigmf "$header" "$marker" frames x.sigmf-data
@@ -168,7 +168,7 @@ test_hostile_sigmf() {
     run 0 -q write --sigmf --slot-rate 9 "$header" "$marker" frames run.slots
     mv run.slots.sigmf-meta good
     # shellcheck disable=SC2016  # it is said so
-    local no_document='this is no JSON object with an object `global` in it, or has a name twice'
+    local no_document='this is not a JSON object with an object `global` in it, or has a name twice'
     local text
     for text in '' '{' '[]' '{}' 'null' '{"global":[]}' '{"global":{}}x' '{"global":{},}' \
         '{"global":{},"global":{}}' '{"captures":[]}' '{"global":{"a":01}}' '{"global":{"a":1.}}' \
@@ -204,17 +204,17 @@ test_hostile_sigmf() {
     refused_meta 'mahyrei:packing is not msb-first'
     for text in '"'"$header"'0"' '"'"$header"'00"' '"hex:50"' 50157 null '["50"]'; do
         changed "\"mahyrei:header\": \"[^\"]*\"" "\"mahyrei:header\": $text"
-        refused_meta 'mahyrei:header is no header in hexadecimal digits'
+        refused_meta 'mahyrei:header is not a header in hexadecimal digits'
     done
     changed '"mahyrei:header"' '"mahyrei:headers"'
-    refused_meta 'mahyrei:header is no header in hexadecimal digits'
+    refused_meta 'mahyrei:header is not a header in hexadecimal digits'
     for text in '"0"' "\"$(printf '%066d' 0)\"" 5 '{}'; do
         changed "\"mahyrei:marker\": \"[^\"]*\"" "\"mahyrei:marker\": $text"
-        refused_meta 'mahyrei:marker is no marker in hexadecimal digits'
+        refused_meta 'mahyrei:marker is not a marker in hexadecimal digits'
     done
     for text in '"9"' 9.5 -9 18446744073709551616 1e9 true; do
         changed '"mahyrei:slot_rate": 9' "\"mahyrei:slot_rate\": $text"
-        refused_meta 'mahyrei:slot_rate is no whole number'
+        refused_meta 'mahyrei:slot_rate is not a whole number'
     done
     for text in '""' '"00"' 5 "\"$(printf '%0128d' 0 | tr 0 g)\""; do
         changed "\"core:sha512\": \"[^\"]*\"" "\"core:sha512\": $text"
@@ -268,7 +268,7 @@ test_scan_annotations() {
     run 2 scan --force "$header" "$marker" recording --annotations recording
     has 'the recording' 'no annotations go there' "$err"
     run 2 scan "$header" "$marker" recording --annotations again
-    has 'annotations that are there' 'again: this file is there already' "$err"
+    has 'annotations that are there' 'again: this file already exists' "$err"
     # Nothing to find is no reason to write.
     unharmed 1 'refused, number 8' scan "$header" 05 recording --annotations out
     run 0 -q scan "$header" "$marker" - --annotations out <capture

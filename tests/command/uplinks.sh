@@ -185,7 +185,7 @@ test_uplink_outputs() {
     begin_uplink
     echo old >out
     run 2 --no-clobber uplink-write commands out
-    has 'a file that is not to be replaced' 'out: this file is there already' "$err"
+    has 'a file that is not to be replaced' 'out: this file already exists' "$err"
     same 'that file' old "$(<out)"
     chmod 604 out
     run 0 uplink-write -f commands out

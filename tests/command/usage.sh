@@ -33,7 +33,7 @@ test_usage() {
     unharmed 2 'long: this command has no such option' -l write "$header" "$marker" frames out
     run 0 write -qnf "$header" "$marker" frames out
     same 'what several letters make quiet' '' "$err"
-    unharmed 2 'its word is missing' write "$header" "$marker" frames out --log
+    unharmed 2 'its argument is missing' write "$header" "$marker" frames out --log
     unharmed 2 'no such option' --help=yes write "$header" "$marker" frames out
     unharmed 2 'only one input can be -' write - - frames out
     unharmed 2 'only one input can be -' write - "$marker" - out
@@ -64,8 +64,8 @@ test_options() {
     run 0 sheet "$header" --json
     has 'an option after the operands, in any case' '{"header":' "$(out)"
     prefix=()
-    unharmed 2 '--output: its word is missing' header "${fields[@]}" --output
-    unharmed 2 '-o: its word is missing' header "${fields[@]}" -o
+    unharmed 2 '--output: its argument is missing' header "${fields[@]}" --output
+    unharmed 2 '-o: its argument is missing' header "${fields[@]}" -o
     unharmed 2 '--l: no such option' sheet --l "$header" # log, long
     # A mistake says two lines, whatever it is.
     for words in --loud -x --log 'write --log' 'explain' 'explain 1 2' 'explain 1 --log x' 'none'; do

@@ -8,8 +8,8 @@ ghost use Rattle.accumulator.specs.Accumulator as step;
 ghost use Rattle.accumulator.specs.Inner.{bitOf, accumulateFrom, differentiateFrom, SoFar};
 use bits::packing;
 
-// The eight outputs for the inputs in `b`, where `last` is the output before them: the sums of the bits up to each, by doubling,
-// and all flipped where that output is 1.
+// The eight outputs for the inputs in `b`, where `last` is the output before them: the running sums of the bits, by doubling, all flipped if that
+// output is 1.
 fn summed(b: u8, last: u8) -> u8
     requires { ⌜ last < 2 ⌝ }
     ensures { λ r. ⌜ r ≡ val (accumulateFrom last (bitOf b)) 8 ⌝ }

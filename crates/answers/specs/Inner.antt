@@ -10,7 +10,7 @@ abbrev pub movedTo : ℕ → Answer → Answer
 movedTo piece Done = Done
 movedTo piece (No number place) = No number piece
 
--- an answer that C may get: its code fits 64 bits, and its number is in the list, which has no 17
+-- an answer that C may get: its code fits in 64 bits, and its number is in the list, which has no 17
 pub record Fits (a : Answer) : Type 0 where
   pub number : numberOf a < 256
   pub place : placeOf a < 2 ^ 56

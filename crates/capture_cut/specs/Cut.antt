@@ -37,7 +37,7 @@ cutAfter header capture slot old = after (cutSays header (length capture) slot (
 
 -- A sound run in a capture is cut out of it as it was written, and read; where each symbol is sent once, it is found at its first slot.
 
--- the run of these frames begins at slot s: all its slots are in the capture, as they were written; what else is there is free
+-- the run of these frames begins at slot s: all its slots are in the capture, as they were written; whatever else is there is free
 pub record RunAt (header marker frames b : List ℕ) (s : ℕ) : Type 0 where
   pub inside : s + quantities.slotCount (fieldsOf header) ≤ 8 * length b
   pub slot : (i : ℕ) → i < quantities.slotCount (fieldsOf header) → bitAt b (s + i) ≡ bitAt (runOf header marker frames) i

@@ -34,7 +34,7 @@ fn take(b: &[u8], s: usize, count: usize, slots: &mut [u8])
     bits::change::clear_spare(slots, count);
 }
 
-// Question 8: no sum with the slot is made, since that can be any number.
+// Question 8. Nothing is added to the slot, which can be any number.
 fn cut_lengths_right(f: Fields, capture_length: usize, s: usize, slots_length: usize) -> bool
     requires { ⌜ Valid f × (f .copies ≤ 32) ⌝ }
     ensures { λ r. ⌜ r ≡ cutLengthsRight f «capture_length» s «slots_length» ⌝ }

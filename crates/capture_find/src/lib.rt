@@ -1,4 +1,4 @@
-// Finding a start in a capture: the earliest slot, from a given one on, at which the whole marker stands, each symbol with its guard slots empty.
+// Finding a start in a capture: the earliest slot, from a given one on, at which the whole marker begins, each symbol with its guard slots empty.
 use answers::Answer;
 use header::Fields;
 use plan::Plan;
@@ -13,7 +13,7 @@ ghost use Rattle.capture_search.specs.Search.{findLengthsRight, firstFitFrom, c
 // The longest capture, in bytes: 2 to the power 53.
 pub const MOST: usize = 9007199254740992;
 
-// What a search comes to: the slot counts where the answer is done.
+// The result of a search: the slot is valid where the answer is done.
 pub struct Start {
     pub answer: Answer,
     pub slot: usize,
@@ -29,7 +29,7 @@ fn find_lengths_right(f: Fields, marker_length: usize, capture_length: usize) ->
     capture_length <= MOST
 }
 
-// Question 19, and the slot. A slot from which no start is left is never added to.
+// Question 19, and the slot. Nothing is added to a slot that leaves no start.
 fn seek(p: Plan, b: &[u8], from: usize) -> Start
     requires { ⌜ Fine p × (length (now b) ≤ captureMost) ⌝ }
     ensures { λ r. ⌜ r .answer ≡ slotSays p (now (b .entry)) from ⌝ }
@@ -62,7 +62,7 @@ fn seek(p: Plan, b: &[u8], from: usize) -> Start
     }
 }
 
-// Questions 1 to 7, 20, 8 and 19; where all are answered yes, the earliest slot from `from` on at which the marker stands.
+// Questions 1 to 7, 20, 8 and 19; where all are answered yes, the earliest slot from `from` on at which the marker begins.
 pub fn find(header: &[u8], marker: &[u8], capture: &[u8], from: u64) -> Start
     ensures { λ r. ⌜ r .answer ≡ findFromSays (now (header .entry)) (now (marker .entry)) (now (capture .entry)) from ⌝ }
     ensures { λ r. ⌜ (r .answer ≡ Done → r .slot ≡ firstFitFrom (planIn (now (header .entry)) (now (marker .entry))) (now (capture .entry)) from) ⌝ }

@@ -1,4 +1,4 @@
--- What the functions of the search ask and say.
+-- What the functions of the search require and ensure.
 use mathlib.Core.Path.{_≡_}
 use mathlib.Core.List.{List}
 use Prim.Native.Nat.{ℕ, _+_, _*_, _≤_, _<_}

@@ -17,7 +17,7 @@ fn pulse_of(p: Plan, w: usize) -> usize
     w * group + p.marks[w] as usize
 }
 
-// The slots of all marker symbols, out of empty ones.
+// Writes the slots of all marker symbols into empty ones.
 fn put_marker(p: Plan, slots: &mut [u8])
     requires { ⌜ Room p (now slots) ⌝ }
     ensures { λ _. ⌜ ((i : ℕ) → i < markerSlots p → bitAt (now (slots .exit)) i ≡ markerSlot p i) ⌝ }
@@ -30,8 +30,8 @@ fn put_marker(p: Plan, slots: &mut [u8])
     }
 }
 
-// The earliest slot of a capture, from `from` to below `end`, at which the n slots of the marker stand, or `end`. There is room for 32 symbols of 320
-// slots, and eight bytes after them, so that 57 slots at least are seen in one look.
+// The earliest slot of a capture, from `from` to below `end`, at which the n slots of the marker begin, or `end`. The buffer holds 32 symbols of 320
+// slots and eight more bytes, so that one look sees at least 57 slots.
 pub fn first_fit(p: Plan, b: &[u8], n: usize, from: usize, end: usize) -> usize
     requires { ⌜ Seeks p (now b) n from end ⌝ }
     ensures { λ r. ⌜ r ≡ firstFitFrom p (now (b .entry)) from ⌝ }

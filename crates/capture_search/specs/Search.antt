@@ -1,4 +1,4 @@
--- Finding a start in a capture: the earliest slot, from a given one on, at which the whole marker stands, and question 19. Every bit of a capture b is a
+-- Finding a start in a capture: the earliest slot, from a given one on, at which the whole marker begins, and question 19. Every bit of a capture b is a
 -- slot.
 use mathlib.Core.Bool.{Bool}
 use mathlib.Core.List.{List}
@@ -27,11 +27,11 @@ markerSlots p = p .layout .markers * p .group
 abbrev pub markerSlot : Plan → ℕ → ℕ
 markerSlot p = slotBit (p .group) (p .layout .markers) (λ w. getD (p .marks) w 0)
 
--- the earliest slot, from a given one on, at which all of them stand; where there is none, a number too high for a start
+-- the earliest slot, from a given one on, at which they begin, all of them; where there is none, a number too high for a start
 abbrev pub firstFitFrom : Plan → List ℕ → ℕ → ℕ
 firstFitFrom p b from = earliest (markerSlot p) (markerSlots p) b from
 
--- and of all slots
+-- and over the whole capture
 abbrev pub firstFit : Plan → List ℕ → ℕ
 firstFit p b = firstFitFrom p b 0
 
@@ -45,7 +45,7 @@ captureMost = 2 ^ 53
 unfoldable pub findLengthsRight : Fields → ℕ → ℕ → Bool
 findLengthsRight f markerLength captureLength = both (eqb markerLength (markerBytes f)) (leb captureLength captureMost)
 
--- 19: does the marker stand at any slot from `from` on?
+-- 19: does the marker begin at any slot from `from` on?
 unfoldable pub slotSays : Plan → List ℕ → ℕ → Answer
 slotSays p b from = ask (ltb (firstFitFrom p b from) (starts (markerSlots p) b)) 19 0
 
@@ -56,7 +56,7 @@ findFromSays header marker b from =
     (then (ask (findLengthsRight (fieldsOf header) (length marker) (length b)) 8 0)
     (slotSays (planIn header marker) b from))
 
--- to C an acceptance goes with its slot as the place
+-- C gets an acceptance with its slot as the place
 abbrev pub findFromCode : List ℕ → List ℕ → List ℕ → ℕ → ℕ
 findFromCode header marker b from = codeWith (findFromSays header marker b from) (firstFitFrom (planIn header marker) b from)
 
@@ -69,7 +69,7 @@ findCode header marker b = findFromCode header marker b 0
 
 -- What the search's answer says of the capture, in terms of the header, the lent marker symbols and the capture's bits alone.
 
--- the whole marker stands at slot x: its W symbols of M + M/4 slots lie in the capture, and a slot has a pulse if it is the symbol, and none if not
+-- the whole marker begins at slot x: its W symbols of M + M/4 slots lie in the capture, and a slot has a pulse if it is the symbol, and none if not
 pub record MarkerAt (header marker b : List ℕ) (x : ℕ) : Type 0 where
   pub inside : x + fieldsOf header .markers * slotsPerSymbol (fieldsOf header) ≤ 8 * length b
   pub slot : (w r : ℕ) → w < fieldsOf header .markers → r < slotsPerSymbol (fieldsOf header)

@@ -21,7 +21,7 @@ pub struct Layout {
     pub words: usize,
     // W, the marker symbols before each line
     pub markers: usize,
-    // R, the lines of S places that those of step 9 make
+    // R, the lines of S that the places of step 9 make
     pub lines: usize,
 }
 

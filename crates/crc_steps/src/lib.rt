@@ -8,7 +8,7 @@ ghost use Rattle.crc.specs.Inner.{advances};
 ghost use Rattle.crc_steps.specs.Inner.{change, Tables};
 use bits::packing;
 
-// The register after one bit more.
+// The register after one more bit.
 pub fn advance_bit(r: u32, b: u32) -> u32
     requires { ⌜ b < 2 ⌝ }
     ensures { λ s. ⌜ s ≡ advance r b ⌝ }
@@ -30,7 +30,7 @@ fn eleven(table: &[u32], v: u64) -> u32
     r
 }
 
-// And the bits of a byte.
+// The same for the eight bits of a byte.
 fn two(table: &[u32], b: u32) -> u32
     requires { ⌜ Tables (now table) × (b < 256) ⌝ }
     ensures { λ r. ⌜ r ≡ change b ⌝ }
@@ -38,7 +38,7 @@ fn two(table: &[u32], b: u32) -> u32
     table[(b & 63) as usize] ^ table[(64 + (b >> 6)) as usize]
 }
 
-// The register after the first 8 n bytes: it acts as if it were added to the first 32 bits that come.
+// The register after the first 8 n bytes: it acts as if it were added to the next 32 bits.
 fn by_eights(block: &[u8], table: &[u32], n: usize) -> u32
     requires { ⌜ Tables (now table) × (8 * n ≤ length (now block)) ⌝ }
     ensures { λ r. ⌜ r ≡ register (bitAt (now (block .entry))) (64 * n) ⌝ }

@@ -1,6 +1,6 @@
--- Step 9 a symbol at a time: delay lines, one a row, that overwrite their oldest byte.
--- Step n is turn n / N of row n mod N. A row holds each symbol back by some turns, in as many bytes: it gives the symbol that it has held longest and stores the new one in
--- its place. A row of no bytes gives what it takes. The rows are one after another in an area, zero at the start, and nothing else is kept between steps.
+-- Step 9 a symbol at a time: delay lines, one per row, that overwrite their oldest byte. Step n is turn n / N of row n mod N. A row holds each symbol back by some turns,
+-- in as many bytes: it gives the symbol that it has held longest and stores the new one in its place. A row of no bytes gives what it takes. The rows are one after another
+-- in an area, zero at the start, and nothing else is kept between steps.
 use mathlib.Core.List.{List}
 use Prim.Native.Nat.{ℕ, zero, suc, _+_, _-_, _*_, _/_, _%_}
 use lib.Dec.{ltb, eqb}

@@ -23,7 +23,8 @@ covered [] s = false
 covered (first ∷ []) s = false
 covered (first ∷ size ∷ rest) s = both (leb first s) (ltb s (first + size)) || covered rest s
 
--- each fade has at least one symbol, begins no sooner than `end`, where the one before it has ended, and is over within the n symbols of the run; no half of a fade is left
+-- each fade has at least one symbol, begins no sooner than `end`, where the one before it has ended, and ends within the n symbols of the run; no
+-- half of a pair is left over
 unfoldable pub fadesGood : ℕ → ℕ → List ℕ → Bool
 fadesGood n end [] = true
 fadesGood n end (first ∷ []) = false
@@ -46,7 +47,7 @@ sourceOf g s = hitBy g (placeAt g s)
 unfoldable pub isFiller : Layout → ℕ → Bool
 isFiller g s = leb (total g) (sourceOf g s)
 
--- each other symbol is one of a word's, and t is one of word t div S
+-- every other symbol belongs to a word, symbol t of step 8 to word t div S
 unfoldable pub carries : Layout → ℕ → Bool
 carries g s = both (not (isMarker g s)) (not (isFiller g s))
 

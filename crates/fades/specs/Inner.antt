@@ -1,4 +1,4 @@
--- What the walk over a run asks of its numbers.
+-- What the walk over a run requires of its numbers.
 use Prim.Native.Nat.{_^_, _≤_, _<_}
 use Rattle.channel.specs.Channel.{total, layoutSymbols}
 use Rattle.channel.specs.declared.Layout.{Layout}

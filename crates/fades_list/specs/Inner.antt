@@ -1,4 +1,4 @@
--- What of a list of fades is left.
+-- What is left of a list of fades.
 use mathlib.Core.Path.{_≡_}
 use mathlib.Core.Bool.{true}
 use mathlib.Core.List.{List}
@@ -6,7 +6,7 @@ use Prim.Native.Nat.{ℕ, _+_, _≤_, _<_}
 use lib.ListN.{length, getD, drop}
 use Rattle.fades.specs.Fades.{covered, fadesGood}
 
--- from number i of a list on come the fades that are not over at symbol s; they are in order in a run of some size, after some end
+-- the fades from number i of a list on are those that have not ended before symbol s; they are in order in a run of some size, after some end
 pub record Left (fades : List ℕ) (i s : ℕ) : Type 0 where
   pub inside : i ≤ length fades
   pub run : ℕ

@@ -44,7 +44,7 @@ pub fn good(n: usize, fades: &[u32]) -> bool
     i == fades.len()
 }
 
-// Whether symbol s is in a fade, where those before number i of the list are over.
+// Whether symbol s is in a fade, given that those before number i of the list have ended.
 pub fn reached(fades: &[u32], i: usize, s: usize) -> bool
     requires { ⌜ Left (now fades) i s ⌝ }
     ensures { λ r. ⌜ r ≡ covered (now (fades .entry)) s ⌝ }
@@ -55,7 +55,7 @@ pub fn reached(fades: &[u32], i: usize, s: usize) -> bool
     wide(fades[i]) <= s
 }
 
-// The number from which on come those that are not over one symbol further on.
+// The number in the list of the first fade that has not ended before symbol s + 1.
 pub fn past(fades: &[u32], i: usize, s: usize) -> usize
     requires { ⌜ Left (now fades) i s × (s < 2 ^ 32) ⌝ }
     ensures { λ r. ⌜ Left (now (fades .entry)) r (s + 1) ⌝ }

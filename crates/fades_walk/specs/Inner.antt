@@ -1,4 +1,4 @@
--- What the functions of the walk ask, keep and say.
+-- What the functions of the walk require, keep and ensure.
 use mathlib.Core.Path.{_≡_}
 use mathlib.Core.Bool.{true}
 use mathlib.Core.List.{List}
@@ -18,11 +18,11 @@ pub record Stands (g : Layout) (a : Spot) : Type 0 where
   pub place-is : a .place ≡ placeAt g (a .symbol)
   pub residue-is : a .residue ≡ a .place % g .rows
 
--- the word that symbol s is one of; C where it is none's
+-- the word that symbol s belongs to; C if it belongs to none
 unfoldable pub wordAt : Layout → ℕ → ℕ
 wordAt g s = pick (carries g s) (sourceOf g s / g .symbols) (g .words)
 
--- a number for each word, with room for one more
+-- a count for each word that can still grow
 pub record Open (g : Layout) (counts : List ℕ) : Type 0 where
   pub long : length counts ≡ g .words
   pub room : (j : ℕ) → getD counts j 0 < 2 ^ 31
@@ -32,7 +32,7 @@ pub record Plus (j : ℕ) (before after : List ℕ) : Type 0 where
   pub long : length after ≡ length before
   pub each : (k : ℕ) → k < length before → getD after k 0 ≡ getD before k 0 + bool (eqb j k)
 
--- one more for the word whose symbol s is, if it is covered
+-- one more for the word of symbol s, if that is covered
 pub record Added (g : Layout) (fades : List ℕ) (s : ℕ) (before after : List ℕ) : Type 0 where
   pub long : length after ≡ length before
   pub each : (j : ℕ) → j < g .words → getD after j 0 ≡ getD before j 0 + bool (isHit g fades j s)

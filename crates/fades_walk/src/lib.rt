@@ -50,7 +50,7 @@ fn next(g: Layout, a: Spot) -> Spot
     }
 }
 
-// The word that a symbol is one of; C for a marker symbol, and for a filler, which comes from "symbol" C·S.
+// The word that a symbol belongs to; C for a marker symbol, and for a filler, which comes from "symbol" C·S.
 fn word_at(g: Layout, a: Spot) -> usize
     requires { ⌜ Small g × Stands g a ⌝ }
     ensures { λ w. ⌜ w ≡ wordAt g (a .symbol) ⌝ }
@@ -72,7 +72,7 @@ fn add_one(counts: &mut [u32], j: usize)
     }
 }
 
-// One more for the word of a symbol that is covered.
+// Adds one for the word of a symbol, if it is covered.
 fn count_one(g: Layout, fades: &[u32], i: usize, a: Spot, counts: &mut [u32])
     requires { ⌜ Small g × Stands g a × Left (now fades) i (a .symbol) × Open g (now counts) ⌝ }
     ensures { λ _. ⌜ Added g (now (fades .entry)) (a .symbol) (now (counts .entry)) (now (counts .exit)) ⌝ }

@@ -11,7 +11,7 @@ use Rattle.header.specs.declared.Fields.{Fields}
 use Rattle.answers.specs.declared.Answer.{Answer}
 use Rattle.answers.specs.Answer.{ask, then, among}
 
--- x is one of the numbers least to most
+-- x is at least `least` and at most `most`
 abbrev pub within : ℕ → ℕ → ℕ → Bool
 within least x most = both (leb least x) (leb x most)
 

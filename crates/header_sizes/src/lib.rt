@@ -1,4 +1,4 @@
-// What a header implies, each quantity with its letter. All of them fit 36 bits.
+// What a header implies, each quantity with its letter. All of them fit in 36 bits.
 use channel::Layout;
 use header::Fields;
 ghost use mathlib.Core.Path.{_≡_};

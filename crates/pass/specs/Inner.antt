@@ -1,4 +1,4 @@
--- What a pass is asked to be by the functions inside its writer and its reader.
+-- What the functions inside the writer and the reader require of a pass.
 use mathlib.Core.Path.{_≡_}
 use mathlib.Core.List.{List}
 use Prim.Native.Nat.{ℕ, _*_, _≤_, _<_}

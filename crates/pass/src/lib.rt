@@ -1,5 +1,5 @@
-// A pass: up to 211 packed blocks of one rate, back to back, and their words: the definitions and laws that its writer and its reader stand on, and
-// question 8, which both put.
+// A pass: up to 211 packed blocks of one rate, back to back, and their words: the definitions and laws that its writer and its reader rest on, and
+// question 8, which both ask.
 ghost use mathlib.Core.Path.{_≡_};
 ghost use Prim.Native.Nat.{_≤_};
 ghost use Rattle.pass.specs.Pass.{passLengthsRight};

@@ -1,4 +1,4 @@
-// The pass reader: the blocks of words, read aside. Nothing is written before every word has given its block.
+// The pass reader: the blocks of words, read into a buffer of its own. Nothing is written before every word has given its block.
 use answers::Answer;
 ghost use mathlib.Core.Path.{_≡_};
 ghost use Prim.Native.Nat.{_≤_};
@@ -23,7 +23,7 @@ fn settle(rate: u64, n: usize, words: &[u8], room: &mut [u8], blocks: &mut [u8])
     answer
 }
 
-// As much of the buffer as the blocks take.
+// The same with as much of the buffer as the blocks take.
 fn read_in(rate: u64, n: usize, words: &[u8], room: &mut [u8], blocks: &mut [u8]) -> Answer
     requires { ⌜ Roomy rate n (now words) (now room) (now blocks) ⌝ }
     ensures { λ r. ⌜ r ≡ inOrder n (passWordSays rate (now (words .entry))) ⌝ }

@@ -1,4 +1,4 @@
--- What reading words back to back asks of what it is handed.
+-- What reading words back to back requires of its arguments.
 use mathlib.Core.Path.{_≡_}
 use mathlib.Core.List.{List}
 use Prim.Native.Nat.{ℕ, _+_, _*_, _≤_, _<_}

@@ -15,7 +15,7 @@ pub record Sent (order group copies n : ℕ) (b : List ℕ) : Type 0 where
   pub room : n * copies * group ≤ 8 * length b
   pub bound : n * copies * group < 2 ^ 36
 
--- those of symbol s do
+-- the copies of symbol s are within b
 pub record Held (group copies : ℕ) (b : List ℕ) (s : ℕ) : Type 0 where
   pub group-least : 2 ≤ group
   pub group-most : group ≤ 320
@@ -23,7 +23,7 @@ pub record Held (group copies : ℕ) (b : List ℕ) (s : ℕ) : Type 0 where
   pub inside : (s * copies + copies) * group ≤ 8 * length b
   pub small : (s * copies + copies) * group < 2 ^ 36
 
--- and eight bytes from each of their slots on
+-- and so are eight bytes from each of their slots on
 pub record Open (group copies : ℕ) (b : List ℕ) (s : ℕ) : Type 0 where
   pub held : Held group copies b s
   pub behind : (s * copies + copies) * group + 64 ≤ 8 * length b

@@ -1,4 +1,4 @@
-// The slot that has pulses while no other has. Nothing is counted, however many copies have lost their pulse.
+// The only slot that has pulses. Nothing is counted, however many copies have lost their pulse.
 ghost use mathlib.Core.Path.{_≡_};
 ghost use Prim.Native.Nat.{ℕ, _*_, _/_, _<_};
 ghost use lib.Dec.{eqb};

@@ -23,7 +23,7 @@ fn next_lit(b: &[u8], copies: usize, group: usize, s: usize, from: usize) -> usi
     at
 }
 
-// Some slot from `from` on with no pulse in any copy before it; or the group's end.
+// A slot from `from` on, or the group's end; no copy has a pulse between `from` and there.
 fn skip(b: &[u8], copies: usize, group: usize, s: usize, from: usize) -> usize
     requires { ⌜ Held group copies (now b) s × (from ≤ group) ⌝ }
     ensures { λ r. ⌜ (from ≤ r) × (r ≤ group) × ((i : ℕ) → from ≤ i → i < r → count (now (b .entry)) copies group s i ≡ 0) ⌝ }
@@ -54,7 +54,7 @@ fn count_at(b: &[u8], copies: usize, group: usize, s: usize, r: usize) -> usize
     v
 }
 
-// Which of n slots is in front when slot r with v pulses comes to those before it, of which q was, with `top`; n where none is.
+// Which of n slots leads once slot r, with v pulses, joins those before it, of which q led with `top`; n if none does.
 fn in_front(v: usize, top: usize, r: usize, q: usize, n: usize) -> usize
     ensures { λ z. ⌜ z ≡ pick (ltb top v) r (pick (eqb v top) n q) ⌝ }
 {
@@ -67,7 +67,7 @@ fn in_front(v: usize, top: usize, r: usize, q: usize, n: usize) -> usize
     q
 }
 
-// The slot with more pulses than each other, or the group's size.
+// The slot with more pulses than every other, or the group's size.
 pub fn counted(b: &[u8], copies: usize, group: usize, s: usize) -> usize
     requires { ⌜ Held group copies (now b) s ⌝ }
     ensures { λ r. ⌜ r ≡ peak (count (now (b .entry)) copies group s) group ⌝ }

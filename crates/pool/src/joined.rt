@@ -23,7 +23,7 @@ pub fn slot(copies: usize, group: usize, s: usize, c: usize, r: usize) -> usize
     (s * copies + c) * group + r
 }
 
-// The bits from y on as the first of a number: 57 at the least.
+// The bits from y on as the first of a number, at least 57 of them.
 fn window(b: &[u8], y: usize) -> u64
     requires { ⌜ y + 64 ≤ 8 * length (now b) ⌝ }
     ensures { λ r. ⌜ r ≡ val (cut (64 - y % 8) (bitsFrom (now (b .entry)) y)) 64 ⌝ }
@@ -46,7 +46,7 @@ pub fn slots_from(b: &[u8], copies: usize, group: usize, s: usize, at: usize, wi
     (any >> rest) << rest
 }
 
-// The first bits of eight bytes, so many of them. Cut here and not once for all copies, the bytes stay a single load.
+// The first `width` bits of eight bytes. Since they are cut here and not once for all copies, the bytes stay a single load.
 fn front(b: &[u8], at: usize, width: usize) -> u64
     requires { ⌜ (at + 8 ≤ length (now b)) × (1 ≤ width) × (width ≤ 64) ⌝ }
     ensures { λ r. ⌜ r ≡ val (cut width (bitsFrom (now (b .entry)) (8 * at))) 64 ⌝ }
@@ -55,7 +55,7 @@ fn front(b: &[u8], at: usize, width: usize) -> u64
     (bits::packing::eight(b, at) >> rest) << rest
 }
 
-// Those of the eight bytes from `at` on, and of the others, each so many bytes after the one before.
+// Those of the eight bytes from `at` on and of the other copies, each `bytes` bytes after the one before, joined.
 fn fronts(b: &[u8], copies: usize, bytes: usize, at: usize, width: usize) -> u64
     requires { ⌜ (copies ≤ 32) × (bytes ≤ 40) × (at + copies * bytes + 8 ≤ length (now b) + bytes) × (1 ≤ width) × (width ≤ 64) ⌝ }
     ensures { λ r. ⌜ r ≡ val (λ t. some (λ c. cut width (bitsFrom (now (b .entry)) (8 * (at + c * bytes))) t) copies) 64 ⌝ }

@@ -1,4 +1,4 @@
-// What the customer is promised, one function a demand or card: its contract is what is promised, and it does nothing. The statements are in the
+// What the customer is promised, one function for each demand or card: its contract is what is promised, and it does nothing. The statements are in the
 // crates whose names begin with `promises_`, by subject, each beside its theorem.
 ghost use Rattle.promises_terms.specs.Terms.{Terms};
 ghost use Rattle.promises_terms.specs.Answers.{Answers};
@@ -26,7 +26,7 @@ ghost use Rattle.promises_headers.specs.Edges.{Edges};
 ghost use Rattle.promises_runs.specs.Places.{Places};
 ghost use Rattle.promises_sheet.specs.Runsheet.{Runsheet};
 
-// What the words mean in which the others speak of bits, bytes and lists.
+// The meaning of the terms in which the others speak of bits, bytes and lists.
 pub fn terms()
     ensures { λ _. ⌜ Terms ⌝ }
 {}

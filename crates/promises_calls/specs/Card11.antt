@@ -6,10 +6,10 @@
 -- N, rounded down) at t mod the row's length. Turned away: 26 for a symbol not below M, put after 8, the area unchanged and the symbol given 0, as in
 -- every refused step."
 --
--- The contracts of `delay_write` and `delay_read` are equations with `stepCode` and `areaAfter`, on the side `Writing` or `Reading`: what a step
--- answers, and the area afterwards, from the header, the step's number n, the symbol q and the area before. N, B and m are `rows`, `step` and `bits`
--- of the header's fields. `placed` (channel/specs/Channel.antt) is what step 9 puts at a place, of the symbols of a layout, which has C words of S;
--- `cut n q` are the first n of the symbols q, and zeros after them.
+-- The contracts of `mahyrei_delay_write` and `mahyrei_delay_read` are equations with `stepCode` and `areaAfter`, on the side `Writing` or `Reading`: what a step
+-- answers, and the area afterwards, from the header, the step's number n, the symbol q and the area before. N, B and m are `rows`, `step` and `bits` of the
+-- header's fields. `placed` (channel/specs/Channel.antt) is what step 9 puts at a place, of the symbols of a layout, which has C words of S; `cut n q` are the
+-- first n of the symbols q, and zeros after them.
 use mathlib.Core.Path.{_≡_}
 use mathlib.Core.List.{List}
 use Prim.Native.Nat.{ℕ, zero, suc, _+_, _-_, _*_, _/_, _%_, _^_, _≤_, _<_}
@@ -59,7 +59,7 @@ RowsFollow =
 abbrev pub RowsFill : Type 0
 RowsFill = (side : Side) (f : Fields) → begin (lines side f) (f .rows) ≡ f .rows * (f .rows - 1) * f .step / 2
 
--- row i has these bytes
+-- row i has this many bytes
 abbrev pub RowBytes : Type 0
 RowBytes = (f : Fields) (i : ℕ) → (lines Writing f i ≡ i * f .step) × (lines Reading f i ≡ (f .rows - 1 - i) * f .step)
 
@@ -112,7 +112,7 @@ AcceptedBelow = (side : Side) (header : List ℕ) (q : ℕ → ℕ) (n : ℕ) �
 
 -- "After any number of accepted steps, told 0, 1, 2 and so on, the symbols given are the first ones that step 9 defines for the symbols taken so far
 -- followed by zeros, its place rule running on past C·S": after n steps, in every layout with the header's N and B and at least n symbols, whatever its C
--- and S, and so with as many zeros after as one likes
+-- and S, and so with as many zeros after them as one likes
 abbrev pub Written : Type 0
 Written =
     (header : List ℕ) (q : ℕ → ℕ) (n : ℕ) → Accepted Writing header q n

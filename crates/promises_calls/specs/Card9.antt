@@ -35,7 +35,7 @@ FewFillBits =
     → (markedBits (fieldsOf header) + fillBits (fieldsOf header) ≡ blockCount (fieldsOf header) * infoBits (fieldsOf header .rate))
     × (fillBits (fieldsOf header) < infoBits (fieldsOf header .rate))
 
--- The reader with the question put where it stood, between 16 and 18, gives the same answer to every input.
+-- The reader with the question put where it was, between 16 and 18, gives the same answer to every input.
 abbrev pub Asked17 : Type 0
 Asked17 =
     (header marker slots : List ℕ) (n : ℕ) (f : Fields) (word : ℕ → List ℕ) → f ≡ fieldsOf header → word ≡ wordOut (planIn header marker) slots

@@ -120,7 +120,7 @@ RunAnswers =
     × (callSays header marker framesLength slotsLength
     ≡ then (runSays header marker) (ask (runLengthsRight (fieldsOf header) (length marker) framesLength slotsLength) 8 0))
 
--- the plan of a header with its marker symbols has these; of the lent symbols up to the W-th are carried along
+-- the plan of a header with its marker symbols has these numbers; the lent symbols are carried along up to the W-th
 abbrev pub PlanIs : Type 0
 PlanIs =
     (header marker : List ℕ) (f : Fields) (p : Plan) → f ≡ fieldsOf header → p ≡ planIn header marker
@@ -149,7 +149,7 @@ SlicesAfter =
     × (uplinkSlotsAfter frames old ≡ after (uplinkWriteSays frames (length old)) (uplinkSlotsOf frames) old)
     × (uplinkFramesAfter slots old ≡ after (uplinkReadSays slots (length old)) (uplinkFramesOf slots) old)
 
--- a refused call leaves it as it was; of the later calls the cards say so
+-- a refused call leaves the lent slice as it was; the cards say so of the later calls
 abbrev pub RefusedWordWrite : Type 0
 RefusedWordWrite =
     (rate : ℕ) (block old : List ℕ) (number place : ℕ) → wordWriteSays rate block (length old) ≡ No number place → wordAfter rate block old ≡ old

@@ -16,7 +16,7 @@ use Rattle.rack.specs.Rack as racks
 use Rattle.run.specs.Run.{runReadSays, runWriteSays}
 
 -- ---- a header that is refused is refused by every call that is lent it, with that number: by the calls that are lent marker symbols too, where these are good.
--- The rack puts its own questions first (Card10), which an owner's load of a place that there is passes
+-- The rack puts its own questions first (Card10), which an owner's load of an existing place passes
 
 abbrev pub HeaderRefused : Type 0
 HeaderRefused =

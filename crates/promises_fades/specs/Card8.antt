@@ -5,9 +5,9 @@
 -- a stretch of at most N places with markers left out, come from symbols at least B·N − 1 apart. The reckoning counts unrepeated symbols and disregards
 -- the factor. Turned away: 22 for a list that breaks these rules, put after 8."
 --
--- The contract of `fades_count` is an equation with `fadesSay` and `countsAfter`. Of the fields f of a header, N is `f .rows`, B `f .step`, W `f .markers`,
--- S `symbolsPerWord f`, C `blockCount f`, and R `lineCount f`; `layoutOf f` has these six, and steps 8 to 10 go by it (channel/specs/Channel.antt). The run
--- has `symbolCount f` symbols, markers counted and copies not. `weight h n` is h 0 + .. + h (n - 1).
+-- The contract of `mahyrei_fades_count` is an equation with `fadesSay` and `countsAfter`. Of the fields f of a header, N is `f .rows`, B `f .step`, W `f .markers`,
+-- S `symbolsPerWord f`, C `blockCount f`, and R `lineCount f`; `layoutOf f` has these six, and steps 8 to 10 go by it (channel/specs/Channel.antt). The run has
+-- `symbolCount f` symbols, markers counted and copies not. `weight h n` is h 0 + .. + h (n - 1).
 use mathlib.Core.Path.{_≡_}
 use mathlib.Core.Bool.{true, false, not}
 use mathlib.Core.List.{List, [], _∷_}
@@ -40,7 +40,7 @@ FadesAsks =
 -- ---- the list
 
 -- "First symbol and length, .. ascending, not overlapping, each of at least one symbol and inside the run", "half a pair left over breaks it": fade i is the
--- pair of numbers 2i and 2i + 1, and lies from its first symbol up to, and without, its end
+-- pair of numbers 2i and 2i + 1, and reaches from its first symbol up to its end, which is not part of it
 abbrev pub FadeFirst : Type 0
 FadeFirst = (fades : List ℕ) (i : ℕ) → firstOf fades i ≡ getD fades (2 * i) 0
 
@@ -112,7 +112,7 @@ CountsSum =
     → weight (λ j. getD (countsAfter header fades old) j 0) (blockCount f)
     ≡ weight (λ s. bool (both (covered fades s) (both (not (isMarker (layoutOf f) s)) (not (isFiller (layoutOf f) s))))) (symbolCount f)
 
--- symbol t of step 8 stands where steps 9 and 10 put it, and is one of word t div S
+-- symbol t of step 8 is where steps 9 and 10 put it, and is one of word t div S
 abbrev pub StandsAt : Type 0
 StandsAt =
     (header : List ℕ) → headerSays header ≡ Done → (f : Fields) → f ≡ fieldsOf header
@@ -160,7 +160,7 @@ Apart =
     → x ≡ place (layoutOf (fieldsOf header)) t → y ≡ place (layoutOf (fieldsOf header)) u → (x ≡ y → ⊥) → x < y + n → y < x + n
     → (t + (b * n - 1) ≤ u) ⊎ (u + (b * n - 1) ≤ t)
 
--- and no more than that: symbols B·N and 1 stand at neighbouring places
+-- and no more than that: symbols B·N and 1 go to neighbouring places
 abbrev pub Neighbours : Type 0
 Neighbours = (g : Layout) → 2 ≤ g .rows → place g 1 ≡ place g (g .step * g .rows) + 1
 

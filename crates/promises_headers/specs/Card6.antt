@@ -4,8 +4,8 @@
 -- that `runsheet` puts, an eight-byte header being held to the old question 1. `runsheet` reads ten bytes, also checks the factor, and adds it at the end
 -- of its line; its symbols and slots count copies. [..] Turned away: 21 on the way back when the factor is not 1, put last."
 --
--- `headerSays` is what `runsheet` puts (header_questions/specs/Questions.antt), `oldSays` the same of an archived header; the line that is printed is
--- `lineOf` (sheet/specs/Line.antt), with the example's beside it. The contracts of `header_widen` and `header_narrow` are equations with `widenSays` and
+-- `headerSays` is what `runsheet` puts (header_questions/specs/Questions.antt), `oldSays` the same of an archived header; the line that is printed is `lineOf`
+-- (sheet/specs/Line.antt), with the example's beside it. The contracts of `mahyrei_header_widen` and `mahyrei_header_narrow` are equations with `widenSays` and
 -- `tenAfter`, `narrowSays` and `eightAfter`. Bit j of a header is `bitAt header j`, and `val f n` the number whose n bits are f 0, f 1, ..
 use mathlib.Core.Path.{_≡_}
 use mathlib.Core.Bool.{Bool, _||_}
@@ -182,7 +182,7 @@ NarrowAsks =
     (then (ask (eqb n 8) 8 0)
     (ask (eqb (fieldsOf header .copies) 1) 21 0))
 
--- of a valid header with another factor there is nothing to say in eight bytes
+-- a valid header with another factor has no form in eight bytes
 abbrev pub OtherFactor : Type 0
 OtherFactor = (header : List ℕ) → headerSays header ≡ Done → (fieldsOf header .copies ≡ 1 → ⊥) → narrowSays header 8 ≡ No 21 0
 
@@ -196,7 +196,8 @@ ArchivedTrips =
     × (narrowSays (tenAfter old ten) (length eight) ≡ Done)
     × (eightAfter (tenAfter old ten) eight ≡ old)
 
--- ---- "Every valid ten-byte header with factor 1 makes the same two trips": eight bytes have its fields but for the factor, where zeros stand
+-- ---- "Every valid ten-byte header with factor 1 makes the same two trips": eight bytes have its fields except for the factor, in whose place there
+-- are zeros
 
 abbrev pub ValidTrips : Type 0
 ValidTrips =

@@ -87,7 +87,7 @@ MarkerEdges =
     × (headerSays (0x08 ∷ 0x04 ∷ 0x02 ∷ 0x00 ∷ 0x30 ∷ 0x81 ∷ 0x04 ∷ 0x00 ∷ 0x00 ∷ 0x00 ∷ []) ≡ No 7 0)
     × (headerSays (0x08 ∷ 0x04 ∷ 0x02 ∷ 0x00 ∷ 0x20 ∷ 0x01 ∷ 0x04 ∷ 0x00 ∷ 0x00 ∷ 0x00 ∷ []) ≡ No 7 0)
 
--- the first no gives the number: all fields wrong and a spare bit set, and then one after another put right
+-- the first no gives the number: all fields wrong and a spare bit set, and then put right one after another
 abbrev pub NumbersInOrder : Type 0
 NumbersInOrder =
     (headerSays (0xE4 ∷ 0x00 ∷ 0x28 ∷ 0x00 ∷ 0x00 ∷ 0x00 ∷ 0x30 ∷ 0x00 ∷ 0x00 ∷ 0x01 ∷ []) ≡ No 1 0)
@@ -100,7 +100,7 @@ NumbersInOrder =
     × (headerSays (0x20 ∷ 0x28 ∷ 0x2A ∷ 0x00 ∷ 0x20 ∷ 0x81 ∷ 0x30 ∷ 0x00 ∷ 0x00 ∷ 0x00 ∷ []) ≡ No 20 0)
     × (headerSays (0x20 ∷ 0x28 ∷ 0x2A ∷ 0x00 ∷ 0x20 ∷ 0x81 ∷ 0x0C ∷ 0x00 ∷ 0x00 ∷ 0x00 ∷ []) ≡ Done)
 
--- of the numbers that six bits can say, the factors are seven
+-- of the numbers that six bits can hold, seven are factors
 abbrev pub passing : (ℕ → Bool) → ℕ → List ℕ
 passing test zero = []
 passing test (suc n) = passing test n ++ pick (test n) (n ∷ []) []

@@ -6,12 +6,11 @@
 -- lent get the same number. Turned away: 23 for a mission above 3 or a loan to oneself, 24 for a place above 3, 25 for another's place (save reading
 -- one that is lent) or, except when loading, an empty one, put in this order before any question on a header."
 --
--- The rack is the area of 176 bytes that `rack_load`, `rack_read`, `rack_drop` and `rack_lend` are lent, and nothing else; zeros are the empty rack.
--- A call is `callOf caller owner place task`, its task `Load header`, `Read slice`, `Drop` or `Lend to`. The definitions are those that the contracts
--- of the four cite (crate `c_calls`): `afterCall` is the area after a call, `toldOf` what its caller is told, that is, the number that C gets and, in
--- reading, what the slice for the header then holds. `says` is the answer behind that number. `entryAt area o p` is the entry of place p of mission
--- o: whether it is `loaded`, and the header in it (`headerIn`). `lent m area o p` is whether that place is lent to mission m. Callers, owners, places
--- and the area are any, where nothing else is said.
+-- The rack is the area of 176 bytes that `mahyrei_rack_load`, `mahyrei_rack_read`, `mahyrei_rack_drop` and `mahyrei_rack_lend` are lent, and nothing else; zeros are the empty rack.
+-- A call is `callOf caller owner place task`, its task `Load header`, `Read slice`, `Drop` or `Lend to`. The definitions are those that the contracts of the four cite (crate
+-- `c_calls`): `afterCall` is the area after a call, `toldOf` what its caller is told, that is, the number that C gets and, in reading, what the slice for the header then holds.
+-- `says` is the answer behind that number. `entryAt area o p` is the entry of place p of mission o: whether it is `loaded`, and the header in it (`headerIn`). `lent m area o p` is
+-- whether that place is lent to mission m. Callers, owners, places and the area are arbitrary unless it says otherwise.
 use mathlib.Core.Path.{_≡_}
 use mathlib.Core.Bool.{Bool, true, false, not, _||_}
 use mathlib.Core.List.{List, [], _∷_, _++_}
@@ -44,7 +43,7 @@ LentIs =
     (m : ℕ) (area : List ℕ) (o p : ℕ)
     → lent m area o p ≡ both (both (ltb o 4) (ltb p 4)) (both (ltb m 4) (eqb (getD area (11 * (4 * o + p)) 0) (2 + m)))
 
--- A call has what it is made of.
+-- A call has the parts that it is made of.
 abbrev pub CallIs : Type 0
 CallIs =
     (c o p : ℕ) (task : Task)
@@ -132,8 +131,8 @@ MayRead =
     (area : List ℕ) (c o p : ℕ) → c < 4 → o < 4 → p < 4 → (slice : List ℕ) → loaded (entryAt area o p) ≡ true → (c ≡ o) ⊎ (lent c area o p ≡ true)
     → length area ≡ 176 → length slice ≡ 10 → toldOf area (callOf c o p (Read slice)) ≡ record { code = 0; slice = headerIn (entryAt area o p) }
 
--- Loading "replaces what was there": what the owner loaded is what it reads and each mission that the place is lent to, after any calls among which no
--- accepted one loads or drops there. A refused one may.
+-- Loading "replaces what was there": what the owner loaded is what the owner, and each mission that the place is lent to, reads after any calls of
+-- which no accepted one loads or drops there. A refused one may.
 abbrev pub Untouched : List ℕ → ℕ → ℕ → List Call → Type 0
 Untouched area o p t =
     (u v : List Call) (c : ℕ)
@@ -152,7 +151,7 @@ LoadedIsRead =
 abbrev pub LoadKeepsLoans : Type 0
 LoadKeepsLoans = (area : List ℕ) (c o p : ℕ) (header : List ℕ) (m x y : ℕ) → lent m (afterCall area (callOf c o p (Load header))) x y ≡ lent m area x y
 
--- "Dropping empties the place and ends the loan", and nothing of the header stays behind.
+-- "Dropping empties the place and ends the loan", and nothing of the header is left.
 abbrev pub DropEmpties : Type 0
 DropEmpties =
     (area : List ℕ) (c o p : ℕ) → says area (callOf c o p Drop) ≡ Done

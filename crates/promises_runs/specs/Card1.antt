@@ -4,11 +4,11 @@
 -- answer is number 0 with s as its place, and the run's number of slots from there, packed anew, reads as that run's frames. Turned away: 19 when no
 -- slot fits, put after 8."
 --
--- Slot i of a capture is `bitAt capture i`. `MarkerAt` (capture_search/specs/Search.antt) says that the whole marker stands at a slot: its W symbols of
--- M + M/4 slots lie in the capture, and each slot has a pulse if it is the symbol, and none otherwise. `RunAt` (capture_cut/specs/Cut.antt) says that
--- from a slot on the capture has the slots of the run that is written for these frames. The contract of `run_find` is an equation with `findCode`,
--- which is made of the answer `findSays` and, for an acceptance, of the slot `firstFit`. That of `run_cut`, which packs a run's slots anew, is one
--- with `cutSays` and `cutOf`.
+-- Slot i of a capture is `bitAt capture i`. `MarkerAt` (capture_search/specs/Search.antt) says that the whole marker begins at a slot: its W symbols of M
+-- + M/4 slots lie in the capture, and each slot has a pulse if it is the symbol, and none otherwise. `RunAt` (capture_cut/specs/Cut.antt) says that from a
+-- slot on the capture has the slots of the run that is written for these frames. The contract of `mahyrei_run_find` is an equation with `findCode`, which
+-- is made of the answer `findSays` and, for an acceptance, of the slot `firstFit`. That of `mahyrei_run_cut`, which packs a run's slots anew, is one with
+-- `cutSays` and `cutOf`.
 use mathlib.Core.Path.{_≡_}
 use mathlib.Core.List.{List}
 use Prim.Native.Nat.{ℕ, _+_, _-_, _*_, _/_, _^_, _≤_, _<_}
@@ -52,7 +52,7 @@ RefusedFind =
     (header marker capture : List ℕ) (number place : ℕ) → findSays header marker capture ≡ No number place
     → findCode header marker capture ≡ place * 256 + number
 
--- the whole marker stands at slot x: its W symbols of M + M/4 slots lie in the capture, and a slot has a pulse if it is the symbol, and none if not
+-- the whole marker begins at slot x: its W symbols of M + M/4 slots lie in the capture, and a slot has a pulse if it is the symbol, and none if not
 abbrev pub MarkerMeans : Type 0
 MarkerMeans =
     (header marker capture : List ℕ) (x w group : ℕ) → w ≡ fieldsOf header .markers → group ≡ 2 ^ fieldsOf header .bits + 2 ^ fieldsOf header .bits / 4
@@ -90,7 +90,7 @@ NoneIs19 =
 
 -- ---- the slots from there, packed anew
 
--- the questions of that call: 1 to 7 and 20 of the header alone, and 8, which asks too whether the slots lie in the capture
+-- the questions of that call: 1 to 7 and 20 of the header alone, and 8, which also asks whether the slots lie in the capture
 abbrev pub CutAsks : Type 0
 CutAsks =
     (header : List ℕ) (captureLength s slotsLength : ℕ)
@@ -107,7 +107,7 @@ CutSlots =
     × ((i : ℕ) → i < slotCount (fieldsOf header) → bitAt (cutAfter header capture s old) i ≡ bitAt capture (s + i))
     × ((i : ℕ) → slotCount (fieldsOf header) ≤ i → bitAt (cutAfter header capture s old) i ≡ 0)
 
--- bytes, which may be put to the reader
+-- what is cut out is bytes, and so may be put to the reader
 abbrev pub CutBytes : Type 0
 CutBytes =
     (header capture : List ℕ) (s : ℕ) (old : List ℕ) → cuts.cutSays header (length capture) s (length old) ≡ Done → Bytes (cutAfter header capture s old)
@@ -119,7 +119,7 @@ RefusedCut =
     → cuts.cutSays header (length capture) s (length old) ≡ No number place
     → cutAfter header capture s old ≡ old
 
--- ---- "If a sound run begins at slot s": one that is written for some frames; what stands before and after it in the capture is free
+-- ---- "If a sound run begins at slot s": one that is written for some frames; what comes before and after it in the capture is free
 
 abbrev pub RunMeans : Type 0
 RunMeans =
@@ -131,7 +131,7 @@ RunMeans =
     → ((i : ℕ) → i < slotCount (fieldsOf header) → bitAt capture (s + i) ≡ bitAt (runs.runOf header marker frames) i)
     → RunAt header marker frames capture s)
 
--- "and no earlier slot fits, the answer is number 0 with s as its place": where each symbol is sent once, since then the marker stands there whole;
+-- "and no earlier slot fits, the answer is number 0 with s as its place": where each symbol is sent once, since then the whole marker begins there;
 abbrev pub RunFound : Type 0
 RunFound =
     (header marker frames : List ℕ) (n : ℕ) → runWriteSays header marker frames n ≡ Done

@@ -5,8 +5,8 @@
 -- if some frames are written to it", "It corrects nothing" and "exactly one pulse"; whatever is written is still accepted and gives its frames, and for
 -- factor 1 and for single words nothing changes. Turned away: 20 for another factor, put after 7."
 --
--- The factor is a field of the header since Card 6. Plans are those of a header and its marker symbols (`planIn`). For factor 1 Demand2 has its text, and
--- single words know no factor. Where question 20 is put stands in `run-writer-asks` and `run-reader-asks` of Demand1.
+-- The factor is a field of the header since Card 6. Plans are those of a header and its marker symbols (`planIn`). For factor 1 Demand2 keeps its
+-- text, and single words have no factor. `run-writer-asks` and `run-reader-asks` of Demand1 say where question 20 is put.
 use mathlib.Core.Path.{_≡_}
 use mathlib.Core.Bool.{true, false}
 use mathlib.Core.List.{List, [], _∷_, map}
@@ -73,7 +73,7 @@ LargestSent = (slotCount (withCopies 32 largest) ≡ 46624952320) × (slotBytes 
 abbrev pub Counts : Type 0
 Counts = (b : List ℕ) (copies group s r : ℕ) → count b copies group s r ≡ weight (λ c. bitAt b ((s * copies + c) * group + r)) copies
 
--- of M data slots and the guard slots after them, `group` in all: q is the symbol if its count is above each other's, and only then; where there is no such
+-- of M data slots and the guard slots after them, `group` in all: q is the symbol if its count is above every other, and only then; where there is no such
 -- data slot, `pooled` is M
 abbrev pub PooledIs : Type 0
 PooledIs =
@@ -110,7 +110,7 @@ OnePulseExactly =
 
 -- ---- "A repeated buffer is accepted if its pooled symbols are those of some run and its spare bits are zero, giving that run's frames, and otherwise not"
 
--- What it is that slots pool to a run's symbols: the slot with the most pulses over the copies of symbol s is symbol s of step 10.
+-- What it means for slots to pool to a run's symbols: the slot with the most pulses over the copies of symbol s is symbol s of step 10.
 abbrev pub pooledSymbol : List ℕ → List ℕ → List ℕ → ℕ → ℕ
 pooledSymbol header marker slots s = pooled slots (planIn header marker .copies) (planIn header marker .group) (planIn header marker .order) s
 

@@ -1,12 +1,11 @@
--- Demand 2. "The writer gives the slots that the specification defines": the contract of `run_write` is an equation with `runOf`, and
--- `stream-is` to `slot-is` say how that is made, step by step. "The reader accepts a slot buffer only if some frames are written to it under the same header and marker, accepts every such buffer,
--- and returns those frames. For single words and their blocks the same holds."
+-- Demand 2. "The writer gives the slots that the specification defines": the contract of `mahyrei_run_write` is an equation with `runOf`, and `stream-is` to `slot-is` say how that is made,
+-- step by step. "The reader accepts a slot buffer only if some frames are written to it under the same header and marker, accepts every such buffer, and returns those frames. For single
+-- words and their blocks the same holds."
 --
--- The definitions are those that the contracts of the calls cite (crate `c_calls`): what a call says (`writeSays`, `readSays`), the slots of frames
--- (`runOf`), the frames in slots (`framesRead`), the word of a block (`wordOf`) and the block in a word (`blockIn`). `Bytes` says that the elements
--- of a list are bytes, as they are in every slice. `SameBits` says of two packed blocks that their k bits are the same, `SpareZero` of one that its
--- two spare bits are 0. "Only if some frames are written to it" holds where the header's factor is 1, and Card5 has what stands in its place for the
--- others; all else holds for every factor.
+-- The definitions are those that the contracts of the calls cite (crate `c_calls`): what a call says (`runWriteSays`, `wordReadSays` and so on), the slots of frames
+-- (`runOf`), the frames in slots (`framesRead`), the word of a block (`wordOf`) and the block in a word (`blockIn`). `Bytes` says that the elements of a list are
+-- bytes, as they are in every slice. `SameBits` says of two packed blocks that their k bits are the same, `SpareZero` of one that its two spare bits are 0. "Only if
+-- some frames are written to it" holds where the header's factor is 1, and Card5 says what replaces it for the others; all else holds for every factor.
 use mathlib.Core.Path.{_≡_}
 use mathlib.Core.List.{List}
 use Prim.Native.Nat.{ℕ, _+_, _-_, _*_, _/_, _%_, _^_, _≤_, _<_}
@@ -25,7 +24,7 @@ use Rattle.run.specs.Steps as steps
 use Rattle.word.specs.After.{wordAfter, blockAfter}
 use Rattle.run.specs.Run.{slotsAfter, framesAfter, runReadSays, runWriteSays}
 
--- ---- "The writer gives the slots that the specification defines": step by step, each of the one before (`steps`), for F, A, m, N, B, W and the factor of
+-- ---- "The writer gives the slots that the specification defines": step by step, each made of the one before (`steps`), for F, A, m, N, B, W and the factor of
 -- the header. A word is `words.wordOf` of its block, and Card3 has how that is made.
 
 -- Step 1: 1ACFFC1D before each of the A frames of F bytes, the first bit highest, and zeros after the last; k bits of this are a block.
@@ -59,7 +58,7 @@ PlaceIs =
     → ((t : ℕ) → t < total → steps.standing header marker frames (t + t % N * (B * N)) ≡ steps.step8 header marker frames t)
     × ((x : ℕ) → ((t : ℕ) → t < total → t + t % N * (B * N) ≡ x → ⊥) → steps.standing header marker frames x ≡ 0)
 
--- Step 10: before every S symbols the W marker symbols stand, as they were lent.
+-- Step 10: before every S symbols come the W marker symbols, as they were lent.
 abbrev pub LineIs : Type 0
 LineIs =
     (header marker frames : List ℕ) (n : ℕ) → runWriteSays header marker frames n ≡ Done
@@ -102,7 +101,8 @@ RunOne =
     (header marker a b : List ℕ) (n m : ℕ) → Bytes a → Bytes b → runWriteSays header marker a n ≡ Done → runWriteSays header marker b m ≡ Done
     → runs.runOf header marker a ≡ runs.runOf header marker b → a ≡ b
 
--- The same of the slices that two calls in a row are lent: what `run_write` leaves in the slots, `run_read` turns back into the frames.
+-- The same of the slices that two calls in a row are lent: what `mahyrei_run_write` leaves in the slots, `mahyrei_run_read` turns back into the
+-- frames.
 abbrev pub RunThereAndBack : Type 0
 RunThereAndBack =
     (header marker frames slots back : List ℕ) → Bytes frames → runWriteSays header marker frames (length slots) ≡ Done → length back ≡ length frames
@@ -114,7 +114,7 @@ RunThereAndBack =
 abbrev pub WordBytes : Type 0
 WordBytes = (rate : ℕ) (xs : List ℕ) → Bytes (words.wordOf rate xs) × Bytes (words.blockIn rate xs)
 
--- What it is that two blocks have the same k bits, and that a block's spare bits are 0
+-- What it means for two blocks to have the same k bits, and for a block's spare bits to be 0
 abbrev pub SameBitsIs : Type 0
 SameBitsIs =
     (rate : ℕ) (a b : List ℕ)

@@ -1,9 +1,9 @@
 -- The search from a given slot on, which no card names. A recording holds many runs and begins inside one, and Card 1's search gives its first marker
--- alone; `run_find_from` gives the next one, from any slot on. Its questions, numbers and limits are Card 1's.
+-- alone; `mahyrei_run_find_from` gives the next one, from any slot on. Its questions, numbers and limits are Card 1's.
 --
--- The contract of `run_find_from` is an equation with `findFromCode`, which is made of the answer `findFromSays` and, for an acceptance, of the slot
--- `firstFitFrom` (capture_search/specs/Search.antt). What it is that the whole marker stands at a slot, `MarkerAt`, and that a run begins there, `RunAt`,
--- `marker-means` and `run-means` say (promises_runs/specs/Card1.antt).
+-- The contract of `mahyrei_run_find_from` is an equation with `findFromCode`, which is made of the answer `findFromSays` and, for an acceptance, of the slot
+-- `firstFitFrom` (capture_search/specs/Search.antt). `marker-means` and `run-means` (promises_runs/specs/Card1.antt) say what it means for the whole marker
+-- to begin at a slot, `MarkerAt`, and for a run to do so, `RunAt`.
 use mathlib.Core.Path.{_≡_}
 use mathlib.Core.List.{List}
 use Prim.Native.Nat.{ℕ, _+_, _-_, _*_, _^_, _≤_, _<_}
@@ -46,14 +46,14 @@ FromSlot0 = (header marker capture : List ℕ) → findCode header marker captur
 
 -- ---- the slot
 
--- the answer is not below the given slot, the whole marker stands there, and none that stands between them is passed over;
+-- the answer is not below the given slot, the whole marker begins there, and none that begins between them is passed over;
 abbrev pub EarliestFrom : Type 0
 EarliestFrom =
     (header marker capture : List ℕ) (from : ℕ) → findFromSays header marker capture from ≡ Done
     → (s : ℕ) → s ≡ firstFitFrom (planIn header marker) capture from
     → (from ≤ s) × MarkerAt header marker capture s × ((x : ℕ) → from ≤ x → x < s → MarkerAt header marker capture x → ⊥)
 
--- and where it stands at a slot, and at none between, that slot is the answer
+-- and where it begins at a slot, and at none between, that slot is the answer
 abbrev pub FoundFrom : Type 0
 FoundFrom =
     (header marker capture : List ℕ) (from : ℕ) → runSays header marker ≡ Done → length marker ≡ fieldsOf header .markers → length capture ≤ 2 ^ 53
@@ -90,7 +90,7 @@ NoneFromIs19 =
     → length capture ≤ 2 ^ 53 → ((x : ℕ) → from ≤ x → MarkerAt header marker capture x → ⊥)
     → findFromSays header marker capture from ≡ No 19 0
 
--- and of a slot beyond the capture, whatever number it is
+-- and for a slot beyond the capture, whatever its number
 abbrev pub BeyondIs19 : Type 0
 BeyondIs19 =
     (header marker capture : List ℕ) (from : ℕ) → runSays header marker ≡ Done → length marker ≡ fieldsOf header .markers

@@ -1,11 +1,11 @@
 -- Places. "The first no gives its number", and "a refusal returns number and place. Place counts from 0 and names the first that fails. It is the symbol
 -- (markers counted) for 10 to 12; the first wrong coded bit for 13 in a word call; the word in a run call for 13 to 15; the frame for 16; otherwise 0."
 --
--- Each statement has an answer on one side, number and place, and on the other the papers' words: every question that comes before is answered yes, this one
--- is answered no at p, and yes at all that come before p. So neither the number nor the place nor the order of the questions can be another.
--- What is left to names: `callSays`, 1 to 7, 20 and 8 (`run-answers`, Demand1); the fields of a header (`header-fields`, Card6) and its sizes, C, R · (S + W)
--- and the slots (`run-sizes`, Demand1); `pooled`, the symbol that its copies decide on (`pooled-is`, `pooled-only`, Card5); `codedIn`, `decode`, `encode` and
--- `blockIn` (`coded-bit-is`, `decoded-is`, `code-is`, `block-taken-out`, Card3), `register` (`register-is`, Card3); `received` and `parityBit` (Card14).
+-- Each statement has an answer on one side, number and place, and on the other the papers' words: every question that comes before is answered yes, this one is
+-- answered no at p, and yes at all that come before p. So neither the number nor the place nor the order of the questions can be another. The names that are
+-- left: `callSays`, 1 to 7, 20 and 8 (`run-answers`, Demand1); the fields of a header (`header-fields`, Card6) and its sizes, C, R · (S + W) and the slots
+-- (`run-sizes`, Demand1); `pooled`, the symbol that its copies decide on (`pooled-is`, `pooled-only`, Card5); `codedIn`, `decode`, `encode` and `blockIn`
+-- (`coded-bit-is`, `decoded-is`, `code-is`, `block-taken-out`, Card3), `register` (`register-is`, Card3); `received` and `parityBit` (Card14).
 use mathlib.Core.Path.{_≡_}
 use mathlib.Core.List.{List}
 use Prim.Native.Nat.{ℕ, _+_, _-_, _*_, _/_, _%_, _^_, _≤_, _<_}
@@ -70,14 +70,14 @@ abbrev pub MarkerRight : Fields → List ℕ → List ℕ → ℕ → Type 0
 MarkerRight f marker slots s =
     (line w : ℕ) → w < f .markers → s ≡ line * (perWord f + f .markers) + w → symbolRead f slots s ≡ getD marker w 0
 
--- 12: symbol s is 0, if it stands at a place to which no symbol t of all C · S goes, t + (t mod N) · B · N
+-- 12: symbol s is 0, if it is at a place to which no symbol t of all C · S goes, t + (t mod N) · B · N
 abbrev pub UnhitZero : Fields → List ℕ → ℕ → Type 0
 UnhitZero f slots s =
     (line i : ℕ) → i < perWord f → s ≡ line * (perWord f + f .markers) + (f .markers + i)
     → ((t : ℕ) → t < blockCount f * perWord f → t + t % f .rows * (f .step * f .rows) ≡ line * perWord f + i → ⊥)
     → symbolRead f slots s ≡ 0
 
--- the words: bit y of word j is bit y mod m, the first highest, of symbol t = j · S + y / m, which stands at place x = t + (t mod N) · B · N, and so is
+-- the words: bit y of word j is bit y mod m, the first highest, of symbol t = j · S + y / m, which is at place x = t + (t mod N) · B · N, and so is
 -- symbol x mod S after the W markers of line x / S
 abbrev pub standsAt : Fields → ℕ → ℕ
 standsAt f x = x / perWord f * (perWord f + f .markers) + (f .markers + x % perWord f)
@@ -99,7 +99,7 @@ WordGood f slots j = wordAnswer f slots j ≡ Done
 abbrev pub streamRead : Fields → List ℕ → ℕ → ℕ
 streamRead f slots x = bitAt (words.blockIn (f .rate) (wordRead f slots (x / infoBits (f .rate)))) (x % infoBits (f .rate))
 
--- 16: 1ACFFC1D stands before frame j, the first bit highest; a frame with its marker is 32 + 8 F bits
+-- 16: 1ACFFC1D comes before frame j, the first bit highest; a frame with its marker is 32 + 8 F bits
 abbrev pub FrameMarked : Fields → List ℕ → ℕ → Type 0
 FrameMarked f slots j = (r : ℕ) → r < 32 → streamRead f slots (j * (32 + 8 * f .size) + r) ≡ 0x1ACFFC1D / 2 ^ (31 - r) % 2
 

@@ -1,4 +1,4 @@
--- The words in which the promises speak of questions and answers, each by equations of its own: the first no gives its number and its place, a refused call leaves
+-- The terms in which the promises speak of questions and answers, each by equations of its own: the first no gives its number and its place, a refused call leaves
 -- the lent slice as it was, and C gets place × 256 + number. A part of demand 1.
 use mathlib.Core.Path.{_≡_}
 use mathlib.Core.Bool.{Bool, true, false, _||_}
@@ -12,7 +12,7 @@ use Rattle.answers.specs.declared.Answer.the-variants.{Done, No}
 
 -- ---- how questions follow one another
 
--- one question: yes, or its number and place; two answers of which both have to be yes; and the first no stands
+-- one question: yes, or its number and place; two tests that must both hold; and the first no, which counts
 abbrev pub AskIs : Type 0
 AskIs = (number place : ℕ) → (ask true number place ≡ Done) × (ask false number place ≡ No number place)
 
@@ -36,9 +36,10 @@ NumberIs = (number place : ℕ) → (numberOf Done ≡ 0) × (numberOf (No numbe
 abbrev pub AmongIs : Type 0
 AmongIs = (n number : ℕ) (ns : List ℕ) → (among [] number ≡ false) × (among (n ∷ ns) number ≡ eqb number n || among ns number)
 
--- ---- what the slice that was lent for a result holds afterwards: the words with `After` that the contracts of `c_calls` cite; no other slice is written
+-- ---- what the slice that was lent for a result holds afterwards: the names with `After` that the contracts of `c_calls` cite; no other slice is
+-- written
 
--- the result on acceptance, and after a refusal what it held: of every call that is lent a slice for a result, but for the rack calls (Card10)
+-- the result on acceptance, and after a refusal what it held: of every call that is lent a slice for a result, except for the rack calls (Card10)
 abbrev pub AfterIs : Type 0
 AfterIs = (new old : List ℕ) (number place : ℕ) → (after Done new old ≡ new) × (after (No number place) new old ≡ old)
 

@@ -1,6 +1,6 @@
--- What the words mean in which the other promises speak of bits, bytes and lists: each by equations of its own, so that none of them rests on a definition
+-- The meaning of the terms in which the other promises speak of bits, bytes and lists: each by equations of its own, so that none of them rests on a definition
 -- elsewhere. `getD xs i 0` is element i of a list, or 0 after its end, and `length`, `take`, `drop` and `bitXor`, the sum of bits place by place, are the kit's.
--- The words of questions and answers are in Demand1.
+-- The terms of questions and answers are in Answers.
 use mathlib.Core.Path.{_≡_}
 use mathlib.Core.Bool.{Bool, true, false}
 use mathlib.Core.List.{List}

@@ -4,10 +4,10 @@
 -- all else refused, and writer and reader undo each other. Turned away: 28 for a group that is no bit, with its place, after 9; then 29 for a
 -- failed parity check, with its codeblock."
 --
--- The definitions are those that the contracts of `uplink_write` and `uplink_read` cite (crate `c_calls`): what a call says (`uplinkWriteSays`,
--- `uplinkReadSays`), the slots of frames (`uplinkSlotsOf`), the frames in slots (`uplinkFramesOf`). Bit i of packed bytes is `bitAt`; `codeword u` is
--- the 128 bits of the codeword of the 64 bits u, `sequence` step 7's. `received slots i` is the 128 bits of codeblock i as
--- they are read, the sequence taken off. A codeblock is 512 slots, which are 64 bytes with no spare bits, so 9 has nothing to ask.
+-- The definitions are those that the contracts of `mahyrei_uplink_write` and `mahyrei_uplink_read` cite (crate `c_calls`): what a call says (`uplinkWriteSays`,
+-- `uplinkReadSays`), the slots of frames (`uplinkSlotsOf`), the frames in slots (`uplinkFramesOf`). Bit i of packed bytes is `bitAt`; `codeword u` is the 128
+-- bits of the codeword of the 64 bits u, `sequence` step 7's. `received slots i` is the 128 bits of codeblock i as they are read, with the sequence removed. A
+-- codeblock is 512 slots, which are 64 bytes with no spare bits, so 9 has nothing to ask.
 use mathlib.Core.Path.{_≡_}
 use mathlib.Core.Bool.{true, false}
 use mathlib.Core.List.{List, [], _∷_}
@@ -94,7 +94,7 @@ ReaderAsks =
 abbrev pub AlwaysWritten : Type 0
 AlwaysWritten = (frames : List ℕ) (m n : ℕ) → 1 ≤ n → n ≤ 64 → length frames ≡ 8 * n → m ≡ 64 * n → uplinkWriteSays frames m ≡ Done
 
--- What is received is what the second slots say, with the sequence taken off.
+-- What is received is what the second slots say, with the sequence removed.
 abbrev pub ReceivedIs : Type 0
 ReceivedIs = (slots : List ℕ) (i j : ℕ) → received slots i j ≡ bitXor (bitAt slots (4 * (128 * i + j) + 1)) (sequence j)
 

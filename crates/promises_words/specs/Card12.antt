@@ -47,15 +47,15 @@ WordCarriedOn = (rate : ℕ) (block : List ℕ) → wordOf rate block ≡ carrie
 abbrev pub TakenInIs : Type 0
 TakenInIs = (block : List ℕ) (i : ℕ) → takenIn block i ≡ bitXor (bitAt block i) (sequence i)
 
--- to carry on is step 3, after the k + 32 bits, then 4, 5 and 6, each of which Card3 has in figures, and 1,890 bytes
+-- carrying on is step 3, after the k + 32 bits, then 4, 5 and 6, each of which Card3 has in figures, and 1,890 bytes
 abbrev pub CarriedOnIs : Type 0
 CarriedOnIs = (rate : ℕ) (x : ℕ → ℕ) → carriedOn rate x ≡ bytesOf 1890 (accumulate (interleave (encode rate (terminated (infoBits rate + 32) x))))
 
--- the block's k bits stand first
+-- the block's k bits come first
 abbrev pub BlockFirst : Type 0
 BlockFirst = (rate : ℕ) (block : List ℕ) (i : ℕ) → i < infoBits rate → checkedBlock rate block i ≡ takenIn block i
 
--- and the check field is what stands in the 32 places after them
+-- and the check field is what is in the 32 places after them
 abbrev pub FieldBehind : Type 0
 FieldBehind = (rate : ℕ) (block : List ℕ) → val (λ t. checkedBlock rate block (infoBits rate + t)) 32 ≡ checkField rate block
 

@@ -1,8 +1,8 @@
 -- Card 13. How far one wrong bit spreads: how many coded bits change with one bit of a block, and which.
 --
 -- An information block is the k bits of a packed block (`infoBits`), and `bitAt` is bit i of packed bytes. `flipBit` is a block with one bit changed,
--- `codedOf` the 15,120 coded bits that step 4 makes of a block, `codedIn` those taken back out of a word. `spreadOf` is what the call `bit_spread`
--- gives, from the rate and the bit's number alone. A block of a rate is any list of as many bytes as the rate implies.
+-- `codedOf` the 15,120 coded bits that step 4 makes of a block, `codedIn` those taken back out of a word. `spreadOf` is what the call
+-- `mahyrei_bit_spread` gives, from the rate and the bit's number alone. A block of a rate is any list of as many bytes as the rate implies.
 use mathlib.Core.Path.{_≡_}
 use mathlib.Core.List.{List}
 use Prim.Native.Nat.{ℕ, _≤_, _<_}

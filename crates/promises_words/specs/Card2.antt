@@ -1,7 +1,7 @@
 -- Card 2. "The square term depends only on j mod 36, so 36 constants can stand in for the formula. Every promise keeps its text; show that the
 -- constants are the formula's."
 --
--- The constants are `SQUARES` of the crate `interleaver`, from which both ways of step 5 take their places. `Squares` says that a table has 36
+-- The constants are `SQUARES` of the crate `interleaver_line`, from which both ways of step 5 take their places. `Squares` says that a table has 36
 -- entries, entry c being 210 c² mod 15,120; that it holds of `SQUARES` is one computed test over all entries, in the proof of `first_line`.
 use mathlib.Core.Path.{_≡_}
 use mathlib.Core.List.{List, [], _∷_}

@@ -3,7 +3,7 @@
 -- refusal number of the lowest such block, with the block's index as place, and nothing is written. The same is wanted for reading."
 --
 -- Piece j of `size` bytes of a slice is `piece size xs j`; a packed block has 626, 941 or 1256 bytes (`blockBytes`), a word 1890. The contracts of
--- `pass_write` and `pass_read` are equations with `writeSays`, `wordsOf`, `readSays` and `blocksOf` of crate `pass`.
+-- `mahyrei_pass_write` and `mahyrei_pass_read` are equations with `passWriteSays`, `wordsOf`, `passReadSays` and `blocksOf` of crate `pass`.
 use mathlib.Core.Path.{_≡_}
 use mathlib.Core.Bool.{true}
 use mathlib.Core.List.{List, [], _∷_}

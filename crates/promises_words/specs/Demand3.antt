@@ -1,7 +1,7 @@
 -- Demand 3: sums, distances and flips, of any blocks, and so of those that the word writer accepts.
 --
 -- An information block is the k bits of a packed block (`infoBits`); bit i of packed bytes is `bitAt`, the first bit of a byte highest. The coded
--- bits taken back out of a word are `codedIn`. The numbers stand in the statements themselves.
+-- bits taken back out of a word are `codedIn`. The numbers are in the statements themselves.
 use mathlib.Core.Path.{_≡_}
 use mathlib.Core.Bool.{Bool, true}
 use mathlib.Core.List.{List}

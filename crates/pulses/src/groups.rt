@@ -32,7 +32,7 @@ pub fn difference(b: &[u8], at: usize, given: &[u8]) -> u8
     d
 }
 
-// The first forty bytes, from the c-th forty on, that are not those given; or the n-th.
+// The first forty bytes, from the c-th forty on, that are not those given; or n.
 pub fn past_zeros(b: &[u8], given: &[u8], c: usize, n: usize) -> usize
     requires { ⌜ Forties (now b) (now given) c n ⌝ }
     ensures { λ r. ⌜ (c ≤ r) × (r ≤ n) × ((k : ℕ) → c ≤ k → k < r → Same (now (b .entry)) (40 * k) (now (given .entry)) 40) ⌝ }
@@ -47,7 +47,7 @@ pub fn past_zeros(b: &[u8], given: &[u8], c: usize, n: usize) -> usize
     k
 }
 
-// And the first that may be; or the n-th.
+// The first that are, or n; only the bounds are promised.
 pub fn past_others(b: &[u8], given: &[u8], c: usize, n: usize) -> usize
     requires { ⌜ Forties (now b) (now given) c n ⌝ }
     ensures { λ r. ⌜ (c ≤ r) × (r ≤ n) ⌝ }

@@ -24,7 +24,7 @@ pub fn symbol_in(order: usize, group: usize, b: &[u8], s: usize) -> usize
     order
 }
 
-// The symbol of group s, of which is known that it has one.
+// The symbol of group s, given that it has one.
 pub fn symbol_there(order: usize, group: usize, b: &[u8], s: usize) -> usize
     requires { ⌜ Held order group (now b) s × (symbolIn order group (now b) s < order) ⌝ }
     ensures { λ r. ⌜ r ≡ symbolIn order group (now (b .entry)) s ⌝ }

@@ -10,7 +10,7 @@ ghost use Rattle.bits.specs.Pack.{bitAt};
 ghost use Rattle.pulses.specs.Inner.{Near, Far, Slots};
 ghost use Rattle.pulses.specs.Pulses.{symbolIn};
 
-// The zeros in front of the only one of 64 bits, or 64.
+// How many zeros come before the only one of 64 bits; 64 if there is no single one.
 pub fn lone(v: u64) -> usize
     ensures { λ r. ⌜ (r < 64 → v ≡ 2 ^ (63 - r)) ⌝ }
 {
@@ -24,7 +24,7 @@ pub fn lone(v: u64) -> usize
     64
 }
 
-// 1 for 0.
+// 1 if v is 0, and otherwise 0.
 pub fn none(v: u64) -> usize
     ensures { λ r. ⌜ r ≡ bool (eqb v 0) ⌝ }
 {
@@ -42,7 +42,7 @@ fn near(order: usize, group: usize, b: &[u8], s: usize) -> usize
     lone((v >> rest) << rest)
 }
 
-// The only one among the 64·n bits from byte `at` on.
+// The place of the only one among the 64·n bits from byte `at` on.
 fn only(b: &[u8], at: usize, n: usize) -> usize
     requires { ⌜ (at + 8 * n ≤ length (now b)) × (1 ≤ n) × (n ≤ 4) ⌝ }
     ensures { λ r. ⌜ (r < 64 * n → (i : ℕ) → i < 64 * n → bitAt (now (b .entry)) (8 * at + i) ≡ bool (eqb i r)) ⌝ }
@@ -81,7 +81,7 @@ fn far(order: usize, group: usize, b: &[u8], s: usize) -> usize
     only(b, at, order / 64)
 }
 
-// The groups from `from` on up to `to` all have a symbol.
+// Whether the groups from `from` up to `to` all have a symbol.
 pub fn all_good(order: usize, group: usize, b: &[u8], from: usize, to: usize) -> bool
     requires { ⌜ Slots order group to (now b) × (to * group + 64 ≤ 8 * length (now b)) ⌝ }
     ensures { λ r. ⌜ (r ≡ true → (s : ℕ) → from ≤ s → s < to → symbolIn order group (now (b .entry)) s < order) ⌝ }
@@ -107,7 +107,7 @@ fn symbol(order: usize, group: usize, b: &[u8], s: usize) -> usize
     far(order, group, b, s)
 }
 
-// The symbol of group s, of which is known that it has one, where M is at most 32.
+// The symbol of group s, given that it has one, where M is at most 32.
 fn seen_near(order: usize, group: usize, b: &[u8], s: usize) -> usize
     requires { ⌜ Near order group (now b) s × (symbolIn order group (now b) s < order) ⌝ }
     ensures { λ r. ⌜ r ≡ symbolIn order group (now (b .entry)) s ⌝ }
@@ -116,7 +116,7 @@ fn seen_near(order: usize, group: usize, b: &[u8], s: usize) -> usize
     bits::scan::leading(bits::packing::eight(b, x / 8) << (x % 8))
 }
 
-// The same where M is at least 64: the numbers before the first that is not 0, and the zeros in front of it.
+// The same where M is at least 64: the numbers before the first that is not 0, and the zeros before its one.
 fn seen_far(order: usize, group: usize, b: &[u8], s: usize) -> usize
     requires { ⌜ Far order group (now b) s × (symbolIn order group (now b) s < order) ⌝ }
     ensures { λ r. ⌜ r ≡ symbolIn order group (now (b .entry)) s ⌝ }

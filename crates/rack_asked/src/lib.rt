@@ -19,7 +19,7 @@ fn missions_right(caller: u64, owner: u64) -> bool
     owner < 4
 }
 
-// 23: whether a loan is to a mission, and another than the caller.
+// 23: whether a loan is to a mission other than the caller.
 fn loan_right(caller: u64, to: u64) -> bool
     ensures { λ r. ⌜ r ≡ both (ltb to 4) (not (eqb to caller)) ⌝ }
 {

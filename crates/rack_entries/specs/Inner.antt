@@ -1,4 +1,4 @@
--- What the functions inside ask and give.
+-- What the private functions require and ensure.
 use mathlib.Core.Path.{_≡_}
 use mathlib.Core.List.{List}
 use Prim.Native.Nat.{ℕ, _+_, _≤_, _<_}

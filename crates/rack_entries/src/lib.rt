@@ -26,7 +26,7 @@ pub fn status(area: &[u8], owner: u64, place: u64) -> u8
     0
 }
 
-// Another status, with the header as it was.
+// Sets another status, with the header as it was.
 pub fn set_status(area: &mut [u8], owner: u64, place: u64, status: u8)
     requires { ⌜ OwnedPlace owner place × (length (now area) ≡ 176) ⌝ }
     ensures { λ _. ⌜ now (area .exit) ≡ put (now (area .entry)) owner place (status ∷ headerIn (entryAt (now (area .entry)) owner place)) ⌝ }
@@ -46,7 +46,7 @@ fn write(area: &mut [u8], at: usize, from: &[u8])
     }
 }
 
-// Another entry.
+// Sets another entry.
 pub fn set_entry(area: &mut [u8], owner: u64, place: u64, status: u8, header: &[u8])
     requires { ⌜ OwnedPlace owner place × (length (now area) ≡ 176) × (length (now header) ≡ 10) ⌝ }
     ensures { λ _. ⌜ now (area .exit) ≡ put (now (area .entry)) owner place (status ∷ now (header .entry)) ⌝ }

@@ -1,4 +1,4 @@
--- Definitions, in the order in which to read them; Inner has the words of private contracts.
+-- Definitions, in the order in which to read them; Inner has those of private contracts.
 pub mod Text
 pub mod Line
 pub mod Inner

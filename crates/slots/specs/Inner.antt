@@ -1,4 +1,4 @@
--- What writer and reader ask of the words and slots that they are handed.
+-- What writer and reader require of the words and slots that they are given.
 use mathlib.Core.Path.{_≡_}
 use mathlib.Core.List.{List}
 use mathlib.Core.Bool.{Bool}

@@ -1,4 +1,4 @@
--- Definitions, in the order in which to read them; Inner has the words of private contracts.
+-- Definitions, in the order in which to read them; Inner has those of private contracts.
 pub mod Writing
 pub mod Reading
 pub mod Inner

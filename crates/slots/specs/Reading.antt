@@ -16,7 +16,7 @@ use Rattle.answers.specs.Answer.{ask, then}
 abbrev pub spareSlotsEmpty : Plan → List ℕ → Bool
 spareSlotsEmpty p b = pulses.spareEmpty (p .group) (sentCount p) b
 
--- symbol s, pooled over its copies, or M where they do not decide on one; question 10: do they? And the first of which they do not
+-- symbol s, pooled over its copies, or M where they do not decide on one; question 10: do they? And the first symbol of which they do not
 abbrev pub pooledIn : Plan → List ℕ → ℕ → ℕ
 pooledIn p b s = pool.pooled b (p .copies) (p .group) (p .order) s
 
@@ -27,18 +27,18 @@ firstBadSymbol p b = pool.firstUndecided b (p .copies) (p .group) (p .order) (la
 unfoldable pub firstBadMark : Plan → List ℕ → ℕ
 firstBadMark p b = upTo (markRight (p .layout) (p .marks) (pooledIn p b)) 0 (layoutSymbols (p .layout))
 
--- question 12: is each symbol, if it stands at a place that is not hit, 0? The first that is not
+-- question 12: is each symbol, if it is at a place that is not hit, 0? The first that is not
 unfoldable pub firstBadRest : Plan → List ℕ → ℕ
 firstBadRest p b = upTo (restZero (p .layout) (pooledIn p b)) 0 (layoutSymbols (p .layout))
 
--- symbol t of the words, where it stands; bit y of word j, and word j
+-- symbol t of the words, as read at its place; bit y of word j, and word j
 abbrev pub dataIn : Plan → List ℕ → ℕ → ℕ
 dataIn p b t = pooledIn p b (symbolOf (p .layout) (place (p .layout) t))
 
 unfoldable pub wordOut : Plan → List ℕ → ℕ → List ℕ
 wordOut p b j = wordFrom (p .bits) (p .layout) (dataIn p b) j
 
--- What `judge` answers.
+-- What `slots_say` answers.
 
 -- questions 9 to 12, in this order; the first no is the answer
 unfoldable pub slotsSay : Plan → List ℕ → Answer

@@ -10,7 +10,7 @@ use Rattle.plan.specs.Plan.{sentCount}
 abbrev pub dataSymbol : Plan → (ℕ → List ℕ) → ℕ → ℕ
 dataSymbol p word t = channel.dataAt (p .bits) (p .layout) word t
 
--- Step 9: what stands at place x
+-- Step 9: what is at place x
 abbrev pub placedSymbol : Plan → (ℕ → List ℕ) → ℕ → ℕ
 placedSymbol p word x = channel.placed (p .layout) (dataSymbol p word) x
 

@@ -50,7 +50,7 @@ pub record Repeats (z : List ℕ) : Type 0 where
   pub least : 40 ≤ length z
   pub again : (k : ℕ) → k < length z → getD z k 0 ≡ getD z (k % 40) 0
 
--- they stand in the bytes from `from` up to `to`; what stood before is as it was
+-- they are in the bytes from `from` up to `to`; what comes before those is unchanged
 pub record Laid (z before : List ℕ) (from to : ℕ) (after : List ℕ) : Type 0 where
   pub long : length after ≡ length before
   pub earlier : (k : ℕ) → k < from → getD after k 0 ≡ getD before k 0

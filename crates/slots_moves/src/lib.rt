@@ -20,7 +20,7 @@ pub fn lay_zeros(zeros: &[u8], slots: &mut [u8], from: usize, to: usize)
     }
 }
 
-// Many forties of them, so that a line is laid in few parts.
+// Fills many forties with them, so that a line is laid in few parts.
 pub fn fill_zeros(group: usize, zeros: &mut [u8])
     requires { ⌜ (1 ≤ group) × (group ≤ 320) × (40 ≤ length (now zeros)) ⌝ }
     ensures { λ _. ⌜ Zeros group (now (zeros .exit)) ⌝ }
@@ -30,7 +30,7 @@ pub fn fill_zeros(group: usize, zeros: &mut [u8])
     lay_zeros(&forty, zeros, 0, n);
 }
 
-// A zero's pulse, which stands at slot x, q slots further on.
+// Moves a zero's pulse, which is at slot x, q slots further on.
 fn move_pulse(slots: &mut [u8], x: usize, q: usize)
     requires { ⌜ (x + q < 8 * length (now slots)) × (x + q < 2 ^ 36) ⌝ }
     ensures { λ _. ⌜ now (slots .exit) ≡ flipBit (flipBit (now (slots .entry)) x) (x + q) ⌝ }
@@ -39,7 +39,7 @@ fn move_pulse(slots: &mut [u8], x: usize, q: usize)
     bits::change::flip(slots, x + q);
 }
 
-// The pulses of symbol s, which is 0, in all its copies.
+// Moves the pulses of symbol s, which is 0, in all its copies.
 fn move_copies(copies: usize, group: usize, s: usize, q: usize, slots: &mut [u8])
     requires { ⌜ Copied copies group s q (now slots) ⌝ }
     ensures { λ _. ⌜ ((p : plans.Plan) → Of p copies group s q → Moved p s q (now (slots .entry)) (now (slots .exit))) ⌝ }
@@ -51,7 +51,7 @@ fn move_copies(copies: usize, group: usize, s: usize, q: usize, slots: &mut [u8]
     }
 }
 
-// The same, without a loop where there is one.
+// The same, without a loop where there is one copy.
 pub fn move_symbol(copies: usize, group: usize, s: usize, q: usize, slots: &mut [u8])
     requires { ⌜ Copied copies group s q (now slots) ⌝ }
     ensures { λ _. ⌜ ((p : plans.Plan) → Of p copies group s q → Moved p s q (now (slots .entry)) (now (slots .exit))) ⌝ }

@@ -1,4 +1,4 @@
--- What the functions on places ask, and the words taken in so far.
+-- What the functions on places require, and the words taken in so far.
 use mathlib.Core.Path.{_≡_}
 use mathlib.Core.List.{List}
 use Prim.Native.Nat.{ℕ, _+_, _-_, _*_, _/_, _%_, _^_, _≤_, _<_}
@@ -30,14 +30,14 @@ pub record Cleared (p : Plan) (words : List ℕ) : Type 0 where
   pub room : Room p words
   pub empty : (k : ℕ) → getD words k 0 ≡ 0
 
--- symbol q was put to the words if one of them goes to place x, `delay` after its own number; otherwise r tells whether it is 0
+-- symbol q was put into the words if one of theirs goes to place x, `delay` after its own number; otherwise r says whether it is 0
 pub record Placed (total m x delay q : ℕ) (before : List ℕ) (r : ℕ) (after : List ℕ) : Type 0 where
   pub hit : delay ≤ x → x - delay < total → (r ≡ 1) × Put (x - delay) m q before after
   pub unhit : (delay ≤ x → x - delay < total → ⊥) → (r ≡ bool (eqb 0 q)) × (after ≡ before)
 
 -- ---- the words, symbol after symbol in the order of the slots: what they hold when the symbols before s were looked at
 
--- bit y of all words: that of its symbol, where this stands before s, and otherwise 0
+-- bit y of all words: that of its symbol, where this comes before s, and otherwise 0
 unfoldable pub takenBit : Plan → List ℕ → ℕ → ℕ → ℕ
 takenBit p b s y = pick (ltb (symbolOf (p .layout) (place (p .layout) (y / p .bits))) s) (dataIn p b (y / p .bits) / 2 ^ (p .bits - 1 - y % p .bits) % 2) 0
 

@@ -10,7 +10,8 @@ ghost use Rattle.slots_residues.specs.Inner.{Room};
 ghost use Rattle.slots_symbols.specs.Inner.{Row};
 ghost use Rattle.slots_places.specs.Inner.{Stretch, Placed, Tells, Known};
 
-// Symbol q, of m bits, at place x, to which a symbol comes that is delayed so far: to the words, if it is one of theirs; and whether it is right.
+// Takes symbol q, of m bits, at place x, which a symbol delayed by `delay` would hit: puts it into the words if it is one of theirs, and returns
+// whether it is right.
 fn take_place(total: usize, m: usize, x: usize, delay: usize, q: usize, words: &mut [u8]) -> u8
     requires { ⌜ ((t : ℕ) → t < total → Puts t m q (now words)) ⌝ }
     ensures { λ r. ⌜ Placed total m x delay q (now (words .entry)) r (now (words .exit)) ⌝ }
@@ -59,7 +60,7 @@ fn take_in(
     to
 }
 
-// All places from x on before y are hit, and there are at least two of each residue.
+// Whether all places from x up to y are hit, and there are at least two of each residue.
 fn full(p: plan::Plan, x: usize, y: usize) -> bool
     requires { ⌜ Fine p × (x ≤ y) ⌝ }
     ensures { λ r. ⌜ (r ≡ true → (x < y) × (delay (p .layout) (p .layout .rows - 1) ≤ x) × (y ≤ total (p .layout))) ⌝ }
@@ -117,8 +118,7 @@ fn take(p: plan::Plan, row: &[u8], from: usize, to: usize, words: &mut [u8]) -> 
     to
 }
 
-// The first wrong place as it is known when these symbols were looked at, too. Where one is wrong,
-// nobody wants the words.
+// The first wrong place, as known once these symbols have been looked at too. Where one is wrong, the words no longer matter.
 pub fn rest_after(
     p: plan::Plan,
     row: &[u8],

@@ -1,6 +1,6 @@
 // Questions 10 and 12 in one sweep over the slots, and the words in them. Forty bytes hold whole groups, and so
-// as many forties as there are copies hold whole symbols: where they are all zeros', both are answered with yes,
-// and the words stay as they are.
+// as many forties as there are copies hold whole symbols: where they are all zeros', both are answered yes, and
+// the words stay as they are.
 ghost use mathlib.Core.Path.{_≡_};
 ghost use Prim.Native.Nat.{ℕ, _+_, _*_, _≤_, _<_};
 ghost use Rattle.bits.specs.Basics.{upTo};
@@ -33,7 +33,7 @@ fn look(p: plan::Plan, b: &[u8], from: usize, to: usize, rest: usize, words: &mu
     Faults { group, rest }
 }
 
-// Forties are taken `copies` at a time. The first such part, from the c-th on, that is not all zeros'; or the n-th.
+// Forties are taken `copies` at a time. The first such part, from the c-th on, that is not all zeros'; or n.
 fn zeros_end(b: &[u8], given: &[u8], copies: usize, c: usize, n: usize) -> usize
     requires { ⌜ Parts (now b) (now given) copies c n ⌝ }
     ensures { λ r. ⌜ (c ≤ r) × (r ≤ n) × ((k : ℕ) → c * copies ≤ k → k < r * copies → Same (now (b .entry)) (40 * k) (now (given .entry)) 40) ⌝ }
@@ -41,7 +41,7 @@ fn zeros_end(b: &[u8], given: &[u8], copies: usize, c: usize, n: usize) -> usize
     pulses::groups::past_zeros(b, given, c * copies, n * copies) / copies
 }
 
-// Where parts from the c-th on end that have others: at most sixteen of them, which are fewer symbols than a line.
+// Where the parts from the c-th on that are not zeros' end: after at most sixteen, which hold fewer symbols than a line.
 fn others_end(b: &[u8], given: &[u8], copies: usize, c: usize, n: usize) -> usize
     requires { ⌜ Parts (now b) (now given) copies c n × (c < n) ⌝ }
     ensures { λ r. ⌜ (c < r) × (r ≤ n) × (r ≤ c + 16) ⌝ }

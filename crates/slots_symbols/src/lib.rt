@@ -23,14 +23,14 @@ pub fn row_out(p: plan::Plan, b: &[u8], from: usize, to: usize, row: &mut [u8]) 
     pool_rows::row_out(b, p.copies, p.group, p.order, from, to, row)
 }
 
-// 1 where both are the same.
+// 1 if both are the same.
 pub fn same(q: usize, r: usize) -> u8
     ensures { λ v. ⌜ v ≡ bool (eqb q r) ⌝ }
 {
     if q == r { 1 } else { 0 }
 }
 
-// Whether it is q. Of a symbol that is sent once, the slot of q tells.
+// Whether symbol s is q. Of a symbol that is sent once, the slot of q tells.
 pub fn is_symbol(p: plan::Plan, b: &[u8], s: usize, q: usize) -> u8
     requires { ⌜ Decided p (now b) s × (q < p .group) ⌝ }
     ensures { λ r. ⌜ r ≡ bool (eqb q (pooledIn p (now (b .entry)) s)) ⌝ }

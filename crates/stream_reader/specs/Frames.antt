@@ -1,4 +1,4 @@
--- Step 1 taken back: the stream that blocks hold, questions 16 and 18, and the frames in it.
+-- Step 1 undone: the stream that blocks hold, questions 16 and 18, and the frames in it.
 use mathlib.Core.Bool.{Bool}
 use mathlib.Core.List.{List}
 use Prim.Native.Nat.{ℕ, _+_, _*_, _/_, _%_}

@@ -1,4 +1,4 @@
--- What the functions ask of their arguments, and what the private ones say of what they found.
+-- What the functions require of their arguments, and what the private ones ensure.
 use mathlib.Core.Path.{_≡_}
 use mathlib.Core.List.{List}
 use Prim.Native.Nat.{ℕ, _+_, _*_, _≤_, _<_}
@@ -23,7 +23,7 @@ pub record Blocks (rate pieces : ℕ) (blocks : List ℕ) : Type 0 where
   pub pieces2 : pieces ≤ 210
   pub room : pieces * blockBytes rate ≤ length blocks
 
--- so do those of the n bits from bit x on
+-- and so are those of the n bits from bit x on
 pub record Held (rate : ℕ) (blocks : List ℕ) (x n : ℕ) : Type 0 where
   pub pieces : ℕ
   pub lie : Blocks rate pieces blocks
@@ -33,7 +33,7 @@ pub record Held (rate : ℕ) (blocks : List ℕ) (x n : ℕ) : Type 0 where
 abbrev pub bitOf : ℕ → Position → ℕ
 bitOf rate at = at .piece * infoBits rate + at .bit
 
--- and those of the n bits from a place on
+-- the same for the n bits from a place on
 pub record HeldAt (rate : ℕ) (blocks : List ℕ) (at : Position) (n : ℕ) : Type 0 where
   pub inside : at .bit < infoBits rate
   pub held : Held rate blocks (bitOf rate at) n

@@ -1,4 +1,4 @@
-// Eight rows of w bytes, of which rows and bits change places: byte i of the rows is a square of eight times eight bits, and each
+// Eight rows of w bytes, in which rows and bits change places: byte i of the rows is a square of eight times eight bits, and each
 // square is turned over its diagonal. In goes bit d of row t, out comes bit t of row d, bits counted from the lowest.
 //
 //     row 0   a7 .. a1 a0          row 0   h0 .. b0 a0
@@ -12,8 +12,7 @@ ghost use Prim.Native.Nat.{_+_, _*_, _≤_};
 ghost use lib.ListN.{length};
 ghost use Rattle.transpose.specs.Inner.{Mask, Exchanged, Stage, Transposed};
 
-// The d bytes from `at` on and the d after them: e bits of each change places, those that the mask has not in the first and those that it has
-// in the second.
+// The d bytes from `at` on and the d after them: e bits of each change places: those outside the mask in the first, those in it in the second.
 fn exchanged(s: &mut [u8], at: usize, d: usize, e: usize, m: u8)
     requires { ⌜ Mask e m × (at + 2 * d ≤ length (now s)) ⌝ }
     ensures { λ _. ⌜ Exchanged e m d at d (now (s .entry)) (now (s .exit)) ⌝ }
@@ -31,7 +30,7 @@ fn exchanged(s: &mut [u8], at: usize, d: usize, e: usize, m: u8)
     }
 }
 
-// The first 2 e n rows, e and e in turn.
+// A stage over the first 2 e n rows, e and e in turn.
 fn stage(s: &mut [u8], w: usize, n: usize, e: usize, m: u8)
     requires { ⌜ Mask e m × (1 ≤ w) × (2 * (w * (e * n)) ≤ length (now s)) ⌝ }
     ensures { λ _. ⌜ Stage w e n (now (s .entry)) (now (s .exit)) ⌝ }

@@ -4,7 +4,7 @@ use mathlib.Core.List.{List}
 use Prim.Native.Nat.{ℕ, _*_, _≤_}
 use lib.ListN.{length}
 
--- frames and slots of so many codeblocks
+-- frames and slots of `count` codeblocks
 pub record Framed (count : ℕ) (frames : List ℕ) : Type 0 where
   pub long : length frames ≡ 8 * count
   pub most : count ≤ 64

@@ -33,7 +33,7 @@ sentBit frames g = codeblock frames (g / 128) (g % 128)
 unfoldable pub slotOf : (ℕ → ℕ) → ℕ → ℕ
 slotOf f x = bool (eqb (x % 4) (f (x / 4)))
 
--- the frames in so many bytes, and the codeblocks
+-- how many frames, and codeblocks, so many bytes hold
 abbrev pub frameCount : List ℕ → ℕ
 frameCount frames = length frames / 8
 

@@ -31,7 +31,7 @@ fn give_out(rate: u64, input: &[u8], block: &mut [u8])
     bits::change::clear_spare(block, sizes::info_bits(rate));
 }
 
-// The block, if the questions are answered yes. Nothing is written before they are. `input` is room for the input bits.
+// The block, if the questions are answered yes. Nothing is written before they are. `input` is a buffer for the input bits.
 fn read_coded(rate: u64, coded: &[u8], input: &mut [u8], block: &mut [u8]) -> Answer
     requires { ⌜ Reads rate (now coded) (now input) (now block) ⌝ }
     ensures { λ r. ⌜ r ≡ judged rate (λ j. getD (now (coded .entry)) j 0) (code.decode rate (λ j. getD (now (coded .entry)) j 0)) ⌝ }

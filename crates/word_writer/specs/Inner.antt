@@ -1,4 +1,4 @@
--- What the functions inside the word writer ask of the slices that they are handed.
+-- What the functions inside the word writer require of their slices.
 use mathlib.Core.Path.{_≡_}
 use mathlib.Core.List.{List}
 use Prim.Native.Nat.{ℕ, _*_, _<_}
@@ -11,7 +11,7 @@ pub record Checks (rate : ℕ) (input : List ℕ) : Type 0 where
   pub rate-is : rate < 3
   pub input-is : 8 * length input ≡ inputBits rate
 
--- step 7, and then 2 and 3: a block, and room for its input bits
+-- step 7, and then 2 and 3: a block, and a buffer for its input bits
 pub record Inputs (rate : ℕ) (block input : List ℕ) : Type 0 where
   pub rate-is : rate < 3
   pub block-is : length block ≡ blockBytes rate

@@ -50,7 +50,7 @@ fn take_in(rate: u64, block: &[u8], input: &mut [u8])
     add_check(rate, input);
 }
 
-// Step 7, and then steps 2 to 4: the coded bits. `input` is room for the input bits.
+// Step 7, and then steps 2 to 4: the coded bits. `input` is a buffer for the input bits.
 fn encode(rate: u64, block: &[u8], input: &mut [u8], coded: &mut [u8])
     requires { ⌜ Codes rate (now block) (now input) (now coded) ⌝ }
     ensures { λ _. ⌜ now (coded .exit) ≡ tab wordBits (codedOf rate (now (block .entry))) ⌝ }
