@@ -135,6 +135,9 @@ HOST_TESTS = $(SHARED) $(addprefix $(HOST)/,mahyrei_lying record.so word_calls p
     uplink_calls plain_calls limits sha256_vectors sha512_vectors second_test compare_words compare_passes \
     compare_spreads compare_runs compare_captures compare_headers compare_fades compare_delays compare_racks \
     compare_uplinks) $(COMMAND_TESTS)
+# The programs of the tests alone, which `make -j` builds side by side.
+.PHONY: test-programs
+test-programs: $(HOST_TESTS) $(HOST)/soak $(HOST)/fuzz_drive
 host-test: $(HOST_TESTS)
 	@echo '#include "mahyrei_plain.h"' | $(CXX) -x c++ $(WARNINGS) -Iinclude -fsyntax-only -
 	@$(STACK) && ASAN_OPTIONS=detect_leaks=0 $(HOST)/word_calls
