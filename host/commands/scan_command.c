@@ -26,6 +26,7 @@
 #include "runs/scan_counts.h"
 #include "runs/sigmf.h"
 #include "system/descriptors.h"
+#include "system/file_id.h"
 
 /* A recording that is gone through, and what came of it. */
 struct scan {
@@ -45,24 +46,33 @@ static bool is_verbose(const struct scan *scan) {
     return scan->line->options[VERBOSE] != NULL;
 }
 
+/* The file for the frames of the run from this slot on. False where memory is short, which has been
+ * said; free it in any case. */
+static bool name_frames(const struct scan *scan, uint64_t slot, struct text *name) {
+    bool good = text_begin(name);
+    if (good) {
+        scan_print_file(name->to, scan->counts.folder, slot);
+        good = text_end(name);
+    }
+    if (!good) {
+        complain("memory", errno);
+    }
+    return good;
+}
+
 /* The bytes that were judged go out, in a file of their own. One that a scan before this one has
  * left, and which has the very bytes, is as good. */
 static bool put_frames(struct scan *scan, uint64_t slot, struct entry *of_run) {
     struct text name;
-    bool good = text_begin(&name);
+    bool good = name_frames(scan, slot, &name);
     if (good) {
-        scan_print_file(name.to, scan->counts.folder, slot);
-        good = text_end(&name);
-    }
-    if (!good) {
-        complain("memory", errno);
-    } else {
         struct output output = output_as_told(scan->line, name.at);
         output.ask = false;
         output.same_will_do = true;
         output.to_disk = true;
         spare_capture(&output, scan->recording.id);
         output_spare(&output, log_id(scan->line->log));
+        output.spared.what = "this is the recording or the log, which would be lost";
         of_run->frames.name = name.at;
         good = output_put(&output, scan->run.frames.at, scan->run.frames.len) &&
                log_add(scan->line->log, of_run, DONE);
@@ -275,9 +285,32 @@ static bool drawings_ready(const struct line *line, struct drawings *drawings) {
     return picture_ready(&drawings->picture) && picture_ready(&drawings->annotations);
 }
 
+/* Neither goes over frames that have just been written, not even with --force. */
+static bool spares_frames(const struct scan *scan, const struct output *output) {
+    const bool any = output->name != NULL && scan->counts.folder != NULL;
+    const struct file_id there = any ? file_id_named(output->name) : (struct file_id){0};
+    for (size_t i = 0; there.known && i < scan->counts.count; i++) {
+        struct text name;
+        bool good = name_frames(scan, scan->counts.runs[i].slot, &name);
+        if (good) {
+            const struct file_id frames = file_id_named(name.at);
+            good = !same_id(&there, &frames);
+            if (!good) {
+                complain_text(output->name, "this file has the frames of a run");
+            }
+        }
+        text_free(&name);
+        if (!good) {
+            return false;
+        }
+    }
+    return true;
+}
+
 static enum status summarize(struct scan *scan, const struct drawings *drawings) {
     progress_phase(PUTTING_OUT);
-    if (!recording_unchanged(&scan->recording) ||
+    if (!recording_unchanged(&scan->recording) || !spares_frames(scan, &drawings->picture) ||
+        !spares_frames(scan, &drawings->annotations) ||
         (drawings->picture.name != NULL && !put_printed(&drawings->picture, draw, scan)) ||
         (drawings->annotations.name != NULL &&
          !put_printed(&drawings->annotations, annotate, scan))) {

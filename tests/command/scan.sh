@@ -311,7 +311,7 @@ test_scan_again() {
     mkdir own
     cp recording own/run-160013.frames
     run 2 -qf scan "$header" "$marker" own/run-160013.frames own
-    has 'frames over the recording' 'this is the capture, and what is around the run would be lost' "$err"
+    has 'frames over the recording' 'this is the recording or the log, which would be lost' "$err"
     alike 'the recording then' recording own/run-160013.frames
     cp recording kept
     run 2 scan "$header" "$marker" recording --svg recording
@@ -342,6 +342,23 @@ test_scan_to_no_file() {
             same "no line of a $kind in the log" 0 "$(grep -c 'slot=160013' "$said/err")"
         done
     done
+}
+
+# Not even with --force does a picture or metadata take the place of frames that were written.
+test_scan_over_frames() {
+    begin_recording
+    local option
+    for option in svg annotations; do
+        rm -rf to
+        mkdir to
+        run 2 -q scan -f "$header" "$marker" recording to "--$option" to/../to/run-614304.frames
+        same "what is said of --$option" 'mahyrei: to/../to/run-614304.frames: this file has the frames of a run' "$err"
+        scanned
+    done
+    rm -rf to
+    mkdir to
+    run 2 --log to/run-160013.frames scan -f "$header" "$marker" recording to
+    has 'a log among the frames' 'this is the recording or the log, which would be lost' "$err"
 }
 
 test_scan_picture() {
