@@ -1,4 +1,6 @@
 // Step 6, the accumulator, on packed bits: in place, and back into another slice.
+#![tactic(auto)]
+
 ghost use Rattle.std.specs.Prelude.{◌≡◌, ◌*◌, ◌≤◌, ◌<◌, length};
 ghost use Rattle.bits.specs.Pack as packed;
 ghost use Rattle.bits.specs.Pack.{val, bit_at, bytes_of};

@@ -1,10 +1,12 @@
 // What every call answers: done, or the number of the first question answered no, with its place.
+#![tactic(auto)]
+
 ghost use Rattle.std.specs.Prelude.{◌≡◌, ◌^◌, ◌<◌};
 ghost use Rattle.answers.specs.declared.Answer.TheVariants.{Done};
 ghost use Rattle.answers.specs.Answer.{number_of, code_of, code_with};
 ghost use Rattle.answers.specs.Inner.{moved_to, Fits};
 
-#[derive(Drop)]
+#[derive(Clone, Copy)]
 pub enum Answer {
     Done,
     // the number of the question, and the place

@@ -2,7 +2,7 @@
 ghost use Rattle.std.specs.Prelude.{◌+◌, ◌*◌, ◌^◌, ◌≤◌, ◌<◌};
 ghost use Rattle.bits.specs.Inner.{At};
 
-#[derive(Drop)]
+#[derive(Clone, Copy)]
 pub struct Position {
     pub piece: usize,
     pub bit: usize,

@@ -1,6 +1,8 @@
 // The calls for C, all in one place: each passes its arguments to the crate that does the work, and returns place × 256 + number; where it accepts,
 // `mahyrei_run_find` the slot × 256, and `mahyrei_delay_write` and `mahyrei_delay_read` the symbol × 256.
 // A slice is a pointer and a length. There is no `requires`: every input has its answer, and a refused call changes no byte.
+#![tactic(auto)]
+
 ghost use Rattle.std.specs.Prelude.{◌≡◌, length};
 ghost use Rattle.answers.specs.Answer.{code_of};
 ghost use Rattle.word.specs.Word as words;

@@ -1,4 +1,6 @@
 // The slots of a run out of a capture, from any slot on, packed anew, so that they can be read.
+#![tactic(auto)]
+
 ghost use Rattle.std.specs.Prelude.{◌≡◌, ◌+◌, ◌*◌, ◌≤◌, ◌<◌, length};
 ghost use Rattle.answers.specs.Answer.{after};
 ghost use Rattle.bits.specs.Pack.{val, bit_at, bytes_of, cut};

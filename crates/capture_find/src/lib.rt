@@ -1,4 +1,6 @@
 // Finding a start in a capture: the earliest slot, from a given one on, at which the whole marker begins, each symbol with its guard slots empty.
+#![tactic(auto)]
+
 ghost use Rattle.std.specs.Prelude.{◌≡◌, ◌≤◌, ◌<◌, length};
 ghost use Rattle.answers.specs.declared.Answer.TheVariants.{Done};
 ghost use Rattle.plan.specs.Inner.{Fine};
@@ -13,7 +15,7 @@ use plan::Plan;
 pub const MOST: usize = 9007199254740992;
 
 // The result of a search: the slot is valid where the answer is done.
-#[derive(Drop)]
+#[derive(Clone, Copy)]
 pub struct Start {
     pub answer: Answer,
     pub slot: usize,

@@ -1,4 +1,6 @@
 // The marker's slots, and the search for them.
+#![tactic(auto)]
+
 ghost use Rattle.std.specs.Prelude.{◌≡◌, ℕ, ◌+◌, ◌*◌, ◌<◌, get_or};
 ghost use Rattle.bits.specs.Pack.{bit_at};
 ghost use Rattle.plan.specs.Inner.{Fine};

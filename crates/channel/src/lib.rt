@@ -1,6 +1,8 @@
 // Where the symbols of a run are. Step 8 and its inverse: symbols read from words and written into
 // them. Step 9, the channel interleaver: which symbol goes to a place, and how to walk the places
 // without a division.
+#![tactic(auto)]
+
 ghost use Rattle.std.specs.Prelude.{◌≡◌, ◌+◌, ◌*◌, ◌^◌, ◌%◌, ◌≤◌, ◌<◌};
 ghost use Rattle.bits.specs.Pack.{piece};
 ghost use Rattle.sizes.specs.Sizes.{word_bytes, word_bits};
@@ -9,7 +11,7 @@ ghost use Rattle.channel.specs.Channel.{data_at, hit_by};
 ghost use Rattle.channel.specs.Inner.{Placing, Numbers, Takes, Puts, Put};
 
 // What steps 8 to 10 go by.
-#[derive(Drop)]
+#[derive(Clone, Copy)]
 pub struct Layout {
     // N, the rows of the channel interleaver
     pub rows: usize,

@@ -1,4 +1,6 @@
 // Step 2, the check: eight bytes of the block at a time by tables, then byte by byte, and the last bits one by one.
+#![tactic(auto)]
+
 ghost use Rattle.std.specs.Prelude.{◌≡◌, ◌*◌, ◌≤◌, ◌<◌, length};
 ghost use Rattle.bits.specs.Pack.{bit_at};
 ghost use Rattle.crc.specs.Check.{register};

@@ -1,4 +1,6 @@
 // The check register moved on: by a bit, by eight bytes at a time with tables, and by bytes.
+#![tactic(auto)]
+
 ghost use Rattle.std.specs.Prelude.{◌≡◌, ◌*◌, ◌≤◌, ◌<◌, length};
 ghost use Rattle.bits.specs.Pack.{bit_at, bit_of};
 ghost use Rattle.crc.specs.Check.{advance, register};

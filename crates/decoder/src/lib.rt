@@ -4,6 +4,8 @@
 //     coded  --fast-->  input, and nothing wrong
 //        |
 //        +--back-->  input  --encode-->  made  --compare with coded-->  the first that differs
+#![tactic(auto)]
+
 ghost use Rattle.std.specs.Prelude.{◌≡◌, ℕ, ◌<◌, eqb, length, get_or};
 ghost use Rattle.bits.specs.Basics.{up_to, tab};
 ghost use Rattle.bits.specs.Pack.{bit_at};

@@ -8,6 +8,8 @@
 //             row 6   c1  c9   ..     ->          row 1   the bits 1 of c0 .. c7 | of c8 .. c15 | ..
 //              ..                                  ..
 //             row 0   c7  c15  ..                 row 6   the bits 6 of c0 .. c7 | of c8 .. c15 | ..
+#![tactic(auto)]
+
 ghost use Rattle.std.specs.Prelude.{◌≡◌, ℕ, ◌+◌, ◌*◌, ◌≤◌, ◌<◌, length};
 ghost use Rattle.decoder_bytes.specs.Inner.{room_bytes, Dealt, Takes, Stacked, Taken};
 
@@ -15,7 +17,7 @@ use word_columns::{ROW, ROWS};
 
 // Which columns have the input bits: those of two lists in turn, from `x` on in the one and from `y` on in the other, `step` places
 // apart, in so many groups of eight.
-#[derive(Drop)]
+#[derive(Clone, Copy)]
 pub struct Turns {
     pub x: usize,
     pub y: usize,

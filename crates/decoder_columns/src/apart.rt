@@ -11,7 +11,7 @@ use word_columns::ROW;
 
 // Which sums: those of a column of the first list, of the one `second` places on in the second list and of the one `third` places on in
 // the third; at every step-th place, of which 48 places have `count`.
-#[derive(Drop)]
+#[derive(Clone, Copy)]
 pub struct Sums {
     pub second: usize,
     pub third: usize,

@@ -3,6 +3,8 @@
 // wrong. By columns (see `decoder_columns`): at rate 1/3 an input bit has three columns, at 1/2 two, and at 2/3 two input bits have three.
 //
 //     coded  --columns-->  v  --sums of two, of five-->  d, e  --every 3rd, 2nd, or two of three-->  input
+#![tactic(auto)]
+
 ghost use Rattle.std.specs.Prelude.{◌≡◌, ◌*◌, length};
 ghost use Rattle.word_columns.specs.Inner.{Coded};
 ghost use Rattle.decoder_fast.specs.Inner.{third_bytes, half_bytes, two_thirds_bytes, Summed, StartsRight};

@@ -1,4 +1,6 @@
 // The rows of the delay lines, over an area in which each row overwrites its oldest byte.
+#![tactic(auto)]
+
 ghost use Rattle.std.specs.Prelude.{◌≡◌, ◌+◌, ◌%◌, ◌≤◌, eqb, length, get_or, set};
 ghost use Rattle.bits.specs.Basics.{pick};
 ghost use Rattle.delay_rows.specs.Inner.{Rows, RowOf};
@@ -6,7 +8,7 @@ ghost use Rattle.delay_rows.specs.Inner.{Rows, RowOf};
 use delay::Side;
 
 // Where a row begins, and its bytes.
-#[derive(Drop)]
+#[derive(Clone, Copy)]
 pub struct Row {
     pub begin: usize,
     pub lag: usize,

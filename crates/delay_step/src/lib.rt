@@ -1,4 +1,6 @@
 // A step of the delay lines: the questions, and then a turn of a row.
+#![tactic(auto)]
+
 ghost use Rattle.std.specs.Prelude.{◌≡◌, ◌%◌, length};
 ghost use Rattle.answers.specs.Answer.{after};
 ghost use Rattle.answers.specs.declared.Answer.TheVariants.{Done};
@@ -11,7 +13,7 @@ use delay_rows::{exchange, row_of};
 use header::form;
 
 // The result of a step: the symbol is valid where the answer is done.
-#[derive(Drop)]
+#[derive(Clone, Copy)]
 pub struct Given {
     pub answer: Answer,
     pub symbol: u8,

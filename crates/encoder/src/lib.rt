@@ -1,4 +1,6 @@
 // Step 4, the convolutional code. Input bits are packed; coded bits are one to a byte.
+#![tactic(auto)]
+
 mod tables;
 
 ghost use Rattle.std.specs.Prelude.{◌≡◌};

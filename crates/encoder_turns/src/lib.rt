@@ -1,4 +1,6 @@
 // The coded bits, a turn at a time: those of one input byte, or of two at rate 2/3, eight at once from a table.
+#![tactic(auto)]
+
 ghost use Rattle.std.specs.Prelude.{◌≡◌, ◌+◌, ◌*◌, ◌^◌, ◌≤◌, ◌<◌, length};
 ghost use Rattle.bits.specs.Pack.{bit_at};
 ghost use Rattle.bits.specs.Basics.{tab};

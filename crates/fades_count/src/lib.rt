@@ -1,4 +1,6 @@
 // Trying rows and steps against fades: how many symbols of each word the fades of a list hit.
+#![tactic(auto)]
+
 ghost use Rattle.std.specs.Prelude.{◌≡◌, ℕ, ◌<◌, length, get_or};
 ghost use Rattle.answers.specs.Answer.{after};
 ghost use Rattle.fades.specs.Fades.{counts_in, fades_say};

@@ -1,4 +1,6 @@
 // A list of fades: pairs of a first symbol and a length.
+#![tactic(auto)]
+
 ghost use Rattle.std.specs.Prelude.{◌≡◌, ◌+◌, ◌^◌, ◌<◌, leb};
 ghost use Rattle.bits.specs.Basics.{both};
 ghost use Rattle.fades.specs.Fades.{covered, list_good};

@@ -1,4 +1,6 @@
 // The walk over a run, symbol by symbol. A symbol that no fade covers costs no division.
+#![tactic(auto)]
+
 ghost use Rattle.std.specs.Prelude.{◌≡◌, ◌+◌, ◌^◌, ◌<◌, get_or};
 ghost use Rattle.fades.specs.Fades.{counts_of};
 ghost use Rattle.fades.specs.Inner.{Small};
@@ -8,7 +10,7 @@ ghost use Rattle.fades_list.specs.Inner.{Left};
 use channel::Layout;
 
 // A symbol of the run, with its number in its line, its place of step 9, and that modulo N.
-#[derive(Drop)]
+#[derive(Clone, Copy)]
 pub struct Spot {
     pub symbol: usize,
     pub column: usize,

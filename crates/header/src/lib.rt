@@ -1,8 +1,10 @@
 // The run header: ten bytes, and the fields in them. `form` reads the bytes, those of archived headers too.
+#![tactic(auto)]
+
 pub mod form;
 
 // The header's fields, with their letters in the comments.
-#[derive(Drop)]
+#[derive(Clone, Copy)]
 pub struct Fields {
     // 0 for 1/3, 1 for 1/2, 2 for 2/3
     pub rate: u64,

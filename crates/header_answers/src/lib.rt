@@ -1,4 +1,6 @@
 // Questions 1 to 7 and 20, in order; the first no gives the answer. `header_says` asks those that `runsheet` asks.
+#![tactic(auto)]
+
 ghost use Rattle.std.specs.Prelude.{◌≡◌};
 ghost use Rattle.header_questions.specs.Questions as asked;
 ghost use Rattle.header_questions.specs.Questions.{fields_say, form_says, header_says, run_says, old_says};

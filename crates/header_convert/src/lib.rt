@@ -1,4 +1,6 @@
 // The two trips of a header: an archived one of eight bytes becomes one of ten with factor 1, and one of ten with factor 1 goes back to eight.
+#![tactic(auto)]
+
 ghost use Rattle.std.specs.Prelude.{◌≡◌, ◌≤◌, length};
 ghost use Rattle.answers.specs.Answer.{after};
 ghost use Rattle.header_convert.specs.Convert.{widened, narrowed, widen_says, narrow_says};

@@ -1,4 +1,6 @@
 // The marker symbols that are passed with a header: question 7's second part.
+#![tactic(auto)]
+
 ghost use Rattle.std.specs.Prelude.{◌≡◌};
 ghost use Rattle.header_questions.specs.Questions.{lent_marks, marks_good};
 ghost use Rattle.header_sizes.specs.Inner.{Valid};

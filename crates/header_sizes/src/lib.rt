@@ -1,4 +1,6 @@
 // What a header implies, each quantity with its letter. All of them fit in 36 bits.
+#![tactic(auto)]
+
 ghost use Rattle.std.specs.Prelude.{◌≡◌, ◌≤◌};
 ghost use Rattle.header_sizes.specs.Quantities.{pulse_order, symbols_per_word, marked_bits, block_count, sequence_length, line_count, symbol_count, layout_of, sent_symbols, slots_per_symbol, slot_count, slot_bytes, frame_bytes, marker_bytes, interleaver_delay as Quantities·spread};
 ghost use Rattle.header_sizes.specs.Inner.{Valid, Shaped};

@@ -1,4 +1,6 @@
 // Questions 1 to 7 and 20 one by one, of a header or its fields: yes or no.
+#![tactic(auto)]
+
 ghost use Rattle.std.specs.Prelude.{◌≡◌};
 ghost use Rattle.header_questions.specs.Questions as asked;
 ghost use Rattle.header_sizes.specs.Inner.{Shaped};

@@ -1,4 +1,6 @@
 // The first line of a word: the coded bits that its 72 places take, by 36 constants in place of the square.
+#![tactic(auto)]
+
 ghost use Rattle.std.specs.Prelude.{◌≡◌, ◌<◌, length};
 ghost use Rattle.bits.specs.Basics.{tab};
 ghost use Rattle.word_columns.specs.Inner.{columns};

@@ -9,6 +9,8 @@
 //     v        8 planes of 540 numbers
 //       | numbers by columns, and split into bits
 //     coded    15,120 bits, one to a byte
+#![tactic(auto)]
+
 ghost use Rattle.std.specs.Prelude.{◌≡◌, length};
 ghost use Rattle.bits.specs.Basics.{tab};
 ghost use Rattle.bits.specs.Pack.{bit_at};

@@ -10,6 +10,8 @@
 //     seen     7 times 270 bytes
 //       | lines in the order of the word
 //     word     1,890 bytes: 210 lines of nine
+#![tactic(auto)]
+
 ghost use Rattle.std.specs.Prelude.{◌≡◌, ℕ, ◌<◌, length, get_or};
 ghost use Rattle.bits.specs.Pack.{bytes_of};
 ghost use Rattle.sizes.specs.Sizes.{word_bits, word_bytes};

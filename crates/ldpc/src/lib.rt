@@ -1,4 +1,6 @@
 // The (128, 64) LDPC code: the parity bits of a frame.
+#![tactic(auto)]
+
 ghost use Rattle.std.specs.Prelude.{◌≡◌};
 ghost use Rattle.bits.specs.Pack.{val, bit_of};
 ghost use Rattle.ldpc.specs.Code.{parity_bit};

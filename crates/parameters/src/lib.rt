@@ -1,4 +1,6 @@
 // The checked parameters of a run: the header's fields and the marker symbols passed with it. `check` asks questions 1 to 7 and 20.
+#![tactic(auto)]
+
 ghost use Rattle.std.specs.Prelude.{◌≡◌};
 ghost use Rattle.parameters.specs.Parameters.{parameters_of};
 ghost use Rattle.parameters.specs.Inner.{no_parameters, checked as Inner·checked};
@@ -8,7 +10,7 @@ use answers::Answer;
 use header::{Fields, form};
 
 // What a run carries along: the fields and up to 32 marker symbols, the first `markers` of `marks`.
-#[derive(Drop)]
+#[derive(Clone, Copy)]
 pub struct Parameters {
     pub fields: Fields,
     pub marks: [u8; 32],
@@ -16,7 +18,7 @@ pub struct Parameters {
 }
 
 // The verdict on a header and its marker symbols: the parameters are valid where all is answered yes.
-#[derive(Drop)]
+#[derive(Clone, Copy)]
 pub struct Checked {
     pub answer: Answer,
     pub parameters: Parameters,

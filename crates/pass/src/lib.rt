@@ -1,5 +1,7 @@
 // A pass: up to 211 packed blocks of one rate, back to back, and their words: the definitions and laws that its writer and its reader rest on, and
 // question 8, which both ask.
+#![tactic(auto)]
+
 ghost use Rattle.std.specs.Prelude.{◌≡◌, ◌≤◌};
 ghost use Rattle.pass.specs.Pass.{pass_lengths_right};
 

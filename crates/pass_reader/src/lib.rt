@@ -1,4 +1,6 @@
 // The pass reader: the blocks of words, read into a buffer of its own. Nothing is written before every word has given its block.
+#![tactic(auto)]
+
 ghost use Rattle.std.specs.Prelude.{◌≡◌, ◌≤◌, length};
 ghost use Rattle.answers.specs.declared.Answer.TheVariants.{Done};
 ghost use Rattle.answers.specs.Answer.{after, put_in_order};
@@ -18,7 +20,7 @@ fn settle(rate: u64, n: usize, words: &[u8], room: &mut [u8], blocks: &mut [u8])
     let Answer::Done = answer else {
         return answer;
     };
-    bytes::copy(room, blocks);
+    blocks.copy_from_slice(room);
     answer
 }
 

@@ -1,4 +1,6 @@
 // Words back to back, read one after another up to the first that is refused: those of a pass, and those of a run.
+#![tactic(auto)]
+
 ghost use Rattle.std.specs.Prelude.{◌≡◌, ℕ, ◌<◌};
 ghost use Rattle.bits.specs.Pack.{piece};
 ghost use Rattle.answers.specs.declared.Answer.TheVariants.{Done};

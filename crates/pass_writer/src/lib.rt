@@ -1,4 +1,6 @@
 // The pass writer: the words of blocks, one after another, straight into their places. With the lengths right no block is refused.
+#![tactic(auto)]
+
 ghost use Rattle.std.specs.Prelude.{◌≡◌, length};
 ghost use Rattle.bits.specs.Pack.{piece};
 ghost use Rattle.answers.specs.Answer.{after};

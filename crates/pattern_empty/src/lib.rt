@@ -1,4 +1,6 @@
 // Slots without a pulse, passed many at a time.
+#![tactic(auto)]
+
 ghost use Rattle.std.specs.Prelude.{◌≡◌, ℕ, ◌+◌, ◌≤◌, ◌<◌, length, get_or};
 ghost use Rattle.bits.specs.Pack.{bit_at};
 ghost use Rattle.pattern_empty.specs.Inner.{Scans};

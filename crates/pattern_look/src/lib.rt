@@ -1,4 +1,6 @@
 // Slots as numbers of 64 bits: the next pulse, and how far two rows of slots agree.
+#![tactic(auto)]
+
 ghost use Rattle.std.specs.Prelude.{◌≡◌, ◌+◌, ◌<◌, length};
 ghost use Rattle.bits.specs.Pack.{val, cut, first_set};
 ghost use Rattle.bits.specs.Inner.{bits_from};

@@ -1,4 +1,6 @@
 // A marker looked for among packed bits: one starting slot after another.
+#![tactic(auto)]
+
 ghost use Rattle.std.specs.Prelude.{◌≡◌};
 ghost use Rattle.bits.specs.Basics.{up_to};
 ghost use Rattle.bits.specs.Pack.{bit_at};

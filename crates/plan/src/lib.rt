@@ -1,4 +1,6 @@
 // What a checked header implies for a call: questions 1 to 7, 20 and 8, and the numbers that steps 8 to 10 go by.
+#![tactic(auto)]
+
 ghost use Rattle.std.specs.Prelude.{◌≡◌, ◌≤◌};
 ghost use Rattle.answers.specs.declared.Answer.TheVariants.{Done};
 ghost use Rattle.header.specs.Header.{fields_of};
@@ -13,7 +15,7 @@ use header::Fields;
 use parameters::{Checked, Parameters};
 
 // What steps 8 to 10 need of a run: the header's numbers and those that follow from them.
-#[derive(Drop)]
+#[derive(Clone, Copy)]
 pub struct Plan {
     // how many times each symbol is sent
     pub copies: usize,

@@ -1,4 +1,6 @@
 // Symbols that are sent several times in a row, pooled: question 10 over the copies.
+#![tactic(auto)]
+
 mod alone;
 mod counts;
 mod joined;

@@ -3,18 +3,18 @@ use mathlib.Core.Path.{◌≡◌, refl, sym, ap, ap₂, ◌∙◌}
 use mathlib.Core.Bool.{Bool, true, false}
 use mathlib.Core.List.{List}
 use mathlib.Core.Logic.{⊎_elim}
-use Prim.Native.Nat.{ℕ, suc, ◌+◌, ◌-◌, ◌*◌, ◌/◌, ◌%◌, ◌^◌, ◌≤◌, ◌<◌}
+use Prim.Native.Nat.{ℕ, ◌+◌, ◌-◌, ◌*◌, ◌/◌, ◌%◌, ◌^◌, ◌≤◌, ◌<◌}
 use native.Mathlib.Omega.{arith}
 use native.Mathlib.Nat.{mul_assoc, add-mul, zero-div}
 use native.Mathlib.Numerals.{add-one}
-use lib.Bits.{bit_or, bit_and, or_shr, or_mod, and_shr, and_mod, or_zero_l, or_zero_r, and_zero_r}
+use lib.Bits.{bit_or, bit_and, or_shr, or_mod, and_shr, and_mod, or_zero_r, and_zero_r}
 use lib.Pow.{field, mod-mod-pow, shr-shr, shl-shr}
 use lib.Dec.{ltb, eqb}
 use borrow.Author.Tests.{lt-ltb, le-ltb, eq-eqb, ne_eqb}
 use Rattle.bits.specs.Basics.{pick, bool}
 use Rattle.bits.proofs.Laws.Choice.{bool_lt, lt_or_le, eq_or_ne, bit_cases}
 use Rattle.bits.specs.Inner.{bits_from}
-use Rattle.bits.specs.Pack.{val, bit_at, bit_of, cut, Bits}
+use Rattle.bits.specs.Pack.{val, bit_at, bit_of, cut}
 use Rattle.bits.proofs.Laws.Pack.{bit_lt, bit_of_lt, bit_val, val_bits, cut_in, cut_bits}
 use Rattle.bits.proofs.Laws.Leading.{no_one}
 use Rattle.bits.specs.Count.{weight}
@@ -22,7 +22,7 @@ use Rattle.bits.proofs.Laws.Weight.{weight_same}
 use Rattle.pulses.proofs.Laws.Lone.{lone_bits, kept}
 use Rattle.pool.specs.Pooled.{count, peak, pooled}
 use Rattle.pool.proofs.Joining.{window_is}
-use Rattle.pool.proofs.Laws.Pooled.{Above, peak_at, peak_got, above_same, pooled_at}
+use Rattle.pool.proofs.Laws.Pooled.{peak_at, peak_got, above_same, pooled_at}
 use Rattle.pool_rows.specs.Inner.{pulses_at, worth}
 
 -- ---- bits of a number

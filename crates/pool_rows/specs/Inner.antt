@@ -1,5 +1,5 @@
 -- The copies of a symbol read as numbers of 64 bits: where they are, and what is counted in them.
-use Rattle.std.specs.Prelude.{◌≡◌, List, ℕ, ◌+◌, ◌*◌, ◌^◌, ◌≤◌, ◌<◌, length}
+use Rattle.std.specs.Prelude.{List, ℕ, ◌+◌, ◌*◌, ◌^◌, ◌≤◌, ◌<◌, length}
 use Rattle.bits.specs.Pack.{bit_at, bit_of}
 use Rattle.bits.specs.Count.{weight}
 

@@ -1,5 +1,7 @@
 // Question 10 of a stretch of symbols that are sent several times in a row, and the symbols in it, a byte to a
 // symbol.
+#![tactic(auto)]
+
 mod near;
 
 ghost use Rattle.std.specs.Prelude.{◌≡◌, ℕ, ◌+◌, ◌-◌, ◌*◌, ◌^◌, ◌≤◌, ◌<◌, length};

@@ -1,5 +1,7 @@
 // What the customer is promised, one function for each demand or card: its contract is what is promised, and it does nothing. The statements are in the
 // crates whose names begin with `promises_`, by subject, each beside its theorem.
+#![tactic(auto)]
+
 ghost use Rattle.promises_terms.specs.Terms.{Terms};
 ghost use Rattle.promises_terms.specs.Answers.{Answers};
 ghost use Rattle.promises_headers.specs.Questions.{Questions};

@@ -6,7 +6,7 @@
 -- what is not refused by one of these numbers is accepted. That every call ends is part of every proof. "Spare bits that are set" are those of slot
 -- buffers: a block's are disregarded since Card 7. The header has a factor since Card 6, with question 20; "slot groups without exactly one pulse" is
 -- question 10 for factor 1, and pools the copies for the others.
-use Rattle.std.specs.Prelude.{◌≡◌, List, ℕ, ◌+◌, ◌-◌, ◌*◌, ◌/◌, ◌^◌, min, ◌<◌, ltb, eqb, length, get_or}
+use Rattle.std.specs.Prelude.{◌≡◌, List, ℕ, ◌+◌, ◌*◌, ◌/◌, ◌^◌, min, ◌<◌, ltb, eqb, length, get_or}
 use Rattle.bits.specs.Basics.{both}
 use Rattle.answers.specs.Answer.{code_of, ask, then, after, put_in_order}
 use Rattle.answers.specs.declared.Answer.TheVariants.{No}

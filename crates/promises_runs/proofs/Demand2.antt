@@ -5,13 +5,12 @@ use mathlib.Core.Logic.{⊎_elim}
 use Prim.Native.Nat.{ℕ, zero, suc, ◌+◌, ◌*◌, ◌/◌, ◌^◌, ◌≤◌, ◌<◌}
 use native.Mathlib.Omega.{arith}
 use native.Mathlib.Nat.{div-lt_iff_lt-mul, one-le-pow}
-use native.Mathlib.Numerals.{add-one}
 use lib.Arith.{digits_lt}
 use lib.Dec.{eqb}
 use lib.ListN.{length}
 use Rattle.bits.specs.Basics.{bool}
 use Rattle.bits.proofs.Laws.Choice.{lt_or_le}
-use Rattle.bits.specs.Pack.{Bits, val, bit_at, cut}
+use Rattle.bits.specs.Pack.{Bits, bit_at, cut}
 use Rattle.bits.proofs.Laws.Pack.{length_bytes, bit_bytes, bit_bytes_past, cut_in, cut_bits, bytes_are as packed-bytes}
 use Rattle.answers.specs.Answer.{after}
 use Rattle.sizes.specs.Sizes.{word_bytes, info_bits, block_bytes}

@@ -42,7 +42,7 @@ coded_of_lem g bits x =
 recover_zeros2 : (i : ℕ) → (recover (λ k. 0) i ≡ 0) × (recover (λ k. 0) (suc i) ≡ 0)
 unfolding recover
 recover_zeros2 zero = (refl, refl)
-recover_zeros2 (suc i) = let r = recover_zeros2 i in (r.1, rw (r.0, r.1) refl)
+recover_zeros2 (suc i) = let r = recover_zeros2 i in (r.1, ap₂ (λ (p q : ℕ). bit_xor (bit_xor 0 p) q) r.1 r.0)
 
 quiet_input : (rate : ℕ) (c : ℕ → ℕ) (n : ℕ) → ((i : ℕ) → i < n → c (second_place rate i) ≡ 0) → (i : ℕ) → i < n → decode rate c i ≡ 0
 unfolding decode

@@ -4,19 +4,18 @@ use mathlib.Core.List.{List, [], ◌∷◌, ◌++◌}
 use Prim.Native.Nat.{ℕ, zero, suc, ◌+◌, ◌*◌, ◌/◌, ◌%◌, ◌^◌, ◌≤◌, ◌<◌}
 use native.Mathlib.Omega.{arith}
 use native.Mathlib.Nat.{pow-suc}
-use lib.Dec.{ltb, eqb}
+use lib.Dec.{ltb}
 use lib.ListN.{length}
 use borrow.Author.Tests.{lt-ltb, le-ltb, ne_eqb}
 use Rattle.answers.specs.declared.Answer.TheVariants.{Done, No}
-use Rattle.bits.specs.Basics.{pick, both}
-use Rattle.bits.proofs.Laws.Choice.{lt_or_le}
+use Rattle.bits.specs.Basics.{pick}
 use Rattle.sizes.specs.Sizes.{inputs_per, coded_per}
-use Rattle.header.specs.Header.{fields_of, spare_of}
+use Rattle.header.specs.Header.{fields_of}
 use Rattle.header.specs.declared.Fields.{Fields}
 use Rattle.header_sizes.specs.Quantities.{pulse_order}
 use Rattle.header_questions.specs.Questions.{question1, form_says, header_says}
 use Rattle.sheet.specs.Text.{digit, decimal_in, decimal, item, items}
-use Rattle.sheet.specs.Line.{rate_text, run_numbers, run_line, no_line, line_for, line_of, Printed}
+use Rattle.sheet.specs.Line.{rate_text, run_numbers, run_line, no_line, line_for, line_of}
 use Rattle.sheet.proofs.Examples as examples
 use Rattle.promises_sheet.specs.Runsheet.{Runsheet, PrintedIs, DecimalIs, LineRefused, LineAccepted, LineOfOthers, LineExample, spaced, numbers_of}
 

@@ -1,6 +1,6 @@
 -- The terms in which the promises speak of questions and answers, each by equations of its own: the first no gives its number and its place, a refused call leaves
 -- the lent slice as it was, and C gets place × 256 + number. A part of demand 1.
-use Rattle.std.specs.Prelude.{◌≡◌, Bool, true, false, ◌||◌, List, [], ◌∷◌, ℕ, ◌+◌, ◌-◌, ◌*◌, ◌<◌, eqb}
+use Rattle.std.specs.Prelude.{◌≡◌, Bool, true, false, ◌||◌, List, [], ◌∷◌, ℕ, ◌+◌, ◌*◌, ◌<◌, eqb}
 use Rattle.bits.specs.Basics.{both}
 use Rattle.answers.specs.Answer.{number_of, place_of, code_of, ask, then, after, put_in_order, among}
 use Rattle.answers.specs.declared.Answer.{Answer}

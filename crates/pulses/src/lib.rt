@@ -1,4 +1,6 @@
 // The pulses of symbols: slots back to symbols, with question 10. A symbol below M is M slots with one pulse, followed by M/4 guard slots.
+#![tactic(auto)]
+
 pub mod groups;
 pub mod numbers;
 

@@ -7,18 +7,18 @@ use Prim.Native.Nat.{ℕ, ◌+◌, ◌-◌, ◌*◌, ◌/◌, ◌%◌, ◌^◌, 
 use native.Mathlib.Omega.{arith}
 use lib.Bits.{bit_or, bit_and, bit_xor}
 use lib.Pow.{shr-shr}
-use lib.Dec.{ltb, eqb, eqb→eq}
-use lib.ListN.{length, get_or}
+use lib.Dec.{ltb, eqb}
+use lib.ListN.{get_or}
 use borrow.Author.Tests.{ltb-true, eq-eqb, ne_eqb, eqb-true}
 use Rattle.bits.specs.Basics.{pick, bool, both}
 use Rattle.bits.proofs.Laws.Choice.{lt_or_le, eq_or_ne, bit_cases}
 use Rattle.bits.specs.Inner.{bits_from}
-use Rattle.bits.specs.Pack.{val, bit_at, Bits}
+use Rattle.bits.specs.Pack.{val, bit_at}
 use Rattle.bits.proofs.Laws.Pack.{bit_lt, bit_val}
 use Rattle.bits.proofs.Laws.Table.{both_true}
 use Rattle.pulses.proofs.Laws.Groups.{group_made}
 use Rattle.pulses.specs.Pulses.{symbol_in}
-use Rattle.pulses_rows.specs.Inner.{Known, Reached, Forty, digit, five_of, Single, Fives}
+use Rattle.pulses_rows.specs.Inner.{Known, Reached, digit, five_of, Single, Fives}
 
 -- ---- four slots: a test of all sixteen cases, which antt computes
 

@@ -1,19 +1,17 @@
 -- Every fifth bit of a number.
 use mathlib.Core.Path.{◌≡◌, refl, sym, ap, ap₂, ◌∙◌}
-use mathlib.Core.Bool.{Bool, true, false}
 use mathlib.Core.List.{List}
 use mathlib.Core.Logic.{⊎_elim}
-use Prim.Native.Nat.{ℕ, ◌+◌, ◌-◌, ◌*◌, ◌/◌, ◌%◌, ◌^◌, ◌≤◌, ◌<◌}
+use Prim.Native.Nat.{ℕ, ◌+◌, ◌-◌, ◌*◌, ◌/◌, ◌%◌, ◌^◌, ◌<◌}
 use native.Mathlib.Omega.{arith}
 use native.Mathlib.Nat.{zero-div, mod-lt}
-use lib.Bits.{bit_or, bit_and, bit_xor, or_shr, or_mod, and_shr, and_mod, and_mask, and_zero_r, or_zero_l, or_zero_r, or_lt}
-use lib.ListN.{length, set, get_or, length-set}
+use lib.Bits.{bit_or, bit_and, bit_xor, or_shr, or_mod, and_shr, and_mod, and_mask, and_zero_r, or_zero_l, or_zero_r}
+use lib.ListN.{length, set, length-set}
 use lib.Seq.{get_or-set_same, get_or-set_other}
 use lib.Pow.{shr-shr}
 use lib.Dec.{eqb, eqb→eq}
-use Rattle.bits.specs.Basics.{bool}
-use Rattle.bits.proofs.Laws.Choice.{bit_cases, eq_or_ne}
-use Rattle.bits.proofs.Laws.Sum.{xor_digit, or_zero, same_xor, xor_bit}
+use Rattle.bits.proofs.Laws.Choice.{eq_or_ne}
+use Rattle.bits.proofs.Laws.Sum.{xor_digit, or_zero, same_xor}
 use Rattle.bits.proofs.Laws.Table.{below_all}
 use Rattle.pulses_rows.specs.Inner.{digit, five_of, Single, Fives}
 

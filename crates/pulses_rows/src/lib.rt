@@ -1,5 +1,7 @@
 // Question 10 of a stretch of groups, and the symbols in it, a byte to a symbol. Up to M = 64 each group is read
 // once.
+#![tactic(auto)]
+
 mod eighties;
 mod fives;
 pub mod forties;

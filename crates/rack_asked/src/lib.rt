@@ -1,4 +1,6 @@
 // The questions of the four calls on the rack, in order.
+#![tactic(auto)]
+
 ghost use Rattle.std.specs.Prelude.{◌≡◌, not, [], ltb, eqb};
 ghost use Rattle.bits.specs.Basics.{both};
 ghost use Rattle.rack.specs.Rack as racks;

@@ -1,4 +1,6 @@
 // The rack: four missions keep headers in it, in four places each, and lend each other the reading of them. The area is all that is kept.
+#![tactic(auto)]
+
 ghost use Rattle.std.specs.Prelude.{◌≡◌};
 ghost use Rattle.rack.specs.Rack as racks;
 ghost use Rattle.rack.specs.Rack.{entry_at, call_of, says, after_call, handed};

@@ -1,4 +1,6 @@
 // The entries of the rack's area: a status byte and a header each.
+#![tactic(auto)]
+
 ghost use Rattle.std.specs.Prelude.{◌≡◌, ◌∷◌, ◌+◌, ◌*◌, ◌≤◌, ◌<◌, length};
 ghost use Rattle.rack.specs.Rack.{entry_number, entry_at, put, status_in, header_in};
 ghost use Rattle.rack_entries.specs.Inner.{OwnedPlace, Written};

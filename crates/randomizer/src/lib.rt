@@ -1,4 +1,6 @@
 // Step 7, the randomizer: the bytes of its sequence are added to those of a slice, one period after another.
+#![tactic(auto)]
+
 ghost use Rattle.std.specs.Prelude.{◌≡◌, ◌+◌, ◌%◌, ◌≤◌, length};
 ghost use Rattle.bits.specs.Pack.{bit_at, bytes_of};
 ghost use Rattle.randomizer.specs.Randomizer.{randomize};

@@ -1,5 +1,7 @@
 // The run reader: slots to frames. Questions 1 to 7, 20 and 8, then 9 to 16 and 18, and the frames once
 // all are answered yes.
+#![tactic(auto)]
+
 ghost use Rattle.std.specs.Prelude.{◌≡◌, ℕ, ◌*◌, ◌≤◌, ◌<◌, length};
 ghost use Rattle.answers.specs.declared.Answer.TheVariants.{Done};
 ghost use Rattle.answers.specs.Answer.{after};

@@ -1,4 +1,6 @@
 // The run writer: frames to slots. Questions 1 to 7, 20 and 8, the words of the frames' blocks, and the slots of the words.
+#![tactic(auto)]
+
 ghost use Rattle.std.specs.Prelude.{◌≡◌, ℕ, ◌≤◌, ◌<◌, length};
 ghost use Rattle.answers.specs.Answer.{after};
 ghost use Rattle.header_sizes.specs.Quantities.{block_count};

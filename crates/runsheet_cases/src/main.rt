@@ -1,37 +1,19 @@
 // Prints what `runsheet` prints of each file that is named as an argument, after the file's name.
-use libc::STDOUT_FILENO;
+#![tactic(auto)]
 
-fn print_line(fd: i32) {
-    let mut header = [0u8; 11];
-    let n = io::read_full(fd, &mut header);
-    let mut text = [0u8; 256];
-    let k = sheet::line(&header[..n], &mut text);
-    io::write_all(STDOUT_FILENO, &text[..k]);
-}
+use std::{env, fs, io};
 
-fn print_case(name: &[u8]) {
-    let fd = os::open_read(name);
-    if fd < 0 {
-        os::fail(name);
-        return;
+fn main(rt: HostRuntime) -> io::Result<()> {
+    let mut out = rt.stdout();
+    for name in env::args(&rt)?.skip(1) {
+        match fs::File::open(&rt, name.as_str()) {
+            Ok(mut file) => {
+                out.write_all(name.as_bytes())?;
+                out.write_all(b": ")?;
+                sheet::print::print_line(&mut file, &mut out)?;
+            }
+            Err(error) => eprintln!(rt; "{name}: {error}")?,
+        }
     }
-    io::write_all(STDOUT_FILENO, name);
-    io::write_all(STDOUT_FILENO, b": ");
-    print_line(fd);
-    libc::close(fd);
-}
-
-fn print_argument(i: usize) {
-    let mut path = io::buffer();
-    let n = os::arg(i, &mut path);
-    print_case(&path[..n]);
-}
-
-fn main() {
-    let count = os::arg_count();
-    let mut i = 1usize;
-    while i < count {
-        print_argument(i);
-        i += 1;
-    }
+    Ok(())
 }

@@ -1,4 +1,7 @@
 // The line that `runsheet` prints of a header: what a run with it holds, or the number of the question that it fails.
+#![tactic(auto)]
+
+pub mod print;
 mod text;
 
 ghost use Rattle.std.specs.Prelude.{◌≡◌, ◌≤◌, ◌<◌, length};

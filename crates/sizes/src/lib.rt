@@ -1,4 +1,6 @@
 // The sizes that several crates share: those of a word, of a marked frame, and of a block at each code rate (0 for 1/3, 1 for 1/2, 2 for 2/3).
+#![tactic(auto)]
+
 ghost use Rattle.std.specs.Prelude.{◌≡◌, ◌^◌, ◌<◌};
 ghost use Rattle.sizes.specs.Sizes.{span as Sizes·span, info_bits, block_bytes};
 ghost use Rattle.sizes.specs.Inner.{input_bits};

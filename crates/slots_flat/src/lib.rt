@@ -1,4 +1,6 @@
 // Places that are all hit where N is 1: symbol t is at place t, and symbols of two or four bits fill whole bytes.
+#![tactic(auto)]
+
 ghost use Rattle.std.specs.Prelude.{◌≡◌, ℕ, ◌+◌, ◌-◌, ◌*◌, ◌^◌, ◌≤◌, ◌<◌};
 ghost use Rattle.slots_residues.specs.Inner.{Room, Scatters, Scattered, Hit, Shown, Laid, before};
 

@@ -1,4 +1,6 @@
 // Step 8 of many symbols: those of packed words that are n apart, one to a byte of a row.
+#![tactic(auto)]
+
 ghost use Rattle.std.specs.Prelude.{◌≡◌, true, ℕ, ◌+◌, ◌-◌, ◌*◌, ◌/◌, ◌%◌, ◌≤◌, ◌<◌, length};
 ghost use Rattle.slots_gather.specs.Inner.{symbol_in, Column, Places, Gather, Strides, cut_from, Bytewise};
 

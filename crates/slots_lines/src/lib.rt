@@ -1,4 +1,6 @@
 // Steps 8 and 9, the symbols of a line and the markers before it: their pulses are moved, residue by residue modulo N.
+#![tactic(auto)]
+
 ghost use Rattle.std.specs.Prelude.{◌≡◌, ℕ, ◌+◌, ◌*◌, ◌%◌, ◌^◌, ◌≤◌, ◌<◌, List, length};
 ghost use Rattle.plan.specs.Inner.{Fine, slot_bytes};
 ghost use Rattle.bits.specs.Pack.{piece};

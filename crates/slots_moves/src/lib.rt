@@ -1,4 +1,6 @@
 // Step 10, the slots of zeros, laid many bytes at a time, and the pulses of the other symbols, moved to where they belong.
+#![tactic(auto)]
+
 ghost use Rattle.std.specs.Prelude.{◌≡◌, ◌+◌, ◌*◌, ◌^◌, ◌≤◌, ◌<◌, length};
 ghost use Rattle.plan.specs.declared.Plan as plans;
 ghost use Rattle.bits.specs.Pack.{flip_bit};

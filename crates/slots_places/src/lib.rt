@@ -1,4 +1,6 @@
 // Question 12, and the words: a place that is hit has a symbol of theirs, and the others hold 0. The symbols are in a row of bytes.
+#![tactic(auto)]
+
 ghost use Rattle.std.specs.Prelude.{◌≡◌, true, List, ℕ, ◌+◌, ◌-◌, ◌*◌, ◌≤◌, ◌<◌};
 ghost use Rattle.channel.specs.Channel.{unit, total};
 ghost use Rattle.channel.specs.Inner.{Puts, delay};

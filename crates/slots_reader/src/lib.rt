@@ -1,4 +1,6 @@
 // Steps 10 to 8 undone, with questions 9 to 12: slots back to words.
+#![tactic(auto)]
+
 mod sweep;
 
 ghost use Rattle.std.specs.Prelude.{◌≡◌, ℕ, ◌<◌};

@@ -12,7 +12,7 @@ ghost use Rattle.slots.specs.Reading.{first_bad_symbol};
 
 // The first undecided symbol, and the first wrong place as far as it was looked for; the number of symbols
 // where there is none.
-#[derive(Drop)]
+#[derive(Clone, Copy)]
 pub struct Faults {
     pub group: usize,
     pub rest: usize,

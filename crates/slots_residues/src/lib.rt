@@ -1,4 +1,6 @@
 // Places that are all hit, residue by residue modulo N: places N apart have one delay, so that their symbols are N apart too.
+#![tactic(auto)]
+
 ghost use Rattle.std.specs.Prelude.{◌≡◌, true, ℕ, ◌+◌, ◌-◌, ◌*◌, ◌%◌, ◌^◌, ◌≤◌, ◌<◌, length, get_or, set};
 ghost use Rattle.std.specs.Int.Bits.{bit_xor};
 ghost use Rattle.channel.specs.Inner.{Puts, Put};

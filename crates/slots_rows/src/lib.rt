@@ -1,4 +1,6 @@
 // Steps 8 to 10 of a line whose symbols are short: they are gathered in a row, one to a byte, residue by residue modulo N, and laid forty slots at a time.
+#![tactic(auto)]
+
 ghost use Rattle.std.specs.Prelude.{◌≡◌, true, ℕ, ◌+◌, ◌-◌, ◌*◌, ◌%◌, ◌≤◌, ◌<◌};
 ghost use Rattle.plan.specs.Inner.{Fine};
 ghost use Rattle.bits.specs.Pack.{piece};

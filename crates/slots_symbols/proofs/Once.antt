@@ -9,7 +9,7 @@ use Rattle.bits.proofs.Laws.First.{same_from}
 use Rattle.pool.specs.Inner as pool
 use Rattle.pool.proofs.Laws.Pooled as pool_laws
 use Rattle.pulses.specs.Inner.{Slots}
-use Rattle.pulses.proofs.Laws.Goals.{fewer, sizes}
+use Rattle.pulses.proofs.Laws.Needs.{fewer, sizes}
 use Rattle.pulses.specs.Pulses.{symbol_in, grouped}
 use Rattle.plan.specs.declared.Plan.{Plan}
 use Rattle.channel.specs.Channel.{layout_symbols}

@@ -1,5 +1,7 @@
 // Symbols, pooled over their copies, and question 11 of the marker symbols. A symbol that is sent once is the only pulse of its group, and there are
 // faster ways to that.
+#![tactic(auto)]
+
 ghost use Rattle.std.specs.Prelude.{◌≡◌, ◌≤◌, ◌<◌, ◌+◌, ◌*◌, eqb, length};
 ghost use Rattle.bits.specs.Basics.{bool, up_to};
 ghost use Rattle.channel.specs.Channel.{layout_symbols, unit, mark_right};

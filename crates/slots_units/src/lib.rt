@@ -1,4 +1,6 @@
 // Step 10, the slots of symbols that lie in a row, one to a byte: forty at a time, as one number. A symbol's pulses are those of a zero moved on.
+#![tactic(auto)]
+
 ghost use Rattle.std.specs.Prelude.{◌≡◌, List, ℕ, ◌+◌, ◌-◌, ◌*◌, ◌/◌, ◌%◌, ◌^◌, ◌≤◌, ◌<◌, length};
 ghost use Rattle.bits.specs.Inner.{Laid};
 ghost use Rattle.bits.specs.Pack.{val};

@@ -1,4 +1,6 @@
 // Steps 8 to 10: the words' symbols, spread by the channel interleaver, with markers before every line, as slots with one pulse to a symbol, each symbol sent as often as the factor says.
+#![tactic(auto)]
+
 ghost use Rattle.std.specs.Prelude.{◌≡◌, ◌+◌, ◌*◌, ◌<◌};
 ghost use Rattle.bits.specs.Pack.{piece};
 ghost use Rattle.channel.specs.Channel.{unit};

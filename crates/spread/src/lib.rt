@@ -1,5 +1,7 @@
 // How far one wrong bit spreads: the coded bits that change with one bit of a block, whatever the
 // block holds.
+#![tactic(auto)]
+
 ghost use Rattle.std.specs.Prelude.{◌≡◌, ℕ, ◌<◌, length};
 ghost use Rattle.bits.specs.Pack.{bit_at};
 ghost use Rattle.bits.specs.Basics.{tab};

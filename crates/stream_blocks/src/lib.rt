@@ -1,4 +1,6 @@
 // The stream cut into blocks of k bits, each packed with two spare zero bits.
+#![tactic(auto)]
+
 ghost use Rattle.std.specs.Prelude.{◌≡◌, ◌+◌, ◌-◌, ◌*◌, ◌^◌, ◌≤◌, ◌<◌, length};
 ghost use Rattle.bits.specs.Pack.{val, bytes_of};
 ghost use Rattle.bits.specs.Inner.{Made};

@@ -1,4 +1,6 @@
 // The frames, out of the stream that blocks hold.
+#![tactic(auto)]
+
 ghost use Rattle.std.specs.Prelude.{◌≡◌, ◌+◌, ◌*◌, ◌≤◌, ◌<◌, length};
 ghost use Rattle.bits.specs.Pack.{piece};
 ghost use Rattle.bits.specs.Inner.{Laid, Made};

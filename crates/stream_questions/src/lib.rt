@@ -1,4 +1,6 @@
 // Questions 16 and 18, of the stream that blocks hold.
+#![tactic(auto)]
+
 ghost use Rattle.std.specs.Prelude.{◌≡◌, ◌+◌, ◌*◌};
 ghost use Rattle.bits.specs.Pack.{piece};
 ghost use Rattle.sizes.specs.Sizes.{info_bits, block_bytes};

@@ -1,1 +1,2 @@
 // Step 1: what the stream of the marked frames is, and its blocks. Definitions and laws; there is no code here.
+#![tactic(auto)]

@@ -8,6 +8,8 @@
 //
 // By fours, then by twos, then one by one: in a stage of e the upper e of 2 e bits in the first e of 2 e rows change places with the
 // lower e bits in the e rows after them. All w squares go through a stage together.
+#![tactic(auto)]
+
 ghost use Rattle.std.specs.Prelude.{◌+◌, ◌*◌, ◌≤◌, length};
 ghost use Rattle.transpose.specs.Inner.{Mask, Exchanged, Stage, Transposed};
 

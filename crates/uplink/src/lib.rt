@@ -1,4 +1,6 @@
 // The uplink: what it is, for its writer and its reader. The only code is question 8 and the part of step 7's sequence that a codeblock gets.
+#![tactic(auto)]
+
 pub mod sequence;
 
 ghost use Rattle.std.specs.Prelude.{◌≡◌};

@@ -1,4 +1,6 @@
 // What is heard of an uplink: the bits of its slots, and the frame of a codeblock that passes.
+#![tactic(auto)]
+
 ghost use Rattle.std.specs.Prelude.{◌≡◌, ◌+◌, ◌-◌, ◌*◌, ◌/◌, ◌%◌, ◌^◌, ◌≤◌, ◌<◌, length};
 ghost use Rattle.bits.specs.Pack.{val, bit_at};
 ghost use Rattle.ldpc.specs.Code.{is_codeword};

@@ -1,4 +1,6 @@
 // The uplink's reader: slots to frames. Question 8, then 28 and 29, and the frames once all are answered yes.
+#![tactic(auto)]
+
 ghost use Rattle.std.specs.Prelude.{◌≡◌, ◌+◌, ◌*◌, ◌/◌, ◌<◌, length};
 ghost use Rattle.answers.specs.Answer.{after};
 ghost use Rattle.uplink.specs.Uplink.{uplink_frames_of, first_no_bit, first_bad_block, uplink_slots_say, uplink_read_says};

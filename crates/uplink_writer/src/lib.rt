@@ -1,4 +1,6 @@
 // The uplink's writer: frames to slots.
+#![tactic(auto)]
+
 ghost use Rattle.std.specs.Prelude.{◌≡◌, ◌+◌, ◌*◌, ◌≤◌, ◌<◌, length};
 ghost use Rattle.bits.specs.Pack.{val, bit_of};
 ghost use Rattle.bits.specs.Inner.{Laid};

@@ -9,7 +9,7 @@ use lib.Bits.{bit_xor}
 use lib.Dec.{ltb, eqb}
 use borrow.Author.Tests.{lt-ltb, le-ltb}
 use Rattle.bits.specs.Basics.{pick, bool}
-use Rattle.bits.specs.Pack.{val, bit_at, cut}
+use Rattle.bits.specs.Pack.{val, bit_at}
 use Rattle.bits.proofs.Laws.Choice.{lt_or_le}
 use Rattle.bits.proofs.Laws.Pack.{val_same}
 use Rattle.sizes.specs.Sizes.{info_bits, inputs_per, coded_per}

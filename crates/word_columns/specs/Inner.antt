@@ -1,5 +1,5 @@
 -- A coded word in seven rows of 2,160 bits, each in 30 lines of 72 columns; the seven bits at one place of the rows are one number.
-use Rattle.std.specs.Prelude.{◌≡◌, List, ℕ, zero, suc, ◌+◌, ◌-◌, ◌*◌, ◌/◌, ◌%◌, ◌<◌, ◌^◌, ◌≤◌, ltb, eqb, length, get_or}
+use Rattle.std.specs.Prelude.{◌≡◌, List, ℕ, zero, suc, ◌+◌, ◌-◌, ◌*◌, ◌/◌, ◌%◌, ◌<◌, ltb, eqb, length, get_or}
 use Rattle.std.specs.Int.Bits.{bit_and}
 use Rattle.bits.specs.Basics.{pick}
 use Rattle.bits.specs.Pack.{val}

@@ -14,6 +14,8 @@
 // Here are the moves, whatever the 36 constants are: numbers made of coded bits (`mixing`) by masks that say which bit of a number each
 // row fills (`masks`); numbers of other rows, and lines in another order (`rows`); numbers taken column by column, and split into coded
 // bits (`picking`).
+#![tactic(auto)]
+
 pub mod masks;
 pub mod mixing;
 pub mod picking;

@@ -1,4 +1,6 @@
 // Step 4 of a word undone, and questions 13, 14 and 15 of the input bits that this gives.
+#![tactic(auto)]
+
 ghost use Rattle.std.specs.Prelude.{◌≡◌, ℕ, ◌<◌, get_or};
 ghost use Rattle.bits.specs.Pack.{bit_at};
 ghost use Rattle.sizes.specs.Inner.{input_bits};

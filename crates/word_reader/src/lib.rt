@@ -1,4 +1,6 @@
 // The word reader: a word to its packed information block, by steps 6 to 2 and then step 7 undone, and the questions on the way.
+#![tactic(auto)]
+
 ghost use Rattle.std.specs.Prelude.{◌≡◌, ◌<◌, length, get_or};
 ghost use Rattle.bits.specs.Pack.{bit_at};
 ghost use Rattle.bits.specs.Basics.{tab};

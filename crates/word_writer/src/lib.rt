@@ -1,4 +1,6 @@
 // The word writer: a packed information block to its word of 1,890 bytes, by step 7 and then steps 2 to 6.
+#![tactic(auto)]
+
 ghost use Rattle.std.specs.Prelude.{◌≡◌, ℕ, ◌+◌, ◌<◌, length, get_or};
 ghost use Rattle.bits.specs.Pack.{bit_at, bytes_of};
 ghost use Rattle.bits.specs.Basics.{tab};
@@ -44,7 +46,8 @@ fn take_in(rate: u64, block: &[u8], input: &mut [u8])
     requires { Inputs rate block.now input.old }
     ensures { (i : ℕ) → i < input_bits rate → bit_at input.new i ≡ input_of rate block.now i }
 {
-    bytes::copy(block, input);
+    let n = block.len();
+    input[..n].copy_from_slice(block);
     randomizer::randomize(input);
     add_check(rate, input);
 }

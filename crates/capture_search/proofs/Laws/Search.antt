@@ -28,7 +28,7 @@ use Rattle.plan.specs.Plan.{plan_in}
 use Rattle.plan.specs.Inner.{Fine}
 use Rattle.plan.proofs.Laws.Accepted.{plan_fine}
 use Rattle.pulses.specs.Inner.{Sizes}
-use Rattle.pulses.proofs.Laws.Goals.{sizes}
+use Rattle.pulses.proofs.Laws.Needs.{sizes}
 use Rattle.bits.specs.Basics.{first_from}
 use Rattle.bits.specs.Pack.{bit_at}
 use Rattle.pulses.specs.Pulses.{slot_bit}

@@ -6,7 +6,7 @@ use mathlib.Core.Logic.{◌⊎◌, inl, inr, ⊎_elim}
 use Prim.Native.Nat.{ℕ, ◌+◌, ◌-◌, ◌*◌, ◌/◌, ◌%◌, ◌^◌, ◌≤◌, ◌<◌}
 use native.Mathlib.Omega.{arith}
 use native.Mathlib.Nat.{le_refl, mod-lt, div-add-mod'}
-use lib.Dec.{ltb, eqb}
+use lib.Dec.{eqb}
 use lib.ListN.{length, get_or}
 use borrow.Author.Tests.{lt-ltb, ltb-true, eq-eqb, ne_eqb, eqb-true}
 use Rattle.bits.specs.Basics.{up_to}
@@ -17,7 +17,7 @@ use Rattle.bits.proofs.Laws.Pack.{val_same, bit_val}
 use Rattle.bits.proofs.Laws.Table.{true_false}
 use Rattle.answers.specs.declared.Answer.{Answer}
 use Rattle.answers.specs.declared.Answer.TheVariants.{Done, No}
-use Rattle.answers.specs.Answer.{number_of, ask, then, among}
+use Rattle.answers.specs.Answer.{ask, then, among}
 use Rattle.answers.proofs.Laws.Answer.{no_done, then_then, then_done, ask_done, ask_yes, ask_no, ask_refused, all_done, done_all}
 use Rattle.channel.specs.Channel.{total, unit, layout_symbols, place, hit_by, mark_right, rest_zero}
 use Rattle.channel.specs.declared.Layout.{Layout}

@@ -13,7 +13,7 @@ use Rattle.bits.proofs.Laws.Table.{true_false}
 use Rattle.answers.specs.declared.Answer.{Answer}
 use Rattle.answers.specs.declared.Answer.TheVariants.{Done, No}
 use Rattle.answers.specs.Answer.{number_of, ask, then, is_done, first_refused, put_in_order}
-use Rattle.answers.proofs.Laws.Answer.{then_done, ask_done, ask_yes, ask_no, ask_refused, then_refused, done_is}
+use Rattle.answers.proofs.Laws.Answer.{ask_done, ask_yes, ask_refused, then_refused, done_is}
 
 -- p is the first of n at which a question is answered no; it is answered yes at all of them
 abbrev pub FirstNo : ℕ → (ℕ → Type 0) → ℕ → Type 0

@@ -31,7 +31,7 @@ use Rattle.channel.proofs.Laws.Markers.{line_mark, line_place}
 use Rattle.channel.specs.Channel.{total, unit, layout_symbols, place, hit_by}
 use Rattle.pulses.specs.Pulses as pulses
 use Rattle.pulses.proofs.Laws.Pulses.{slot_in, slot_past}
-use Rattle.slots.specs.Writing.{data_symbol, sent_at, run_slots}
+use Rattle.slots.specs.Writing.{sent_at, run_slots}
 use Rattle.slots.specs.Reading.{spare_slots_empty, first_bad_symbol, first_bad_mark, first_bad_rest, word_out, slots_say}
 use Rattle.run.specs.Run.{stream_of, word_at, run_of, stream_in, words_say, stream_says, buffer_says}
 use Rattle.run.specs.Steps.{step1, block, word, step8, standing, step10, slot}

@@ -5,7 +5,7 @@ use mathlib.Core.Logic.{⊎_elim}
 use Prim.Native.Nat.{ℕ, ◌+◌, ◌-◌, ◌*◌, ◌/◌, ◌%◌, ◌^◌, ◌≤◌, ◌<◌}
 use native.Mathlib.Omega.{arith}
 use native.Mathlib.Nat.{le_refl, mul-le-mul, mul_assoc, mul_comm, mul_left_comm, mul-add, add-mul, mod-lt, mul-mod_left, mul-div_cancel, div-add-mod'}
-use lib.Arith.{digits_div, digits_mod, mod-mul}
+use lib.Arith.{digits_mod, mod-mul}
 use lib.Bits.{bit_and, and_mask}
 use lib.ListN.{length, get_or}
 use lib.Pow.{pow_mono, pow_pos}

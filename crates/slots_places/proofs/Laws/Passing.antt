@@ -15,7 +15,7 @@ use Rattle.bits.proofs.Laws.First.{first_skip, first_end, part_fails, part_passe
 use Rattle.sizes.specs.Sizes.{word_bits}
 use Rattle.pulses.specs.Inner.{Zeros, Same}
 use Rattle.pulses.proofs.Laws.Zeros.{whole_groups, some_groups, forty_at, forty_zeros}
-use Rattle.pulses.proofs.Laws.Goals.{sizes}
+use Rattle.pulses.proofs.Laws.Needs.{sizes}
 use Rattle.pool.specs.Pooled as pool
 use Rattle.pool.proofs.Laws.Pooled.{pooled_copies}
 use Rattle.slots.proofs.Laws.Bounds.{bounds, shape}

@@ -1,6 +1,6 @@
 -- A line's symbols, residue by residue: places of one residue have one delay, so that their symbols are as far apart as the places.
 use mathlib.Core.Path.{◌≡◌, refl, sym, ap, ◌∙◌}
-use mathlib.Core.Bool.{Bool, true, false}
+use mathlib.Core.Bool.{Bool}
 use mathlib.Core.List.{List}
 use mathlib.Core.Logic.{⊎_elim}
 use Prim.Native.Nat.{ℕ, ◌+◌, ◌-◌, ◌*◌, ◌/◌, ◌%◌, ◌^◌, ◌≤◌, ◌<◌, min, max}
@@ -12,7 +12,6 @@ use borrow.Author.Tests.{lt-ltb, le-ltb}
 use Rattle.bits.specs.Basics.{pick}
 use Rattle.bits.specs.Pack.{piece, cut}
 use Rattle.bits.proofs.Laws.Choice.{lt_or_le, eq_or_ne}
-use Rattle.bits.proofs.Laws.Pack.{cut_in, cut_past}
 use Rattle.channel.specs.Channel.{total, unit, layout_symbols}
 use Rattle.channel.specs.Inner.{delay}
 use Rattle.channel.proofs.Laws.Markers.{line_in, line_place}

@@ -6,10 +6,10 @@ use Prim.Native.Nat.{ℕ, ◌+◌, ◌-◌, ◌*◌, ◌/◌, ◌%◌, ◌^◌, 
 use native.Mathlib.Omega.{arith}
 use native.Mathlib.Nat.{le_refl, mul-le-mul, mul_assoc, mul_comm, add-mul, mod-lt, div-add-mod', add-mul-div_right, div-div-eq-div-mul, div-lt_iff_lt-mul, le-div_iff_mul-le}
 use lib.Dec.{eqb}
-use lib.ListN.{length, get_or}
+use lib.ListN.{get_or}
 use Rattle.bits.specs.Basics.{bool}
 use Rattle.bits.specs.Inner.{Laid}
-use Rattle.bits.specs.Pack.{val, bit_at, Bits, Bytes}
+use Rattle.bits.specs.Pack.{bit_at, Bits, Bytes}
 use Rattle.bits.proofs.Laws.Choice.{lt_or_le}
 use Rattle.bits.proofs.Laws.Pack.{bit_val, cut_in, cut_past}
 use Rattle.channel.specs.Channel.{layout_symbols}

@@ -4,14 +4,14 @@ use mathlib.Core.List.{List}
 use mathlib.Core.Logic.{⊎_elim}
 use Prim.Native.Nat.{ℕ, ◌+◌, ◌-◌, ◌*◌, ◌/◌, ◌%◌, ◌^◌, ◌≤◌, ◌<◌}
 use native.Mathlib.Omega.{arith}
-use native.Mathlib.Nat.{le_refl, mul-le-mul, mul_assoc, mul_comm, mod-lt, mod-eq_of_lt, add-mod-mod, add-mod_right, add-mul-mod_self_right, add-mul-div_right, div-div-eq-div-mul, div-lt_iff_lt-mul, le-div_iff_mul-le}
+use native.Mathlib.Nat.{le_refl, mul-le-mul, mul_assoc, mul_comm, mod-lt, mod-eq_of_lt, add-mod-mod, add-mod_right, add-mul-mod_self_right, add-mul-div_right}
 use lib.Arith.{digits_div}
 use lib.Bits.{bit_or}
 use lib.Dec.{eqb, lit<}
-use lib.ListN.{length, get_or}
+use lib.ListN.{get_or}
 use lib.Pow.{high, shl_exact}
 use borrow.Author.Tests.{eq-eqb, ne_eqb}
-use Rattle.bits.specs.Basics.{pick, bool}
+use Rattle.bits.specs.Basics.{bool}
 use Rattle.bits.specs.Pack.{val, Bits}
 use Rattle.bits.proofs.Laws.Choice.{lt_or_le, eq_or_ne, bool_lt}
 use Rattle.bits.proofs.Laws.Pack.{val_lt, val_same, bit_val}

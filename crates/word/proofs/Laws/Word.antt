@@ -1,6 +1,6 @@
 -- The laws of the word: its steps in figures, what each step makes of bits, of equal bits and of sums, the way back, and a written word read again.
 use mathlib.Core.Path.{◌≡◌, refl, sym, ap, ap₂, ◌∙◌}
-use mathlib.Core.List.{List, [], ◌++◌}
+use mathlib.Core.List.{List, ◌++◌}
 use Prim.Native.Nat.{ℕ, ◌+◌, ◌-◌, ◌*◌, ◌/◌, ◌%◌, ◌^◌, ◌≤◌, ◌<◌}
 use lib.ListN.{length, get_or, take, drop, length-append, get_or-append}
 use mathlib.Core.Bool.{true}
@@ -11,8 +11,8 @@ use lib.Dec.{eqb}
 use lib.Seq.{take-length}
 use borrow.Author.Tests.{eq-eqb, eqb-true}
 use Rattle.bits.specs.Pack.{Bytes, val, bit_at, bytes_of, cut, Bits}
-use Rattle.sizes.specs.Sizes.{block_bytes, info_bits, inputs_per, coded_per, word_bits, word_bytes}
-use Rattle.bits.specs.Basics.{bool, tab}
+use Rattle.sizes.specs.Sizes.{block_bytes, info_bits, word_bits, word_bytes}
+use Rattle.bits.specs.Basics.{tab}
 use Rattle.bits.proofs.Laws.Choice.{lt_or_le}
 use Rattle.bits.proofs.Laws.Sum.{sum3, xor_same, same_xor}
 use Rattle.bits.proofs.Laws.Table.{both_true, get_or_tab, tab_same}
@@ -20,17 +20,17 @@ use Rattle.bits.proofs.Laws.First.{none_fails, all_pass}
 use Rattle.bits.proofs.Laws.Pack.{bit_lt, bit_bytes, bit_val, val_bits, val_same, bytes_made, bytes_same, bytes_are, length_bytes, cut_in, cut_past, cut_bits, cut_same, cut_sum3}
 use Rattle.sizes.specs.Inner.{input_bits}
 use Rattle.sizes.proofs.Laws.Rate.{block_size}
-use Rattle.crc.specs.Check.{advance, register, check_bit, checked}
+use Rattle.crc.specs.Check.{register, check_bit, checked}
 use Rattle.crc.proofs.Laws.Check.{register_same, register_lt, checked_block_lem, checked_check, checked_bits, checked_same, checked_sum3}
 use Rattle.crc.specs.Inner.{checked_change}
 use Rattle.crc.proofs.Laws.Difference.{checked_plus, change_same}
-use Rattle.convolution.specs.Code.{terminated, input_place, first, second, delay, encode, decode}
+use Rattle.convolution.specs.Code.{terminated, encode, decode}
 use Rattle.convolution.proofs.Laws.Code.{encode_bits, encode_same, encode_plus, decode_bits, decode_same, decode_encode}
-use Rattle.interleaver.specs.Interleaver.{source_bit, interleave, deinterleave}
+use Rattle.interleaver.specs.Interleaver.{interleave, deinterleave}
 use Rattle.interleaver.proofs.Laws.Interleaver.{interleave_bits, deinterleave_bits, interleave_same, deinterleave_same, deinterleave_interleave, interleave_deinterleave, interleave_plus, deinterleave_plus}
 use Rattle.accumulator.specs.Accumulator.{accumulate, differentiate}
 use Rattle.accumulator.proofs.Laws.Accumulator.{accumulate_bits, differentiate_bits, accumulate_same, differentiate_same, accumulate_plus, differentiate_plus, differentiate_accumulate, accumulate_differentiate}
-use Rattle.randomizer.specs.Randomizer.{sequence, window, next, randomize}
+use Rattle.randomizer.specs.Randomizer.{randomize}
 use Rattle.randomizer.proofs.Laws.Randomizer.{randomize_bits, randomize_same, randomize_twice, randomize_sum3, randomize_differ}
 use Rattle.word.specs.Word.{SpareZero, SameBits, taken_in, checked_block, input_of, coded_of, shuffled, word_of, carried_on, coded_in, input_in, packed_block, block_in, agrees, first_wrong, ends_in_zeros, check_right}
 

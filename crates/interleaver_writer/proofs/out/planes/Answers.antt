@@ -1,0 +1,26 @@
+-- A plane more.
+use mathlib.Core.Path.{◌∙◌}
+use native.Mathlib.Omega.{arith}
+use borrow.Author.Rules.{rules}
+use Rattle.interleaver_writer.proofs.out.planes.Goals as goal
+
+pub loop-m-init : goal.loop-m-init
+loop-m-init c = (search rules, search rules, λ k h. absurd (omega arith))
+
+pub plane-requires : goal.plane-requires
+plane-requires c =
+    let l = c.loop-m in
+    let g = c.requires in
+    record {
+      v_len = (g.0, g.1, omega arith);
+      seen_len = (l.invariant.1, l.invariant.2);
+    }
+
+pub loop-m-preserved : goal.loop-m-preserved
+loop-m-preserved c =
+    let l = c.loop-m in
+    let o = c.plane in
+    (search rules, o.auto.seen ∙ l.invariant.1, λ k h. o.ensures k (omega arith))
+
+pub returns : goal.returns
+returns c = λ k h. c.loop-m.invariant.2 k (omega arith)

@@ -1,0 +1,25 @@
+-- The buffer is long enough for 16 blocks of any rate.
+use mathlib.Core.Path.{sym}
+use Prim.Native.Nat.{ℕ, ◌*◌, ◌≤◌}
+use native.Mathlib.Omega.{arith}
+use native.Mathlib.Nat.{mul-le-mul}
+use lib.ListN.{length-replicate}
+use Rattle.bits.proofs.Laws.Buffers.{buffer_holds}
+use Rattle.sizes.specs.Sizes.{block_bytes}
+use Rattle.sizes.proofs.Laws.Rate.{block_room}
+use Rattle.pass_reader.proofs.read_few.Goals as goal
+
+pub slice_bounds-read_in-end : goal.slice_bounds-read_in-end
+slice_bounds-read_in-end c = sym (length-replicate {A = ℕ} _ 0)
+
+pub read_in-requires : goal.read_in-requires
+read_in-requires c =
+    let s = c in
+    let most : s.args.n * block_bytes s.args.rate ≤ 16 * 1256 = mul-le-mul s.requires.n_bound (block_room s.args.rate s.requires.lent.rate_is) in
+    record { lent = s.requires.lent; enough = buffer_holds _ 20096 (omega (arith, s.requires.lent.blocks_are, most)) }
+
+pub shape_of-blocks : goal.shape_of-blocks
+shape_of-blocks c = c.read_in.auto.blocks
+
+pub returns : goal.returns
+returns c = c.read_in.ensures

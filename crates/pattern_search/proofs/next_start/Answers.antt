@@ -1,0 +1,120 @@
+-- The starts that are passed have no pulse where the marker has its first one, or none where it has its last.
+use mathlib.Core.Path.{sym, ◌∙◌}
+use Prim.Native.Nat.{◌+◌}
+use native.Mathlib.Omega.{arith}
+use Rattle.bits.proofs.Laws.Window.{one_in}
+use Rattle.pattern_search.proofs.Passing.{pulsed, next_begin, next_more}
+use Rattle.pattern_search.proofs.next_start.Goals as goal
+
+pub overflow_add-x : goal.overflow_add-x
+overflow_add-x c =
+    let h = c.requires in
+    let first = c.requires.room_first in
+    let last = c.requires.room_last in
+    let most = c.requires.most in
+    let order = c.requires.order in
+    omega arith
+
+pub overflow_add-end : goal.overflow_add-end
+overflow_add-end c =
+    let h = c.requires in
+    let first = c.requires.room_first in
+    let last = c.requires.room_last in
+    let most = c.requires.most in
+    let order = c.requires.order in
+    omega arith
+
+pub pulse_from-requires : goal.pulse_from-requires
+pulse_from-requires c = let h = c.requires in record { eight = h.eight; order = let o = c.requires.order in omega arith; room = h.room_first }
+
+pub overflow_sub-at : goal.overflow_sub-at
+overflow_sub-at c =
+    let a = c.args in
+    let i = one_in a.b.now (a.x + a.first) (a.end + a.first) (let o = c.requires.order in omega arith) in
+    omega (arith, c.pulse_from.ensures)
+
+pub loop-at-init : goal.loop-at-init
+loop-at-init c =
+    let a = c.args in
+    next_begin a.b.now a.first a.last a.x a.end _ (pulsed a.b.now a.first a.x a.end c.pulse_from.result
+    c.requires.order c.pulse_from.ensures)
+
+pub overflow_add-at : goal.overflow_add-at
+overflow_add-at c =
+    let h = c.requires in
+    let first = c.requires.room_first in
+    let last = c.requires.room_last in
+    let most = c.requires.most in
+    let order = c.requires.order in
+    omega arith
+
+pub bit_at-requires : goal.bit_at-requires
+bit_at-requires c =
+    let h = c.requires in
+    let first = c.requires.room_first in
+    let last = c.requires.room_last in
+    let most = c.requires.most in
+    let order = c.requires.order in
+    omega arith
+
+pub returns-then-bit_at-ne0 : goal.returns-then-bit_at-ne0
+returns-then-bit_at-ne0 c = c.loop-at.invariant
+
+pub overflow_add-at-in-loop-at : goal.overflow_add-at-in-loop-at
+overflow_add-at-in-loop-at c =
+    let h = c.requires in
+    let first = c.requires.room_first in
+    let last = c.requires.room_last in
+    let most = c.requires.most in
+    let order = c.requires.order in
+    omega arith
+
+pub overflow_add-at-in-loop-at-2 : goal.overflow_add-at-in-loop-at-2
+overflow_add-at-in-loop-at-2 c =
+    let h = c.requires in
+    let first = c.requires.room_first in
+    let last = c.requires.room_last in
+    let most = c.requires.most in
+    let order = c.requires.order in
+    omega arith
+
+pub overflow_add-end-in-loop-at : goal.overflow_add-end-in-loop-at
+overflow_add-end-in-loop-at c =
+    let h = c.requires in
+    let first = c.requires.room_first in
+    let last = c.requires.room_last in
+    let most = c.requires.most in
+    let order = c.requires.order in
+    omega arith
+
+pub pulse_from-requires-in-loop-at : goal.pulse_from-requires-in-loop-at
+pulse_from-requires-in-loop-at c =
+    let h = c.requires in
+    record { eight = h.eight; order = omega arith; room = h.room_first }
+
+pub overflow_sub-at-in-loop-at : goal.overflow_sub-at-in-loop-at
+overflow_sub-at-in-loop-at c =
+    let a = c.args in
+    let l = c.loop-at in
+    let i = one_in a.b.now (l.at + 1 + a.first) (a.end + a.first) (omega arith) in
+    omega (arith, c.pulse_from-in-loop-at.ensures)
+
+pub loop-at-smaller : goal.loop-at-smaller
+loop-at-smaller c =
+    let a = c.args in
+    let l = c.loop-at in
+    let p = pulsed a.b.now a.first (l.at + 1) a.end c.pulse_from-in-loop-at.result (omega arith) c.pulse_from-in-loop-at.ensures in
+    let u = p.least in
+    let v = p.most in
+    omega arith
+
+pub loop-at-preserved : goal.loop-at-preserved
+loop-at-preserved c =
+    let a = c.args in
+    let l = c.loop-at in
+    let p = pulsed a.b.now a.first (l.at + 1) a.end c.pulse_from-in-loop-at.result (omega arith) c.pulse_from-in-loop-at.ensures in
+    next_more a.b.now a.first a.last a.x a.end l.at _ l.invariant
+    (sym c.bit_at.ensures ∙ c.if-bit_at-ne0.false) p
+
+pub returns : goal.returns
+returns c = c.loop-at.invariant

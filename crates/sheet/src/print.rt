@@ -1,0 +1,28 @@
+// The line printed: of a header that is read from an input, to an output.
+ghost use Rattle.std.specs.Prelude.{◌≤◌, length, IfOk};
+
+use std::io;
+
+// Reads until the slice is full or the input ends. Returns how many bytes there were.
+fn read_full<R: io::Read>(input: &mut R, header: &mut [u8]) -> io::Result<usize>
+    ensures { IfOk result (λ n. n ≤ length header.new) }
+{
+    let mut n = 0;
+    while n < header.len() {
+        let k = input.read(&mut header[n..])?;
+        if k == 0 {
+            break;
+        }
+        n += k;
+    }
+    Ok(n)
+}
+
+// Reads one byte more than a header has, so that eleven bytes are seen, and writes the header's line.
+pub fn print_line<R: io::Read, W: io::Write>(input: &mut R, out: &mut W) -> io::Result<()> {
+    let mut header = [0u8; 11];
+    let n = read_full(input, &mut header)?;
+    let mut text = [0u8; 256];
+    let k = crate::line(&header[..n], &mut text);
+    out.write_all(&text[..k])
+}

@@ -1,0 +1,84 @@
+-- What is left to ask finds what the whole row finds.
+use mathlib.Core.Path.{◌≡◌, sym, ap, ◌∙◌}
+use mathlib.Core.Bool.{Bool}
+use Prim.Native.Nat.{ℕ, ◌+◌, ◌*◌, ◌≤◌}
+use native.Mathlib.Omega.{arith}
+use borrow.Author.Rules.{rules}
+use Rattle.bits.specs.Basics.{up_to}
+use Rattle.bits.proofs.Laws.First.{first_on, first_here, first_end}
+use Rattle.bits.proofs.Laws.Choice.{bool_no, bool_yes}
+use Rattle.slots.proofs.Laws.Bounds.{bounds, Bounds}
+use Rattle.slots.specs.Reading.{pooled_in}
+use Rattle.channel.proofs.Laws.Markers.{line_in}
+use Rattle.channel.specs.Channel.{unit, layout_symbols, mark_right}
+use Rattle.std.specs.Prelude.{◌<◌}
+use Rattle.slots_symbols.specs.Inner.{Grouped}
+use mathlib.Core.List.{List}
+use Rattle.plan.specs.declared.Plan.{Plan}
+use Rattle.slots_symbols.proofs.bad_mark_in.Goals as goal
+
+-- the sizes that the needs rest on
+known : (p : Plan) (b : List ℕ) (line : ℕ) → (Grouped p b × (line < p.layout.lines)) → Bounds p × (line * unit p.layout + unit p.layout ≤ layout_symbols p.layout)
+known p b line asked = (bounds p asked.0.fine, line_in (unit p.layout) p.layout.lines line asked.1)
+
+pub overflow_add-first : goal.overflow_add-first
+overflow_add-first c = let r = (known c.args.p c.args.b.now c.args.line c.requires) in omega arith
+
+pub overflow_mul-first : goal.overflow_mul-first
+overflow_mul-first c = let r = (known c.args.p c.args.b.now c.args.line c.requires) in omega arith
+
+pub loop-w-init : goal.loop-w-init
+loop-w-init c =
+    let a = c.args in
+    let r = (known c.args.p c.args.b.now c.args.line c.requires) in
+    let first : ℕ = a.line * unit a.p.layout in
+    let e : first + 0 ≡ first = omega arith in
+    (search rules, ap (λ (x : ℕ). up_to (mark_right a.p.layout a.p.marks (pooled_in a.p a.b.now)) x (first + a.p.layout.markers)) e)
+
+pub mark_right-requires : goal.mark_right-requires
+mark_right-requires c =
+    let h = c.requires in
+    let r = (known c.args.p c.args.b.now c.args.line c.requires) in
+    (h.0, h.1, omega arith)
+
+pub overflow_add-result : goal.overflow_add-result
+overflow_add-result c = let r = (known c.args.p c.args.b.now c.args.line c.requires) in omega arith
+
+pub returns-then-mark_right-eq0 : goal.returns-then-mark_right-eq0
+returns-then-mark_right-eq0 c =
+    let a = c.args in
+    let r = (known c.args.p c.args.b.now c.args.line c.requires) in
+    let l = c.loop-w in
+    let t : ℕ → Bool = mark_right a.p.layout a.p.marks (pooled_in a.p a.b.now) in
+    let first : ℕ = a.line * unit a.p.layout in
+    let end : ℕ = first + a.p.layout.markers in
+    sym (first_here t end (first + l.w) (omega arith) (bool_no (t (first + l.w)) (sym c.mark_right.ensures ∙ c.if-mark_right-eq0.true))) ∙ l.invariant.1
+
+pub loop-w-preserved : goal.loop-w-preserved
+loop-w-preserved c =
+    let a = c.args in
+    let r = (known c.args.p c.args.b.now c.args.line c.requires) in
+    let l = c.loop-w in
+    let t : ℕ → Bool = mark_right a.p.layout a.p.marks (pooled_in a.p a.b.now) in
+    let first : ℕ = a.line * unit a.p.layout in
+    let end : ℕ = first + a.p.layout.markers in
+    let e : first + (l.w + 1) ≡ first + l.w + 1 = omega arith in (
+      search rules,
+      ap (λ (x : ℕ). up_to t x end) e
+          ∙ first_on t end (first + l.w) (omega arith) (bool_yes (t (first + l.w)) (λ z. c.if-mark_right-eq0.false (c.mark_right.ensures ∙ z)))
+          ∙ l.invariant.1,
+    )
+
+pub overflow_add-result-2 : goal.overflow_add-result-2
+overflow_add-result-2 c = let r = (known c.args.p c.args.b.now c.args.line c.requires) in omega arith
+
+pub returns : goal.returns
+returns c =
+    let a = c.args in
+    let r = (known c.args.p c.args.b.now c.args.line c.requires) in
+    let l = c.loop-w in
+    let t : ℕ → Bool = mark_right a.p.layout a.p.marks (pooled_in a.p a.b.now) in
+    let first : ℕ = a.line * unit a.p.layout in
+    let end : ℕ = first + a.p.layout.markers in
+    let e : first + l.w ≡ end = omega arith in
+    e ∙ sym (first_end t end (first + l.w) (omega arith) (omega arith)) ∙ l.invariant.1

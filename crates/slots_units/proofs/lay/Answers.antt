@@ -1,0 +1,79 @@
+-- Forty slots more are laid at each turn.
+use mathlib.Core.Path.{◌≡◌, refl, sym, ◌∙◌}
+use Prim.Native.Nat.{ℕ, ◌+◌, ◌-◌, ◌*◌, ◌/◌, ◌%◌, ◌^◌, ◌≤◌, ◌<◌}
+use native.Mathlib.Omega.{arith}
+use native.Mathlib.Nat.{le_refl, mul-le-mul}
+use Rattle.bits.proofs.Laws.Stretch.{laid_none, laid_on}
+use Rattle.slots_units.specs.Inner.{row_slot}
+use Rattle.slots_units.proofs.Laws.Units.{unit_bit, width_some}
+use Rattle.slots_units.proofs.lay.Goals as goal
+
+-- the symbols before those of turn u, and its own, are in the row
+within : (per n : ℕ) → (u : ℕ) → u < n → per * u + per ≤ per * n
+within per n u l =
+    let next : u + 1 ≤ n = omega arith in
+    let m : per * (u + 1) ≤ per * n = mul-le-mul (le_refl per) next in
+    omega arith
+
+pub loop-u-init : goal.loop-u-init
+loop-u-init c = (omega arith, refl, λ copies group z b all. laid_none _ _ _)
+
+pub overflow_mul-u : goal.overflow_mul-u
+overflow_mul-u c = let h = c.requires.3 in omega arith
+
+pub overflow_add-at : goal.overflow_add-at
+overflow_add-at c = let h = c.requires.3 in omega arith
+
+pub overflow_mul-per : goal.overflow_mul-per
+overflow_mul-per c =
+    let s = c in
+    let h = c.requires.0 in
+    let k = (within c.args.per c.args.n) c.loop-u.u (omega arith) in
+    omega arith
+
+pub overflow_add-from : goal.overflow_add-from
+overflow_add-from c =
+    let s = c in
+    let h = c.requires.0 in
+    let k = (within c.args.per c.args.n) c.loop-u.u (omega arith) in
+    omega arith
+
+pub unit-requires : goal.unit-requires
+unit-requires c =
+    let s = c in
+    let h = c.requires.0 in
+    let k = (within c.args.per c.args.n) c.loop-u.u (omega arith) in
+    (omega arith, s.requires.1, s.requires.2)
+
+pub put_forty-requires : goal.put_forty-requires
+put_forty-requires c =
+    let s = c in
+    let h = c.requires.3 in
+    let e = c.loop-u.invariant.1 in
+    omega arith
+
+pub loop-u-preserved : goal.loop-u-preserved
+loop-u-preserved c =
+    let a = c.args in
+    let l = c.loop-u in
+    let f = c.put_forty in
+    let v = c.unit in (
+      omega arith,
+      f.ensures.long ∙ l.invariant.1,
+      λ copies group z b all.
+          let fit : a.per * a.width ≤ 40 = omega arith in
+          let on : 5 * l.u + 5 ≡ 5 * (l.u + 1) = omega arith in
+          rw (sym on) (laid_on a.slots.now l.slots f.new.slots a.at (5 * l.u) 5 (row_slot group a.width a.row.now a.from) (λ t. v.result / 2 ^ (39 - t) % 2)
+          (l.invariant.2 copies group z b all) f.ensures
+          (λ t h. unit_bit copies group a.width a.per a.row.now a.from l.u v.result t z.whole (width_some copies group a.width a.zero z) all (v.ensures copies group z b fit) h)),
+    )
+
+pub shape_of-slots : goal.shape_of-slots
+shape_of-slots c = c.loop-u.invariant.1
+
+pub returns : goal.returns
+returns c copies group z b all =
+    let s = c in
+    let l = c.loop-u in
+    let e : l.u ≡ s.args.n = let m = c.loop-u.invariant.0 in omega arith in
+    rw e at (l.invariant.2 copies group z b all)

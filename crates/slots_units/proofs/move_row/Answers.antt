@@ -1,0 +1,62 @@
+-- The symbols before symbol i of the row are there; its pulses are moved from the front of its groups.
+use mathlib.Core.Path.{◌≡◌, refl, sym, ◌∙◌}
+use Prim.Native.Nat.{ℕ, ◌+◌, ◌<◌}
+use native.Mathlib.Omega.{arith}
+use lib.ListN.{get_or}
+use Rattle.slots.proofs.Laws.Bounds.{bounds}
+use Rattle.slots_moves.proofs.Laws.Moves.{copied, holds_is, holds_next}
+use Rattle.slots_units.proofs.move_row.Goals as goal
+
+pub loop-i-init : goal.loop-i-init
+loop-i-init c = (omega arith, c.requires.1, refl, λ p ec eg r word end same h. h)
+
+pub overflow_add-first : goal.overflow_add-first
+overflow_add-first c =
+    let r = c.requires.0 in
+    let k = (bounds c.args.p r.fine).symbols_bound in
+    let i = c.requires.0.inside in
+    omega arith
+
+pub bounds-row-i : goal.bounds-row-i
+bounds-row-i c = let r = c.requires.0.long in omega arith
+
+pub overflow_cast-row : goal.overflow_cast-row
+overflow_cast-row c = omega (arith, c.type_inv.row c.loop-i.i)
+
+pub move_symbol-requires : goal.move_symbol-requires
+move_symbol-requires c =
+    let s = c in
+    let l = c.loop-i in
+    let r = c.requires.0 in
+    let i = c.requires.0.inside in
+    copied s.args.p r.fine (s.args.first + l.i) (get_or s.args.row.now l.i 0) l.slots (l.invariant.2 ∙ s.requires.2) (omega arith) (r.small l.i)
+
+pub loop-i-preserved : goal.loop-i-preserved
+loop-i-preserved c =
+    let s = c in
+    let l = c.loop-i in
+    let o = c.move_symbol in
+    let a = c.args in
+    let q : ℕ = get_or a.row.now l.i 0 in
+    let after = c.move_symbol.new.slots in
+    let low : l.i < a.to = omega arith in (
+      omega arith,
+      omega arith,
+      o.auto.slots ∙ l.invariant.2,
+      λ p ec eg r word end same h.
+          let inside = r.inside in
+          let small : q < p.group = r.small l.i in
+          let moved = o.ensures p (record { copies_are = sym ec; copies_least = r.fine.copies_least; group_is = sym eg; among = omega arith; small = small }) in
+          holds_is p word (a.first + l.i + 1) (a.first + (l.i + 1)) end after (omega arith)
+          (holds_next p word (a.first + l.i) end q l.slots after (same l.i low) (l.invariant.3 p ec eg r word end same h) moved),
+    )
+
+pub shape_of-slots : goal.shape_of-slots
+shape_of-slots c = c.loop-i.invariant.2
+
+pub returns : goal.returns
+returns c word end same h =
+    let s = c in
+    let l = c.loop-i in
+    let e : l.i ≡ s.args.to = let m = c.loop-i.invariant.1 in omega arith in
+    rw e at (l.invariant.3 s.args.p refl refl s.requires.0 word end same h)

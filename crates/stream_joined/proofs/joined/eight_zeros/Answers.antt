@@ -1,0 +1,58 @@
+-- A byte that is zero has eight zeros.
+use mathlib.Core.Path.{◌≡◌, sym, ap, ◌∙◌}
+use mathlib.Core.Bool.{false≢true}
+use Prim.Native.Nat.{ℕ, ◌+◌, ◌*◌, ◌≤◌}
+use native.Mathlib.Omega.{arith}
+use borrow.Author.Tests.{eqb-true}
+use Rattle.bits.specs.Pack.{val, bit_at, piece}
+use Rattle.bits.proofs.Laws.Parts.{none_val}
+use Rattle.sizes.specs.Sizes.{info_bits, block_bytes}
+use Rattle.sizes.proofs.Laws.Rate.{info_le}
+use Rattle.stream_reader.proofs.Laws.Blocks.{joined_bits}
+use Rattle.stream_reader.specs.Inner.{bit_of}
+use Rattle.stream_joined.proofs.Rooms.{piece_le, stretch_in}
+use Rattle.stream_joined.proofs.Bytes.{joined_from, byte_there}
+use Rattle.stream_joined.proofs.joined.eight_zeros.Goals as goal
+
+pub overflow_add-bit : goal.overflow_add-bit
+overflow_add-bit c =
+    let s = c in
+    let w = info_le s.args.rate in
+    let inside = c.requires.inside in
+    omega arith
+
+pub returns-then-bit-info_bits : goal.returns-then-bit-info_bits
+returns-then-bit-info_bits c = λ e. absurd (false≢true e)
+
+pub packed_bit-requires : goal.packed_bit-requires
+packed_bit-requires c =
+    let s = c in
+    let a = c.args in
+    (s.requires.held.lie.rate3, piece_le a.rate 1 a.blocks.now a.at s.requires (omega arith), s.requires.inside)
+
+pub byte_from-requires : goal.byte_from-requires
+byte_from-requires c =
+    let s = c in
+    let a = c.args in
+    let e = c.info_bits.ensures in
+    let l : a.at.bit + 8 * 1 ≤ info_bits a.rate = omega arith in
+    let w = stretch_in a.rate 1 a.blocks.now a.at s.requires (omega arith) 1 l in
+    rw c.packed_bit.ensures w
+
+pub returns : goal.returns
+returns c =
+    let s = c in
+    let a = c.args in
+    let e = c.info_bits.ensures in
+    let l : a.at.bit + 8 ≤ info_bits a.rate = omega arith in
+    let r3 = c.requires.held.lie.rate3 in
+    λ zero.
+    let none : val (joined_from a.rate a.blocks.now a.at r3) 8 ≡ 0 =
+    sym (c.byte_from.ensures ∙ ap (λ (y : ℕ). val (λ t. bit_at a.blocks.now (y + t)) 8) c.packed_bit.ensures ∙ byte_there a.rate a.blocks.now a.at r3 l)
+    ∙ eqb-true c.byte_from.result 0 zero in
+    record {
+      few = omega arith;
+      inside = l;
+      pass = none_val (joined_from a.rate a.blocks.now a.at r3) (λ t. joined_bits a.rate (piece (block_bytes a.rate) a.blocks.now) (bit_of a.rate a.at + t)) 8 none;
+      stop = λ q. absurd (omega arith);
+    }
