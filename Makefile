@@ -1,5 +1,5 @@
 # Tasks of the repository. The proofs are `rt ci`; all else here is outside them and is built under
-# target/host and target/lib, which `rt ci` removes with the rest of target/.
+# target/host and target/lib. What `rt` makes of a crate is in the crate's own folder out/.
 
 SHELL := /bin/bash
 .DEFAULT_GOAL := help
@@ -31,6 +31,8 @@ VERSION := $(shell sed -n 's/^\#define MAHYREI_VERSION "\(.*\)"$$/\1/p' include/
 #   make host-test LIBS=target/host/standin/libmahyrei.a RUNSHEET=
 # Several archives are linked in the order given.
 LIBRARY = target/lib/libmahyrei.a
+# The archive of all calls, as `rt` makes it.
+CALLS = crates/c_calls/out/libc_calls.a
 LIBS = $(LIBRARY)
 # The shared library, from the same objects. Programs look for it by its ABI, which changes when one
 # that was linked with an older one could no longer run with it, or would get other words from it.
@@ -55,7 +57,7 @@ DESTDIR ?=
 STACK = ulimit -s 1024
 
 # What the tests of the command use; RUNSHEET= leaves out the comparison with the proved program.
-RUNSHEET = target/bin/runsheet
+RUNSHEET = crates/runsheet/out/runsheet
 COMMAND_TESTS = $(PROGRAM) $(HOST)/mahyrei_sanitized $(HOST)/slots $(HOST)/faults.so $(RUNSHEET)
 
 # For the comparisons with the second implementation; empty means their own defaults.
@@ -175,8 +177,8 @@ host-test: $(HOST_TESTS)
 # The proofs first, on all cores and quietly, where make sees that they are to be done.
 PICTURE = target/demo/damage.svg
 demo:
-	@[ '$(LIBS)' != '$(LIBRARY)' ] || $(MAKE) -q target/staticlib/libc_calls.a >/dev/null 2>&1 || \
-	    { demo/prove && touch target/staticlib/libc_calls.a; }
+	@[ '$(LIBS)' != '$(LIBRARY)' ] || $(MAKE) -q $(CALLS) >/dev/null 2>&1 || \
+	    { demo/prove && touch $(CALLS); }
 	@$(MAKE) -s --no-print-directory $(PROGRAM) $(HOST)/slots
 	@mkdir -p $(dir $(PICTURE))
 	@demo/run $(PROGRAM) $(HOST)/slots $(PICTURE)
@@ -233,7 +235,7 @@ uninstall:
 # Debian's packages, from the proved archive, and a test that installs them into a fresh root.
 DEB = target/deb
 .PHONY: deb deb-test
-deb: target/staticlib/libc_calls.a
+deb: $(CALLS)
 	@host/package/deb $< $(ABI) $(VERSION) $(DEB)
 deb-test: deb $(LIBS) $(SHARED) $(PROGRAM)
 	@tests/packages $(DEB)
@@ -241,13 +243,18 @@ deb-test: deb $(LIBS) $(SHARED) $(PROGRAM)
 clean:
 	rm -rf $(HOST) target/lib target/book target/book-source
 
-# `rt` proves what these rest on, where that is not done yet.
-PROVED := crates.txt $(shell find crates -name '*.rt' -o -name '*.antt')
-target/staticlib/lib%.a: $(PROVED)
-	rt staticlib $*
+# `rt` proves what these rest on, where that is not done yet. It leaves a file alone that nothing has
+# changed for: touched, the file is newer than what it was seen to rest on.
+PROVED := crates.txt $(shell find $(wildcard crates/*/src crates/*/specs crates/*/proofs) \
+    -name '*.rt' -o -name '*.antt')
+$(CALLS): $(PROVED)
+	cd crates/c_calls && rt lib
+	@touch $@
 
-target/bin/runsheet: $(PROVED)
-	rt check runsheet
+# `rt` builds a program by running it; for no input this one has a line too, and the status 0.
+crates/runsheet/out/runsheet: $(PROVED)
+	cd crates/runsheet && rt run </dev/null
+	@touch $@
 
 # Plain C for C programs (mahyrei_plain.h), which is in every archive beside the calls.
 PARTS = $(patsubst plain/%.c,target/lib/plain/%.o,$(wildcard plain/*.c))
@@ -256,18 +263,19 @@ target/lib/plain/%.o: plain/%.c $(HEADER)
 	@$(COMPILE) -fPIC -c $< -o $@
 
 # The crate `c_calls` has every call that C sees. The library is its archive, and the plain C beside it.
-$(LIBRARY): target/staticlib/libc_calls.a $(PARTS)
+$(LIBRARY): $(CALLS) $(PARTS)
 	@mkdir -p $(@D)
 	@cp $< $@
 	@ar rs $@ $(PARTS)
 
-# The objects of the archives are position independent: -z text is an error where they are not.
+# The objects of the archives are position independent: -z text is an error where they are not. The other two
+# names are copies, since `rt ci` refuses a checkout with links in it.
 $(SHARED): $(LIBS) $(HOST)/archives plain/libmahyrei.map
 	@$(CC) $(CFLAGS) -shared -Wl,-soname,libmahyrei.so.$(ABI) \
 	    -Wl,--version-script,plain/libmahyrei.map -Wl,-z,text,-z,defs,-z,relro,-z,now \
 	    -Wl,--whole-archive $(LIBS) -Wl,--no-whole-archive $(LDFLAGS) -o $@
-	@ln -sf $(@F) $(@D)/libmahyrei.so.$(ABI)
-	@ln -sf libmahyrei.so.$(ABI) $(@D)/libmahyrei.so
+	@cp -f $@ $(@D)/libmahyrei.so.$(ABI)
+	@cp -f $@ $(@D)/libmahyrei.so
 
 # Names the archives in use, and the digest: a program linked with others is linked again.
 LINKED = $(LIBS) $(HOST)/archives

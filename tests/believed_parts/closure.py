@@ -50,7 +50,7 @@ def exported(tree):
     for path in tree.files(CALLS, "src"):
         module = tree.module(path)
         found = [function for function in module.functions if function.exported]
-        if len(found) != module.code.count("#[no_mangle]"):
+        if len(found) != module.code.count("#[unsafe(no_mangle)]"):
             raise NotFollowed(f"{path}: not every exported function is one that is read here")
         yield from found
 

@@ -1,7 +1,8 @@
 """Reads Rattle files: structs and enums, and functions with their contracts.
 
-A contract is the clauses `requires { .. }` and `ensures { .. }` between a function's signature and
-its body. What is within their braces is antt, in which the function's parameters are bound.
+A contract is the clauses `requires { .. }` and `ensures { .. }`, each perhaps with a name before its
+brace, between a function's signature and its body. What is within their braces is antt, in which the
+function's parameters are bound, and `result`.
 """
 
 import re
@@ -16,9 +17,10 @@ ATTRIBUTES = r"^(?:[ \t]*#\[[^\n]*\]\n)*[ \t]*"
 TYPE = re.compile(ATTRIBUTES + r"(?:pub )?(struct|enum) (\w+)", re.M)
 FUNCTION = re.compile(
     ATTRIBUTES + r'(?P<public>pub )?(?P<c>extern "[^"]*" )?fn (?P<name>\w+)', re.M)
-CONTRACT = re.compile(r"\b(?:requires|ensures)\s*\{|\{")
-CLAUSE = re.compile(r"\s*(requires|ensures)\s*\{")
+CONTRACT = re.compile(r"\b(?:requires|ensures)\b(?:\s+\w+)?\s*\{|\{")
+CLAUSE = re.compile(r"\s*(requires|ensures)\b(?:\s+\w+)?\s*\{")
 PARAMETER = re.compile(r"(\w+)\s*:(?!:)")
+USED = re.compile(r"((?:\w+::)*)(?:(\w+)|\{([\w, ]+)\})")
 
 
 class Function(Declaration):
@@ -29,6 +31,7 @@ class Function(Declaration):
         self.public, self.exported = public, exported
         self.clauses = []  # the tokens within the braces of each
         self.parameters = set()
+        self.generic = set()  # the parameters that are types
 
 
 class RattleModule(Module):
@@ -105,8 +108,9 @@ def read_function(module, bare, found):
     at = CONTRACT.search(bare, closed).start()
     if not re.fullmatch(r"(?: ->[^\n]*)?\s*", bare[closed:at]):
         raise NotFollowed(f"{module.path}: the signature of {made.name} is not followed")
-    made.parameters = set(PARAMETER.findall(bare[opening:closed])) | {"self"}
+    made.parameters = set(PARAMETER.findall(bare[opening:closed])) | {"self", "result"}
     made.types = bare[opening:at]
+    made.generic = set(PARAMETER.findall(bare[found.end():opening]))
     while clause := CLAUSE.match(bare, at):
         end = closing(bare, clause.end() - 1)
         made.clauses.append(statement(module.code, clause.end(), end).tokens())
@@ -127,8 +131,9 @@ def read(path, crate, name, text):
         words = " ".join(found.group(3).split())
         if found.group(2):
             module.use(Line(0, words).tokens, bool(found.group(1)))
-        elif re.fullmatch(r"\w+(::\w+)*", words):
-            module.types_used[words.split("::")[-1]] = words.split("::")
+        elif used := USED.fullmatch(words):
+            for name in (used[2] or used[3]).replace(",", " ").split():
+                module.types_used[name] = [*used[1].split("::")[:-1], name]
     for public, child in MOD.findall(bare):
         module.children.add(child)
         if public:

@@ -77,7 +77,7 @@ def is_name(node):
 
 
 class Scope:
-    """Collects names in the order in which they are written, each as its path: ('words', 'wordOf').
+    """Collects names in the order in which they are written, each as its path: ('words', 'word_of').
 
     `is_constructor` says of a path in a pattern whether it is a constructor, and so binds nothing.
     """

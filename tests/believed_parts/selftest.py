@@ -13,7 +13,7 @@ from pathlib import Path
 
 from . import checks, closure, reading
 from .antt import NotFollowed
-from .tree import Tree
+from .tree import HOLE, LIBRARIES, Tree
 
 NUMBER = re.compile(r"(?<=[ (])\d{2,}(?=[ );]|$)", re.M)
 LAW = "pub planted : {A : Type 0} → A → A\nplanted a = a\n"
@@ -24,8 +24,9 @@ class Copy:
 
     def __init__(self, root, folder):
         self.root, self.saved, self.cache = Path(folder), {}, {}
-        left_out = shutil.ignore_patterns("must-fail", "stdin", "stdout", "data")
-        shutil.copytree(Path(root) / "crates", self.root / "crates", ignore=left_out)
+        left_out = {"must-fail", "stdin", "stdout", "data", "out"}  # of a crate's folder
+        shutil.copytree(Path(root) / "crates", self.root / "crates", ignore=lambda folder, names:
+                        left_out & set(names) if Path(folder).parent.name == "crates" else set())
         shutil.copy(Path(root) / "crates.txt", self.root)
         (self.root / "docs").mkdir()
         shutil.copy(Path(root) / reading.PAPER, self.root / reading.PAPER)
@@ -90,7 +91,7 @@ def with_figure(declarations):
 
 
 def written_path(made):
-    return f"Rattle·{made.module.name}"
+    return f"{LIBRARIES}.{made.module.name}"
 
 
 # ---- the faults: each plants one, and gives what must be said of it
@@ -98,7 +99,7 @@ def written_path(made):
 def moved_to_laws(copy):
     made = alone(copy)
     module, text = made.module, lines_of(made)
-    laws = f"Rattle·{module.crate}·proofs.proofs.Laws.Planted"
+    laws = f"{LIBRARIES}.{module.crate}.proofs.Laws.Planted"
     head = "\n".join(line for line in module.text if line.startswith("use "))
     copy.write(f"crates/{module.crate}/proofs/Laws/Planted.antt", f"{head}\n\n{text}\n")
     copy.edit(module.path, text, "")
@@ -114,7 +115,7 @@ def moved_to_inner(copy):
     old = copy.read(inner) if (copy.root / inner).exists() else ""
     copy.write(inner, f"{head}\n{old}\n{text}\n")
     copy.edit(module.path, text, "")
-    copy.write(module.path, f"pub use Rattle·{module.crate}.specs.Inner.{{{made.name}}}\n"
+    copy.write(module.path, f"pub use {LIBRARIES}.{module.crate}.specs.Inner.{{{made.name}}}\n"
                + copy.read(module.path))
     return f"{made.name} must be believed, but is not in a file of specs/ itself"
 
@@ -179,7 +180,7 @@ def contract_dropped(copy):
 
 def call_elsewhere(copy):
     path = f"crates/{closure.SHEET}/src/lib.rt"
-    copy.write(path, copy.read(path) + '\n#[no_mangle]\npub extern "C" fn planted() {}\n')
+    copy.write(path, copy.read(path) + '\n#[unsafe(no_mangle)]\npub extern "C" fn planted() {}\n')
     return f"{path}: a call that C sees, outside the crate {closure.CALLS}"
 
 
@@ -259,7 +260,7 @@ def opened_by_path(copy):
 
 def opened_on_the_next_line(copy):
     made = shut(copy)
-    use = f"use lib.ListN.{{length}}\nuse {written_path(made)}.{{{made.name}}}"
+    use = f"use {LIBRARIES}.std.specs.Prelude.{{length}}\nuse {written_path(made)}.{{{made.name}}}"
     return opener(copy, use, f"unfolding length\n    {made.name}\n")
 
 
@@ -273,7 +274,7 @@ def opened_through_a_crate(copy):
     made = shut(copy)
     copy.write(f"crates/{closure.PROMISES[0]}/proofs/Laws/Planted.antt",
                f"unfoldable pub use {written_path(made)}.{{{made.name} as it}}\n")
-    use = f"use Rattle·{closure.PROMISES[0]}.proofs.Laws.Planted.{{it}}"
+    use = f"use {LIBRARIES}.{closure.PROMISES[0]}.proofs.Laws.Planted.{{it}}"
     return opener(copy, use, "unfolding it\n")
 
 
@@ -282,7 +283,7 @@ def opened_through_a_law(copy):
     copy.write(f"crates/{closure.WORD}/proofs/Laws/Planted.antt",
                f"use {written_path(made)}.{{{made.name}}}\n\n"
                f"unfoldable pub it : {{A : Type 0}} → A → A\nunfolding {made.name}\nit a = a\n")
-    use = f"use Rattle·{closure.WORD}.proofs.Laws.Planted.{{it}}"
+    use = f"use {LIBRARIES}.{closure.WORD}.proofs.Laws.Planted.{{it}}"
     return opener(copy, use, "unfolding it\n")
 
 
@@ -294,7 +295,7 @@ def open_to_all(copy):
 
 def opened_in_a_contract(copy):
     made, path = shut(copy), f"crates/{closure.SHEET}/src/lib.rt"
-    clause = f"ensures {{ λ r. ⌜ unfold planted.{made.name} in r ⌝ }}"
+    clause = f"ensures {{ unfold planted.{made.name} in result }}"
     copy.write(path, copy.read(path) + f"\nghost use {written_path(made)} as planted;\n"
                f"fn unused()\n    {clause}\n{{\n}}\n")
     return f"of crate {closure.WORD}, which only that crate may do"
@@ -352,7 +353,7 @@ def crude(root):
 
     def declare(name, place, text):
         cites.setdefault(place, set()).update(words(text))
-        for part in [name, *filter(None, name.split("_"))]:
+        for part in [name, *filter(None, name.split(HOLE))]:
             declared.setdefault(part, set()).add(place)
 
     for file in sorted((root / "crates").rglob("*.antt")):
@@ -368,7 +369,7 @@ def crude(root):
             declare(old, f"{file.relative_to(root)}: {new} as {old}", new)
     for file in sorted((root / "crates").rglob("*.rt")):
         text = file.read_text(encoding="utf8")
-        for found in re.finditer(r"^ *(?:pub )?(?:struct|enum) [^;{]*[;{][^}]*", text, re.M):
+        for found in re.finditer(r"^(?: *#\[.*\]\n)* *(?:pub )?(?:struct|enum) [^;{]*[;{][^}]*", text, re.M):
             number = text.count("\n", 0, found.start()) + 1
             for name in re.findall(r"\b[A-Z]\w*", found.group(0)):
                 declare(name, f"{file.relative_to(root)}:{number}", found.group(0))

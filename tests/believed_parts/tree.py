@@ -1,8 +1,8 @@
 """The repository as modules: finds the declaration that a written name refers to.
 
-A module's path is written `Rattle·word.specs.Word`, or `Rattle·word·specs.specs.Word` within its
-own crate. The structs and enums of a crate are below `specs.declared`. Every other library is the
-kit's, and its names are not followed further.
+A module's path is written `Rattle.word.specs.Word`, in every crate. The structs and enums of a crate
+are below `specs.declared`. A crate that crates.txt does not list is the kit's, and its names are not
+followed further.
 """
 
 import os
@@ -14,21 +14,23 @@ from . import antt, rattle
 from .antt import Declaration, NotFollowed
 from .scope import Scope, nest
 
-# The libraries of the kit that the repository uses.
-KIT = {"Prim", "mathlib", "native", "lib", "borrow", "denote"}
+# The first step of every path.
+LIBRARIES = "Rattle"
+# The crates of the kit that the repository uses without listing them.
+KIT = {"std", "core"}
 # What every antt file has without a use line.
 PRELUDE = set(
-    "⊥ absurd ¬_ Dec yes no Unit tt Id J Path IsProp IsSet Discrete ∥_∥₁ ∣_∣₁ squash₁"
+    "⊥ absurd ¬◌ Dec yes no Unit tt Id J Path IsProp IsSet Discrete ∥◌∥₁ ∣◌∣₁ squash₁"
     " rw rw⁻¹ simp search grw cc omega cap".split()
 )
-# What every clause of a contract has without a use line.
-CLAUSE = {"now", "⌜", "⌝", "∗"}
+# The place of an argument in the name of an operator.
+HOLE = "◌"
 
 
 class Target(NamedTuple):
     """What a name refers to; the declaration is None where it is the kit's."""
 
-    name: str  # in full: word.specs.Word.wordOf, or lib.Bits.bitXor
+    name: str  # in full: word.specs.Word.word_of, or Rattle.std.specs.Int.Bits.bit_xor
     declaration: Optional[Declaration]
 
 
@@ -36,15 +38,17 @@ class Tree:
     def __init__(self, root, cache=None):
         self.root = Path(root)
         self.paths = set()  # of all antt and Rattle files, relative to the root
-        for folder, _, names in os.walk(self.root / "crates"):
+        for folder, below, names in os.walk(self.root / "crates"):
             folder = os.path.relpath(folder, self.root)
+            if folder.count("/") == 1 and "out" in below:
+                below.remove("out")  # what rt makes, with copies of the files
             self.paths |= {f"{folder}/{name}" for name in names if name.endswith((".antt", ".rt"))}
         self.parts = {}  # crate and part: its files
         for path in sorted(self.paths):
             self.parts.setdefault(tuple(path.split("/")[1:3]), []).append(path)
         self.crates = sorted({crate for crate, _ in self.parts})
         listed = (self.root / "crates.txt").read_text(encoding="utf8")
-        self.kit_crates = set(re.findall(r"\w+", re.sub("#.*", "", listed))) - set(self.crates)
+        self.kit_crates = (set(re.findall(r"\w+", re.sub("#.*", "", listed))) | KIT) - set(self.crates)
         self.modules, self.located = {}, {}
         # Files already read, by path and text, which a second tree can share.
         self.cache = {} if cache is None else cache
@@ -76,29 +80,26 @@ class Tree:
         return self.located[key]
 
     def find(self, steps):
-        library = re.fullmatch(r"Rattle·(\w+)(·specs|·proofs)?", steps[0])
-        if not library:
-            if steps[0] in KIT:
-                return None, steps
+        if steps[0] != LIBRARIES or len(steps) < 2:
             raise NotFollowed(f"the library {steps[0]} is not known")
-        crate = library.group(1)
+        crate = steps[1]
         if crate not in self.crates:
             if crate in self.kit_crates:
                 return None, steps
             raise NotFollowed(f"there is no crate {crate}")
-        if steps[1:3] == ["specs", "declared"]:
-            return self.declared(crate, steps[3:])
-        for count in range(len(steps), 1, -1):
-            parts = ["Lib"] if count == 2 else []
-            file = "/".join(["crates", crate] + steps[1:count] + parts) + ".antt"
+        if steps[2:4] == ["specs", "declared"]:
+            return self.declared(crate, steps[4:])
+        for count in range(len(steps), 2, -1):
+            parts = ["Lib"] if count == 3 else []
+            file = "/".join(["crates"] + steps[1:count] + parts) + ".antt"
             if file in self.paths:
                 return self.module(file), steps[count:]
         raise NotFollowed(f"no file has the module {'.'.join(steps)}")
 
     def declared(self, crate, steps):
-        """The Rattle module of `declared.mods.Type`, and the steps left without `the-variants`."""
-        mods = [step for step in steps if step[0].islower() and step != "the-variants"]
-        rest = [step for step in steps if step not in mods and step != "the-variants"]
+        """The Rattle module of `declared.mods.Type`, and the steps left without `TheVariants`."""
+        mods = [step for step in steps if step[0].islower()]
+        rest = [step for step in steps if step not in mods and step != "TheVariants"]
         for file in ["/".join(mods) or "lib", "/".join(mods + ["mod"])]:
             path = f"crates/{crate}/src/{file}.rt"
             if path in self.paths:
@@ -113,7 +114,7 @@ class Tree:
             return module.aliases[steps[0]] + steps[1:]
         if steps[0] in module.children:
             head = module.path.removesuffix("/Lib.antt").removesuffix(".antt").split("/")[1:]
-            return [f"Rattle·{head[0]}"] + head[1:] + steps
+            return [LIBRARIES] + head + steps
         return steps
 
     def whole(self, module, steps, seen=()):
@@ -170,16 +171,13 @@ class Tree:
             return self.own(module.items[first], first, rest)
         if first in module.imports:
             return self.imported(module, first, rest)
-        if rest and (first in module.children or first == "package" or first in KIT
-                     or first.startswith("Rattle·")):
+        if rest and (first in module.children or first in ("package", LIBRARIES)):
             return self.whole(module, list(path))
         for name in [*module.items, *module.imports]:
-            if "_" in name and first in name.split("_"):
+            if HOLE in name and first in name.split(HOLE):
                 return self.resolve(module, (name,))
-        if isinstance(module, rattle.RattleModule) and first in CLAUSE:
-            return Target(f"contract.{first}", None)
         for name in PRELUDE:
-            if first == name or "_" in name and first in name.split("_"):
+            if first == name or HOLE in name and first in name.split(HOLE):
                 return Target(f"Prim.{name}", None)
         raise NotFollowed(f"nothing is known of {'.'.join(path)}")
 
@@ -204,8 +202,8 @@ class Tree:
         counts as cited, and that can only add names of the kit."""
         known = path[0] in module.items or path[0] in module.imports or path[0] in PRELUDE
         if not known and len(path) == 1:
-            operators = [n for n in [*module.items, *module.imports] if "_" in n]
-            if not any(path[0] in name.split("_") for name in operators):
+            operators = [n for n in [*module.items, *module.imports] if HOLE in n]
+            if not any(path[0] in name.split(HOLE) for name in operators):
                 return False
         target = self.resolve(module, path)
         made = target.declaration
@@ -218,11 +216,11 @@ class Tree:
         module = made.module
         try:
             if made.kind == "type":
-                return self.types_in(module, made.types)
+                return self.types_in(module, made.types, set())
             scope = Scope(lambda path: self.is_constructor(module, path))
             found = []
             if made.kind == "contract":
-                found = self.types_in(module, made.types)
+                found = self.types_in(module, made.types, made.generic)
                 for clause in made.clauses:
                     scope.term(nest(clause), frozenset(made.parameters))
             else:
@@ -231,11 +229,16 @@ class Tree:
         except NotFollowed as fault:
             raise NotFollowed(f"{made.place}: {made.name}: {fault}") from None
 
-    def types_in(self, module, text):
-        """The structs and enums that the types in a Rattle text cite: its capitalised names."""
+    def types_in(self, module, text, bound):
+        """The structs and enums that the types in a Rattle text cite: its capitalised names, but those
+        of the parameters that are types."""
         found = []
-        for name in re.findall(r"(?<!')\b[A-Z]\w*", text):
-            if name in module.items:
+        for before, name in re.findall(r"(?:\b(\w+)::)?(?<!')\b([A-Z]\w*)", text):
+            if before and module.types_used.get(before, [""])[0] in self.kit_crates:
+                found.append((f"{before}.{name}", Target(".".join([*module.types_used[before], name]), None)))
+            elif name in bound:
+                pass
+            elif name in module.items:
                 found.append((name, Target(module.items[name].full_name, module.items[name])))
             elif name in module.types_used:
                 crate, *rest = module.types_used[name]
