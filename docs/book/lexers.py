@@ -3,7 +3,7 @@
 from pygments.lexer import RegexLexer, bygroups
 from pygments.token import Comment, Keyword, Name, Number, Operator, Punctuation, String, Text
 
-NAME = r"[^\s(){}.;,@\"«»⌜⌝]+"
+NAME = r"[^\s(){}.;,@\"«»]+"
 
 
 class AnttLexer(RegexLexer):
@@ -22,7 +22,7 @@ class AnttLexer(RegexLexer):
             (r"(Type)(\s+)(\d+)", bygroups(Keyword.Type, Text, Number)),
             (r"\d+(?![^\s(){}.;,@])", Number),
             (r"(→|≡|≤|<|×|λ|:|=|\+|-|\*|/|%|\^|⊎|∷|\|\|)(?=[\s().;,]|$)", Operator),
-            (r"[(){}.;,@⌜⌝«»]", Punctuation),
+            (r"[(){}.;,@«»]", Punctuation),
             (NAME, Name),
         ]
     }
@@ -37,7 +37,7 @@ class RattleLexer(RegexLexer):
             (r"\s+", Text),
             (r"//.*", Comment.Single),
             (r'"(?:\\.|[^"\\])*"', String),
-            (r"#\[[^\]]*\]", Comment.Preproc),
+            (r"#!?\[[^\]]*\]", Comment.Preproc),
             (
                 r"(pub|fn|extern|use|ghost|mod|struct|enum|const|let|mut|if|else|while|return|match|as|requires|"
                 r"ensures|continue|for|in)(?![\w-])",
@@ -46,7 +46,7 @@ class RattleLexer(RegexLexer):
             (r"(u8|u16|u32|u64|usize|bool)(?![\w-])", Keyword.Type),
             (r"\d[\w]*", Number),
             (r"->|[&|^+*/%<>=!→≡≤×λ]+", Operator),
-            (r"[(){}\[\].;:,⌜⌝]", Punctuation),
+            (r"[(){}\[\].;:,]", Punctuation),
             (r"[\w'·₀-₉-]+", Name),
             (r".", Text),
         ]
