@@ -7,6 +7,7 @@
 #include <stdlib.h>
 #include <string.h>
 #include <sys/stat.h>
+#include <time.h>
 #include <unistd.h>
 
 #include "system/descriptors.h"
@@ -28,17 +29,37 @@ static bool read_byte(int file, off_t at, char *byte) {
     return good;
 }
 
-/* Whether what is written next would be joined to an unended line. Where that cannot be known it is
- * taken to be so: an empty line does no harm. */
-static bool within_line(int file) {
+enum line_end { ENDED, UNENDED, UNKNOWN };
+
+/* How the line ends behind which the next write goes. Only a regular file is looked at. */
+static enum line_end line_end(int file) {
     struct stat status;
     char last = '\0';
     if (fstat(file, &status) != 0 || !S_ISREG(status.st_mode)) {
-        return false;
+        return ENDED;
     }
     const bool at_end = (fcntl(file, F_GETFL) & O_APPEND) != 0;
     const off_t end = at_end ? status.st_size : lseek(file, 0, SEEK_CUR);
-    return end > 0 && (!read_byte(file, end - 1, &last) || last != '\n');
+    if (end <= 0) {
+        return ENDED;
+    }
+    if (!read_byte(file, end - 1, &last)) {
+        return UNKNOWN;
+    }
+    return last == '\n' ? ENDED : UNENDED;
+}
+
+/* Whether what is written next would be joined to an unended line. Where that cannot be known it is
+ * taken to be so: an empty line does no harm. While another run writes its line, others can see it
+ * without its end, so an unended line is looked at again, for a fifth of a second in all. */
+static bool within_line(int file) {
+    const struct timespec pause = {0, 2000000};
+    enum line_end end = line_end(file);
+    for (int looks = 1; end == UNENDED && looks < 100; looks++) {
+        (void)nanosleep(&pause, NULL);
+        end = line_end(file);
+    }
+    return end != ENDED;
 }
 
 bool append_line(int file, const char *line, size_t len) {

@@ -214,6 +214,18 @@ test_log_torn() {
     same 'empty lines of it' 0 "$(grep -c '^$' log)"
 }
 
+# A line that another run is writing is none that was cut off: a moment later it is whole.
+once_log_amid() {
+    begin
+    printf '2026-11-15T16:50:01Z read' >log
+    prefix=(env "LD_PRELOAD=$faults" FAULT=amid)
+    run 0 --log log read "$header" "$marker" slots out
+    prefix=()
+    same 'the line that was seen in part' '2026-11-15T16:50:01Z read status=0' "$(head -n 1 log)"
+    same 'lines of that log' 2 "$(wc -l <log)"
+    logged log "read $sound"
+}
+
 # A full disk cuts a line off; the next run does not join its own to it.
 once_log_full_disk() {
     begin
