@@ -20,6 +20,7 @@ FUNCTION = re.compile(
 CONTRACT = re.compile(r"\b(?:requires|ensures)\b(?:\s+\w+)?\s*\{|\{")
 CLAUSE = re.compile(r"\s*(requires|ensures)\b(?:\s+\w+)?\s*\{")
 PARAMETER = re.compile(r"(\w+)\s*:(?!:)")
+BOUND = re.compile(r"(\w+)\s*:(?!:)\s*(\w+(?:::\w+)*)")
 USED = re.compile(r"((?:\w+::)*)(?:(\w+)|\{([\w, ]+)\})")
 
 
@@ -31,7 +32,7 @@ class Function(Declaration):
         self.public, self.exported = public, exported
         self.clauses = []  # the tokens within the braces of each
         self.parameters = set()
-        self.generic = set()  # the parameters that are types
+        self.generic = {}  # the parameters that are types, with the trait of each
 
 
 class RattleModule(Module):
@@ -110,7 +111,7 @@ def read_function(module, bare, found):
         raise NotFollowed(f"{module.path}: the signature of {made.name} is not followed")
     made.parameters = set(PARAMETER.findall(bare[opening:closed])) | {"self", "result"}
     made.types = bare[opening:at]
-    made.generic = set(PARAMETER.findall(bare[found.end():opening]))
+    made.generic = dict(BOUND.findall(bare[found.end():opening]))
     while clause := CLAUSE.match(bare, at):
         end = closing(bare, clause.end() - 1)
         made.clauses.append(statement(module.code, clause.end(), end).tokens())

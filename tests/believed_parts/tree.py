@@ -225,9 +225,19 @@ class Tree:
                     scope.term(nest(clause), frozenset(made.parameters))
             else:
                 scope.declaration(made)
-            return found + [(".".join(path), self.resolve(module, path)) for path in scope.cited]
+            return found + [(".".join(path), self.cited_by(made, path)) for path in scope.cited]
         except NotFollowed as fault:
             raise NotFollowed(f"{made.place}: {made.name}: {fault}") from None
+
+    def cited_by(self, made, path):
+        """What a name in a declaration refers to: in a contract, R.remaining is what the trait of the
+        parameter R has, which must be one of the kit's."""
+        if made.kind == "contract" and path[0] in made.generic:
+            first, *steps = made.generic[path[0]].split("::")
+            used = made.module.types_used.get(first, [""])
+            if used[0] in self.kit_crates:
+                return Target(".".join([*used, *steps, *path[1:]]), None)
+        return self.resolve(made.module, path)
 
     def types_in(self, module, text, bound):
         """The structs and enums that the types in a Rattle text cite: its capitalised names, but those

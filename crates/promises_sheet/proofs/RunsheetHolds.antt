@@ -5,18 +5,18 @@ use Prim.Native.Nat.{ℕ, zero, suc, ◌+◌, ◌*◌, ◌/◌, ◌%◌, ◌^◌
 use native.Mathlib.Omega.{arith}
 use native.Mathlib.Nat.{pow-suc}
 use lib.Dec.{ltb}
-use lib.ListN.{length}
-use borrow.Author.Tests.{lt-ltb, le-ltb, ne_eqb}
-use Rattle.answers.specs.declared.Answer.TheVariants.{Done, No}
+use borrow.Author.Tests.{lt-ltb, le-ltb}
+use Rattle.answers.specs.declared.Answer.TheVariants.{Done}
 use Rattle.bits.specs.Basics.{pick}
 use Rattle.sizes.specs.Sizes.{inputs_per, coded_per}
 use Rattle.header.specs.Header.{fields_of}
 use Rattle.header.specs.declared.Fields.{Fields}
 use Rattle.header_sizes.specs.Quantities.{pulse_order}
-use Rattle.header_questions.specs.Questions.{question1, form_says, header_says}
+use Rattle.header_questions.specs.Questions.{header_says}
 use Rattle.sheet.specs.Text.{digit, decimal_in, decimal, item, items}
 use Rattle.sheet.specs.Line.{rate_text, run_numbers, run_line, no_line, line_for, line_of}
 use Rattle.sheet.proofs.Examples as examples
+use Rattle.sheet.proofs.Input.{other_length}
 use Rattle.promises_sheet.specs.Runsheet.{Runsheet, PrintedIs, DecimalIs, LineRefused, LineAccepted, LineOfOthers, LineExample, spaced, numbers_of}
 
 pub printed_is : PrintedIs
@@ -64,10 +64,6 @@ accepted_at header f rate e g h =
 pub line_accepted : LineAccepted
 unfolding rate_text inputs_per coded_per
 line_accepted header e f g = (accepted_at header f 0 e g, accepted_at header f 1 e g, accepted_at header f 2 e g)
-
-other_length : (header : List ℕ) → (length header ≡ 10 → ⊥) → header_says header ≡ No 1 0
-unfolding header_says form_says question1
-other_length header h = rw (ne_eqb (length header) 10 h) refl
 
 pub line_of_others : LineOfOthers
 unfolding decimal decimal_in
