@@ -174,7 +174,7 @@ host-test: $(HOST_TESTS)
 	@$(STACK_TEST)
 	@echo 'tests outside the proofs: passed'
 
-# The proofs first, on all cores and quietly, where make sees that they are to be done.
+# The proofs first, lowest crate first and quietly, where make sees that they are to be done.
 PICTURE = target/demo/damage.svg
 demo:
 	@[ '$(LIBS)' != '$(LIBRARY)' ] || $(MAKE) -q $(CALLS) >/dev/null 2>&1 || \
@@ -241,20 +241,22 @@ deb-test: deb $(LIBS) $(SHARED) $(PROGRAM)
 	@tests/packages $(DEB)
 
 clean:
-	rm -rf $(HOST) target/lib target/book target/book-source
+	rm -rf $(HOST) target/lib target/book target/book-source $(DEB)
 
 # `rt` proves what these rest on, where that is not done yet. It leaves a file alone that nothing has
-# changed for: touched, the file is newer than what it was seen to rest on.
+# changed for, so the file gets the time at which `rt` began: what changed meanwhile is newer.
 PROVED := crates.txt $(shell find $(wildcard crates/*/src crates/*/specs crates/*/proofs) \
     -name '*.rt' -o -name '*.antt')
 $(CALLS): $(PROVED)
+	@mkdir -p $(@D) && touch $@.begun
 	cd crates/c_calls && rt lib
-	@touch $@
+	@touch -r $@.begun $@ && rm -f $@.begun
 
 # `rt` builds a program by running it; for no input this one has a line too, and the status 0.
 crates/runsheet/out/runsheet: $(PROVED)
+	@mkdir -p $(@D) && touch $@.begun
 	cd crates/runsheet && rt run </dev/null
-	@touch $@
+	@touch -r $@.begun $@ && rm -f $@.begun
 
 # Plain C for C programs (mahyrei_plain.h), which is in every archive beside the calls.
 PARTS = $(patsubst plain/%.c,target/lib/plain/%.o,$(wildcard plain/*.c))
@@ -274,8 +276,8 @@ $(SHARED): $(LIBS) $(HOST)/archives plain/libmahyrei.map
 	@$(CC) $(CFLAGS) -shared -Wl,-soname,libmahyrei.so.$(ABI) \
 	    -Wl,--version-script,plain/libmahyrei.map -Wl,-z,text,-z,defs,-z,relro,-z,now \
 	    -Wl,--whole-archive $(LIBS) -Wl,--no-whole-archive $(LDFLAGS) -o $@
-	@cp -f $@ $(@D)/libmahyrei.so.$(ABI)
-	@cp -f $@ $(@D)/libmahyrei.so
+	@cp --remove-destination $@ $(@D)/libmahyrei.so.$(ABI)
+	@cp --remove-destination $@ $(@D)/libmahyrei.so
 
 # Names the archives in use, and the digest: a program linked with others is linked again.
 LINKED = $(LIBS) $(HOST)/archives

@@ -31,7 +31,7 @@ static bool read_byte(int file, off_t at, char *byte) {
 
 enum line_end { ENDED, UNENDED, UNKNOWN };
 
-/* How the line ends behind which the next write goes. Only a regular file is looked at. */
+/* How the line before the next write ends. Only a regular file is looked at. */
 static enum line_end line_end(int file) {
     struct stat status;
     char last = '\0';

@@ -7,7 +7,8 @@
 
 /*
  * Adds a line in one write; false and errno where that fails. What a full disk or a power cut left
- * of an earlier line is ended first: joined to it, this line could be taken for part of another.
+ * of an earlier line is ended first: joined to it, this line could be taken for part of another. A
+ * line that another program may be writing gets a fifth of a second for its end.
  */
 bool append_line(int file, const char *line, size_t len);
 

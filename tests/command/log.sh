@@ -214,7 +214,7 @@ test_log_torn() {
     same 'empty lines of it' 0 "$(grep -c '^$' log)"
 }
 
-# A line that another run is writing is none that was cut off: a moment later it is whole.
+# A line that another run is writing has not been cut off: a moment later it is whole.
 once_log_amid() {
     begin
     printf '2026-11-15T16:50:01Z read' >log
