@@ -1,4 +1,4 @@
--- Each read puts what it took from the input behind what stands in the slice.
+-- Each read puts what it took from the input after what the slice already holds.
 use Rattle.std.proofs.Common.{◌≡◌, ℕ, ◌+◌, ◌≤◌, List, ◌++◌, sym, ap, ap₂, ◌∙◌, subst, length, length-take-le, drop, drop_at, take, refl, arith, rules}
 use lib.Seq.{take-add, take-append-le}
 use borrow.Rule.Slice.PartMut.{put_mid, post_of, take_put}
