@@ -1,3 +1,2 @@
 -- What the proofs of this crate share; Laws are for other crates too.
-pub mod Refused
 pub mod Laws

@@ -2,8 +2,11 @@
 -- lent slice holds afterwards; and the one number that C gets.
 use Rattle.std.specs.Prelude.{Bool, true, false, ◌||◌, List, [], ◌∷◌, ℕ, ◌+◌, ◌*◌, eqb}
 use Rattle.bits.specs.Basics.{up_to}
-use Rattle.answers.specs.declared.Answer.{Answer}
-use Rattle.answers.specs.declared.Answer.TheVariants.{Done, No}
+
+-- done, or the number of the question that was answered no, and the place
+pub data Answer : Type 0 where
+  Done : Answer
+  No : ℕ → ℕ → Answer
 
 -- the number of the question that was answered no; 0 on acceptance
 abbrev pub number_of : Answer → ℕ

@@ -3,10 +3,8 @@ use mathlib.Core.Path.{◌≡◌, ap, ◌∙◌}
 use mathlib.Core.List.{List}
 use Prim.Native.Nat.{ℕ}
 use lib.ListN.{length}
-use Rattle.answers.specs.Answer.{code_with, after}
+use Rattle.answers.specs.Answer.{Answer, Done, code_with, after}
 use Rattle.answers.proofs.Laws.Answer.{with_same}
-use Rattle.answers.specs.declared.Answer.{Answer}
-use Rattle.answers.specs.declared.Answer.TheVariants.{Done}
 use Rattle.header.specs.Header.{fields_of}
 use Rattle.delay.specs.Delay.{step_says, gives, leaves, step_code, area_after}
 use Rattle.delay.specs.declared.Side.{Side}

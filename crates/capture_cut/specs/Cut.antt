@@ -2,8 +2,7 @@
 use Rattle.std.specs.Prelude.{Bool, List, ℕ, ◌+◌, ◌*◌, ◌≤◌, ◌<◌, leb, eqb, ◌≡◌, length}
 use Rattle.bits.specs.Pack.{bit_at, bytes_of, cut}
 use Rattle.bits.specs.Basics.{both}
-use Rattle.answers.specs.declared.Answer.{Answer}
-use Rattle.answers.specs.Answer.{after, ask, then}
+use Rattle.answers.specs.Answer.{Answer, after, ask, then}
 use Rattle.header.specs.Header.{fields_of}
 use Rattle.header.specs.declared.Fields.{Fields}
 use Rattle.header_sizes.specs.Quantities.{slot_count, slot_bytes}

@@ -2,7 +2,7 @@
 #![tactic(auto)]
 
 ghost use Rattle.std.specs.Prelude.{◌≡◌, ◌≤◌, ◌<◌, length};
-ghost use Rattle.answers.specs.declared.Answer.TheVariants.{Done};
+ghost use Rattle.answers.specs.Answer.{Done};
 ghost use Rattle.plan.specs.Inner.{Fine};
 ghost use Rattle.plan.specs.Plan.{plan_in};
 ghost use Rattle.capture_search.specs.Search.{find_lengths_right, first_fit_from, capture_most, slot_says, find_from_says};

@@ -13,7 +13,7 @@ use Rattle.bits.proofs.Laws.Choice.{lt_or_le, eq_or_ne}
 use Rattle.bits.specs.Pack.{bit_at}
 use Rattle.bits.specs.Inner.{put_bit}
 use Rattle.bits.proofs.Laws.Put.{put_same, put_other}
-use Rattle.answers.specs.declared.Answer.TheVariants.{No}
+use Rattle.answers.specs.Answer.{No}
 use Rattle.plan.specs.declared.Plan.{Plan}
 use Rattle.plan.specs.Inner.{Fine}
 use Rattle.pulses.specs.Pulses.{slot_bit}

@@ -2,8 +2,7 @@
 -- slot.
 use Rattle.std.specs.Prelude.{Bool, List, ℕ, ◌*◌, ◌^◌, ◌+◌, ◌≤◌, ◌<◌, ltb, leb, eqb, length, get_or, ◌≡◌}
 use Rattle.bits.specs.Basics.{both, bool}
-use Rattle.answers.specs.declared.Answer.{Answer}
-use Rattle.answers.specs.Answer.{code_with, ask, then}
+use Rattle.answers.specs.Answer.{Answer, code_with, ask, then}
 use Rattle.header.specs.Header.{fields_of}
 use Rattle.header.specs.declared.Fields.{Fields}
 use Rattle.header_sizes.specs.Quantities.{marker_bytes, slots_per_symbol}

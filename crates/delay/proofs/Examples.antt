@@ -4,7 +4,7 @@ use mathlib.Core.List.{List, [], ◌∷◌, map}
 use Prim.Native.Nat.{ℕ, ◌+◌, ◌-◌, ◌^◌}
 use Rattle.bits.specs.Pack.{val, bit_at}
 use Rattle.bits.specs.Basics.{tab}
-use Rattle.answers.specs.declared.Answer.TheVariants.{Done, No}
+use Rattle.answers.specs.Answer.{Done, No}
 use Rattle.header.specs.Header.{field, fields_of, spare_of}
 use Rattle.header_sizes.specs.Quantities.{pulse_order, symbols_per_word, interleaver_delay}
 use Rattle.header_questions.specs.Questions.{question1, question2, question3, question4, question5, question6, question7, copies_good, fields_say, form_says, header_says}

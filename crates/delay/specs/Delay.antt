@@ -3,8 +3,7 @@
 -- in an area, zero at the start, and nothing else is kept between steps.
 use Rattle.std.specs.Prelude.{List, ℕ, zero, suc, ◌+◌, ◌-◌, ◌*◌, ◌/◌, ◌%◌, ltb, eqb, length, get_or, set}
 use Rattle.bits.specs.Basics.{pick}
-use Rattle.answers.specs.declared.Answer.{Answer}
-use Rattle.answers.specs.Answer.{after, ask, then, code_with}
+use Rattle.answers.specs.Answer.{Answer, after, ask, then, code_with}
 use Rattle.header.specs.Header.{fields_of}
 use Rattle.header.specs.declared.Fields.{Fields}
 use Rattle.header_sizes.specs.Quantities.{pulse_order, interleaver_delay}

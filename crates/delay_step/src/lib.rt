@@ -2,8 +2,7 @@
 #![tactic(auto)]
 
 ghost use Rattle.std.specs.Prelude.{◌≡◌, ◌%◌, length};
-ghost use Rattle.answers.specs.Answer.{after};
-ghost use Rattle.answers.specs.declared.Answer.TheVariants.{Done};
+ghost use Rattle.answers.specs.Answer.{Done, after};
 ghost use Rattle.header.specs.Header.{fields_of};
 ghost use Rattle.delay.specs.Delay.{step_says, gives, leaves};
 

@@ -2,8 +2,7 @@
 use Rattle.std.specs.Prelude.{Bool, true, false, not, ◌||◌, List, [], ◌∷◌, ℕ, ◌+◌, ◌*◌, ◌/◌, ◌%◌, ltb, leb, eqb, length, get_or}
 use Rattle.bits.specs.Basics.{bool, tab, both}
 use Rattle.bits.specs.Count.{weight}
-use Rattle.answers.specs.declared.Answer.{Answer}
-use Rattle.answers.specs.Answer.{after, ask, then}
+use Rattle.answers.specs.Answer.{Answer, after, ask, then}
 use Rattle.header.specs.Header.{fields_of}
 use Rattle.header_sizes.specs.Quantities.{block_count, symbol_count, layout_of}
 use Rattle.header_questions.specs.Questions.{header_says}

@@ -2,8 +2,7 @@
 use Rattle.std.specs.Prelude.{List, ℕ, ltb, eqb, length}
 use Rattle.bits.specs.Basics.{pick, bool}
 use Rattle.bits.specs.Pack.{bit_at, bytes_of, cut}
-use Rattle.answers.specs.declared.Answer.{Answer}
-use Rattle.answers.specs.Answer.{after, ask, then}
+use Rattle.answers.specs.Answer.{Answer, after, ask, then}
 use Rattle.header.specs.Header.{fields_of}
 use Rattle.header_questions.specs.Questions.{header_says, old_says}
 

@@ -11,8 +11,7 @@ use Rattle.bits.proofs.Laws.Table.{both_true}
 use Rattle.header.specs.Header.{spare_of, old_spare_of}
 use Rattle.header.specs.declared.Fields.{Fields}
 use Rattle.header_questions.specs.Questions.{question1, old_question1, question2, question3, question4, question5, question6, question7, fields_say}
-use Rattle.answers.specs.Answer.{ask, then}
-use Rattle.answers.specs.declared.Answer.TheVariants.{Done, No}
+use Rattle.answers.specs.Answer.{Done, No, ask, then}
 
 -- what a test `if !r` says of the question that gave r
 pub passed : (r test : Bool) → r ≡ test → not r ≡ false → test ≡ true

@@ -4,8 +4,7 @@ use Rattle.bits.specs.Basics.{both, up_to}
 use Rattle.header.specs.Header.{fields_of, spare_of, old_spare_of}
 use Rattle.header_sizes.specs.Quantities.{pulse_order, symbols_per_word, interleaver_delay}
 use Rattle.header.specs.declared.Fields.{Fields}
-use Rattle.answers.specs.declared.Answer.{Answer}
-use Rattle.answers.specs.Answer.{ask, then, among}
+use Rattle.answers.specs.Answer.{Answer, ask, then, among}
 
 -- x is at least `least` and at most `most`
 abbrev pub within : ℕ → ℕ → ℕ → Bool

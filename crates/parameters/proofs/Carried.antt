@@ -17,8 +17,7 @@ use Rattle.parameters.specs.Parameters.{parameters_of}
 use Rattle.parameters.specs.Inner.{no_parameters, checked_of, checked}
 use Rattle.parameters.specs.declared.Parameters.{Parameters}
 use Rattle.parameters.specs.declared.Checked.{Checked}
-use Rattle.answers.specs.declared.Answer.{Answer}
-use Rattle.answers.specs.declared.Answer.TheVariants.{Done, No}
+use Rattle.answers.specs.Answer.{Answer, Done, No}
 
 -- one symbol more is carried along
 pub cut_more : (x : ℕ → ℕ) (xs : List ℕ) (i : ℕ) → i < length xs → ((k : ℕ) → k < 32 → get_or xs k 0 ≡ cut i x k)

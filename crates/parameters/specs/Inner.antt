@@ -3,8 +3,7 @@ use Rattle.std.specs.Prelude.{List, ℕ}
 use Rattle.bits.specs.Basics.{tab}
 use Rattle.header.specs.Header.{fields_of}
 use Rattle.header_questions.specs.Questions.{run_says}
-use Rattle.answers.specs.declared.Answer.{Answer}
-use Rattle.answers.specs.declared.Answer.TheVariants.{Done, No}
+use Rattle.answers.specs.Answer.{Answer, Done, No}
 use Rattle.parameters.specs.declared.Parameters.{Parameters}
 use Rattle.parameters.specs.declared.Checked.{Checked}
 use Rattle.parameters.specs.Parameters.{parameters_of}

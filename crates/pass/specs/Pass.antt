@@ -3,8 +3,7 @@
 use Rattle.std.specs.Prelude.{Bool, List, [], ◌++◌, ℕ, zero, suc, ◌*◌, ◌/◌, ltb, leb, eqb, length}
 use Rattle.bits.specs.Basics.{both}
 use Rattle.bits.specs.Pack.{piece}
-use Rattle.answers.specs.declared.Answer.{Answer}
-use Rattle.answers.specs.Answer.{after, ask, then, put_in_order}
+use Rattle.answers.specs.Answer.{Answer, after, ask, then, put_in_order}
 use Rattle.sizes.specs.Sizes.{block_bytes, word_bytes}
 use Rattle.word.specs.Word.{word_of, block_in, word_write_says, word_read_says}
 

@@ -2,8 +2,7 @@
 #![tactic(auto)]
 
 ghost use Rattle.std.specs.Prelude.{◌≡◌, ◌≤◌, length};
-ghost use Rattle.answers.specs.declared.Answer.TheVariants.{Done};
-ghost use Rattle.answers.specs.Answer.{after, put_in_order};
+ghost use Rattle.answers.specs.Answer.{Done, after, put_in_order};
 ghost use Rattle.pass.specs.Pass.{blocks_of, pass_word_says, pass_read_says};
 ghost use Rattle.pass.specs.Inner.{Lent};
 ghost use Rattle.pass_reader.specs.Inner.{Aside, Roomy};

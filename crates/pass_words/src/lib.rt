@@ -3,8 +3,7 @@
 
 ghost use Rattle.std.specs.Prelude.{◌≡◌, ℕ, ◌<◌};
 ghost use Rattle.bits.specs.Pack.{piece};
-ghost use Rattle.answers.specs.declared.Answer.TheVariants.{Done};
-ghost use Rattle.answers.specs.Answer.{after, put_in_order};
+ghost use Rattle.answers.specs.Answer.{Done, after, put_in_order};
 ghost use Rattle.sizes.specs.Sizes.{block_bytes, word_bytes};
 ghost use Rattle.word.specs.Word.{block_in};
 ghost use Rattle.pass.specs.Pass.{pass_word_says};

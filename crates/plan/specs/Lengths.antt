@@ -1,8 +1,7 @@
 -- Question 8, and with it all that a call asks before it looks at frames or slots.
 use Rattle.std.specs.Prelude.{Bool, List, ℕ, eqb, length}
 use Rattle.bits.specs.Basics.{both}
-use Rattle.answers.specs.declared.Answer.{Answer}
-use Rattle.answers.specs.Answer.{ask, then}
+use Rattle.answers.specs.Answer.{Answer, ask, then}
 use Rattle.header.specs.Header.{fields_of}
 use Rattle.header_sizes.specs.Quantities.{marker_bytes, frame_bytes, slot_bytes}
 use Rattle.header_questions.specs.Questions.{run_says}

@@ -2,7 +2,7 @@
 #![tactic(auto)]
 
 ghost use Rattle.std.specs.Prelude.{◌≡◌, ◌≤◌};
-ghost use Rattle.answers.specs.declared.Answer.TheVariants.{Done};
+ghost use Rattle.answers.specs.Answer.{Done};
 ghost use Rattle.header.specs.Header.{fields_of};
 ghost use Rattle.parameters.specs.Parameters.{parameters_of};
 ghost use Rattle.header_sizes.specs.Inner.{Valid};

@@ -14,9 +14,7 @@ use Rattle.bits.proofs.Laws.Choice.{lt_or_le}
 use Rattle.bits.specs.Pack.{cut}
 use Rattle.bits.proofs.Laws.Pack.{cut_in, cut_past}
 use Rattle.bits.proofs.Laws.Table.{tab_made}
-use Rattle.answers.specs.Answer.{place_of, code_with, after}
-use Rattle.answers.specs.declared.Answer.{Answer}
-use Rattle.answers.specs.declared.Answer.TheVariants.{Done}
+use Rattle.answers.specs.Answer.{Answer, Done, place_of, code_with, after}
 use Rattle.header.specs.Header.{fields_of}
 use Rattle.header.specs.declared.Fields.{Fields}
 use Rattle.header_sizes.specs.Quantities.{pulse_order, symbols_per_word, block_count, interleaver_delay, layout_of}

@@ -3,10 +3,8 @@ use mathlib.Core.Path.{◌≡◌, refl}
 use lib.Dec.{ltb}
 use lib.ListN.{length}
 use borrow.Author.Tests.{lt-ltb}
-use Rattle.answers.specs.Answer.{ask}
+use Rattle.answers.specs.Answer.{Answer, Done, ask}
 use Rattle.answers.proofs.Laws.Answer.{then_when, ask_yes}
-use Rattle.answers.specs.declared.Answer.{Answer}
-use Rattle.answers.specs.declared.Answer.TheVariants.{Done}
 use Rattle.sizes.specs.Sizes.{info_bits}
 use Rattle.word.proofs.Laws.Exports as word_laws
 use Rattle.header.specs.Header.{fields_of}

@@ -5,8 +5,7 @@ use lib.ListN.{length, get_or}
 use Rattle.bits.specs.Pack.{cut}
 use Rattle.bits.proofs.Laws.Pack.{cut_in}
 use Rattle.bits.proofs.Laws.Table.{get_or_tab}
-use Rattle.answers.specs.Answer.{then, after}
-use Rattle.answers.specs.declared.Answer.{Answer}
+use Rattle.answers.specs.Answer.{Answer, then, after}
 use Rattle.header_sizes.specs.Quantities as sizes
 use Rattle.header_questions.specs.Questions.{lent_marks, run_says}
 use Rattle.parameters.specs.Parameters.{parameters_of}

@@ -4,8 +4,7 @@
 -- `call_says` is questions 1 to 7, 20 and 8 of a call that is lent frames and slots (plan/specs/Lengths.antt); the fill bits are what the C blocks of k bits
 -- hold after the A marked frames.
 use Rattle.std.specs.Prelude.{◌≡◌, List, ℕ, ◌+◌, ◌*◌, ◌<◌, ltb, eqb, length}
-use Rattle.answers.specs.Answer.{number_of, ask, then}
-use Rattle.answers.specs.declared.Answer.TheVariants.{Done}
+use Rattle.answers.specs.Answer.{Done, number_of, ask, then}
 use Rattle.sizes.specs.Sizes.{info_bits}
 use Rattle.word.specs.Word.{word_read_says, word_write_says}
 use Rattle.header.specs.Header.{fields_of}

@@ -8,8 +8,7 @@
 -- question 10 for factor 1, and pools the copies for the others.
 use Rattle.std.specs.Prelude.{◌≡◌, List, ℕ, ◌+◌, ◌*◌, ◌/◌, ◌^◌, min, ◌<◌, ltb, eqb, length, get_or}
 use Rattle.bits.specs.Basics.{both}
-use Rattle.answers.specs.Answer.{code_of, ask, then, after, put_in_order}
-use Rattle.answers.specs.declared.Answer.TheVariants.{No}
+use Rattle.answers.specs.Answer.{No, code_of, ask, then, after, put_in_order}
 use Rattle.sizes.specs.Sizes.{info_bits, block_bytes}
 use Rattle.word.specs.Word as words
 use Rattle.word.specs.Word.{word_read_says, word_write_says}

@@ -1,7 +1,7 @@
 -- Card 6, of the calls: a header that is refused is refused by every call that is lent it, with that number, and "question 20 is put to every call that is lent a header, Card 1's
 -- search too".
 use Rattle.std.specs.Prelude.{◌≡◌, true, false, List, ℕ, ◌<◌}
-use Rattle.answers.specs.declared.Answer.TheVariants.{Done, No}
+use Rattle.answers.specs.Answer.{Done, No}
 use Rattle.header.specs.Header.{fields_of}
 use Rattle.header_questions.specs.Questions.{copies_good, form_says, header_says, marks_good}
 use Rattle.header_convert.specs.Convert.{narrow_says}

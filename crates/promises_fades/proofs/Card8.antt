@@ -9,9 +9,7 @@ use borrow.Author.Tests.{eq-eqb}
 use Rattle.bits.proofs.Laws.Choice.{lt_or_le}
 use Rattle.bits.proofs.Laws.Table.{length_tab, get_or_tab}
 use Rattle.bits.specs.Count.{weight}
-use Rattle.answers.specs.Answer.{after}
-use Rattle.answers.specs.declared.Answer.{Answer}
-use Rattle.answers.specs.declared.Answer.TheVariants.{Done}
+use Rattle.answers.specs.Answer.{Answer, Done, after}
 use Rattle.header.specs.Header.{fields_of, with_copies}
 use Rattle.header.specs.declared.Fields.{Fields}
 use Rattle.header_sizes.specs.Quantities.{symbols_per_word, marked_bits, block_count, interleaver_delay, sequence_length, line_count, symbol_count, layout_of}

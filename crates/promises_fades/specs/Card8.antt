@@ -11,8 +11,7 @@
 use Rattle.std.specs.Prelude.{◌≡◌, true, false, not, List, [], ◌∷◌, ◌⊎◌, ℕ, ◌+◌, ◌-◌, ◌*◌, ◌/◌, ◌%◌, ◌≤◌, ◌<◌, ltb, leb, eqb, length, get_or}
 use Rattle.bits.specs.Basics.{bool, tab, both, up_to}
 use Rattle.bits.specs.Count.{weight}
-use Rattle.answers.specs.Answer.{ask, then}
-use Rattle.answers.specs.declared.Answer.TheVariants.{Done, No}
+use Rattle.answers.specs.Answer.{Done, No, ask, then}
 use Rattle.header.specs.Header.{fields_of, with_copies}
 use Rattle.header.specs.declared.Fields.{Fields}
 use Rattle.header_sizes.specs.Quantities.{symbols_per_word, block_count, line_count, symbol_count, layout_of}

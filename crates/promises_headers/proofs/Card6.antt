@@ -9,9 +9,7 @@ use borrow.Author.Tests.{ltb-true, leb-true, eqb-true, lt-ltb, le-leb, eq-eqb, n
 use Rattle.bits.specs.Pack.{val, bit_at, bytes_of, cut}
 use Rattle.bits.specs.Basics.{tab, both}
 use Rattle.bits.proofs.Laws.Table.{both_true}
-use Rattle.answers.specs.Answer.{ask, then, after}
-use Rattle.answers.specs.declared.Answer.{Answer}
-use Rattle.answers.specs.declared.Answer.TheVariants.{Done, No}
+use Rattle.answers.specs.Answer.{Answer, Done, No, ask, then, after}
 use Rattle.answers.proofs.Laws.Answer.{then_done, ask_done}
 use Rattle.header.specs.Header.{field, fields_of, spare_of, old_spare_of, with_copies}
 use Rattle.header.specs.declared.Fields.{Fields}

@@ -10,9 +10,7 @@
 use Rattle.std.specs.Prelude.{◌≡◌, Bool, ◌||◌, List, [], ◌∷◌, ◌⊎◌, ℕ, ◌+◌, ◌-◌, ◌*◌, ◌/◌, ◌%◌, ◌≤◌, ◌<◌, ltb, leb, eqb, length, get_or}
 use Rattle.bits.specs.Pack.{val, bit_at, Bytes}
 use Rattle.bits.specs.Basics.{both}
-use Rattle.answers.specs.Answer.{ask, then}
-use Rattle.answers.specs.declared.Answer.{Answer}
-use Rattle.answers.specs.declared.Answer.TheVariants.{Done, No}
+use Rattle.answers.specs.Answer.{Answer, Done, No, ask, then}
 use Rattle.header.specs.Header.{fields_of, with_copies}
 use Rattle.header.specs.declared.Fields.{Fields}
 use Rattle.header_questions.specs.Questions.{question1, question2, question3, question4, question5, question6, question7, form_says, header_says, old_says}

@@ -13,8 +13,7 @@
 -- whether that place is lent to mission m. Callers, owners, places and the area are arbitrary unless it says otherwise.
 use Rattle.std.specs.Prelude.{◌≡◌, Bool, true, false, not, ◌||◌, List, [], ◌∷◌, ◌++◌, ◌⊎◌, ℕ, ◌+◌, ◌*◌, ◌≤◌, ◌<◌, ltb, eqb, length, get_or, replicate}
 use Rattle.bits.specs.Basics.{both}
-use Rattle.answers.specs.Answer.{number_of, place_of, ask, then, among}
-use Rattle.answers.specs.declared.Answer.TheVariants.{Done, No}
+use Rattle.answers.specs.Answer.{Done, No, number_of, place_of, ask, then, among}
 use Rattle.header_questions.specs.Questions.{header_says}
 use Rattle.rack.specs.Rack.{entry_at, header_in, loaded, lent_to, Task, Load, Read, Drop, Lend, Call, call_of, says, after_call, told_of}
 use Rattle.rack.specs.Traces.{after_all, heard, lent, ever_lent, kept}

@@ -6,7 +6,7 @@ use Prim.Native.Nat.{ℕ, ◌+◌, ◌/◌, ◌^◌, ◌<◌}
 use native.Mathlib.Omega.{arith}
 use lib.ListN.{length, get_or}
 use Rattle.answers.proofs.Laws.Answer.{then_done}
-use Rattle.answers.specs.declared.Answer.TheVariants.{Done}
+use Rattle.answers.specs.Answer.{Done}
 use Rattle.header.specs.Header.{fields_of}
 use Rattle.header_sizes.specs.Quantities as quantities
 use Rattle.parameters.specs.Parameters.{parameters_of}

@@ -5,9 +5,7 @@ use native.Mathlib.Omega.{arith}
 use lib.ListN.{length, get_or}
 use borrow.Author.Tests.{eq-eqb, ne_eqb}
 use Rattle.bits.specs.Basics.{bool}
-use Rattle.answers.specs.Answer.{code_with, after}
-use Rattle.answers.specs.declared.Answer.{Answer}
-use Rattle.answers.specs.declared.Answer.TheVariants.{Done}
+use Rattle.answers.specs.Answer.{Answer, Done, code_with, after}
 use Rattle.bits.specs.Pack.{bit_at, cut}
 use Rattle.bits.proofs.Laws.Pack.{bit_lt, bytes_are, cut_bits}
 use Rattle.header.specs.declared.Fields.{Fields}

@@ -10,9 +10,7 @@ use lib.ListN.{length}
 use borrow.Author.Tests.{eq-eqb, ne_eqb}
 use Rattle.bits.proofs.Laws.Choice.{eq_or_ne}
 use Rattle.bits.proofs.Laws.Table.{true_false}
-use Rattle.answers.specs.Answer.{number_of, ask, then, among}
-use Rattle.answers.specs.declared.Answer.{Answer}
-use Rattle.answers.specs.declared.Answer.TheVariants.{Done, No}
+use Rattle.answers.specs.Answer.{Answer, Done, No, number_of, ask, then, among}
 use Rattle.answers.proofs.Laws.Answer.{ask_refused, then_refused, among_ask, among_then, among_order}
 use Rattle.sizes.specs.Sizes.{info_bits, block_bytes}
 use Rattle.header.specs.Header.{fields_of, with_copies}

@@ -12,10 +12,8 @@ use Rattle.bits.specs.Basics.{bool}
 use Rattle.bits.proofs.Laws.Choice.{lt_or_le}
 use Rattle.bits.specs.Pack.{Bits, bit_at, cut}
 use Rattle.bits.proofs.Laws.Pack.{length_bytes, bit_bytes, bit_bytes_past, cut_in, cut_bits, bytes_are as packed-bytes}
-use Rattle.answers.specs.Answer.{after}
+use Rattle.answers.specs.Answer.{Answer, Done, after}
 use Rattle.sizes.specs.Sizes.{word_bytes, info_bits, block_bytes}
-use Rattle.answers.specs.declared.Answer.{Answer}
-use Rattle.answers.specs.declared.Answer.TheVariants.{Done}
 use Rattle.word.specs.Word as words
 use Rattle.word.specs.Word.{word_read_says, word_write_says}
 use Rattle.word.proofs.Laws.Answers as answer_laws

@@ -2,9 +2,7 @@
 use mathlib.Core.Path.{◌≡◌, refl, sym, ap, ap₂, ◌∙◌}
 use mathlib.Core.List.{List}
 use Prim.Native.Nat.{ℕ, ◌*◌}
-use Rattle.answers.specs.Answer.{code_with}
-use Rattle.answers.specs.declared.Answer.{Answer}
-use Rattle.answers.specs.declared.Answer.TheVariants.{Done}
+use Rattle.answers.specs.Answer.{Answer, Done, code_with}
 use Rattle.plan.specs.Plan.{plan_in}
 use Rattle.capture_search.specs.Search.{first_fit_from, find_lengths_right, slot_says, find_from_says, find_from_code}
 use Rattle.capture_search.proofs.Laws.Theorems as search_theorems

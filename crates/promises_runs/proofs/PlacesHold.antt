@@ -10,9 +10,7 @@ use borrow.Author.Tests.{lt-ltb, ltb-true, le-leb, leb-true, eq-eqb, eqb-true}
 use Rattle.bits.specs.Basics.{both, up_to}
 use Rattle.bits.specs.Pack.{val, piece}
 use Rattle.bits.proofs.Laws.Table.{both_true}
-use Rattle.answers.specs.Answer.{ask, then}
-use Rattle.answers.specs.declared.Answer.{Answer}
-use Rattle.answers.specs.declared.Answer.TheVariants.{Done, No}
+use Rattle.answers.specs.Answer.{Answer, Done, No, ask, then}
 use Rattle.answers.proofs.Laws.Answer.{no_done, then_then, then_done, ask_done, ask_yes, ask_no, ask_refused}
 use Rattle.sizes.specs.Sizes.{info_bits, block_bytes}
 use Rattle.crc.specs.Check.{register}

@@ -24,7 +24,7 @@ use Rattle.accumulator.proofs.Laws.Accumulator.{differentiate_same}
 use Rattle.word.specs.Word as words
 use Rattle.word.specs.Word.{word_read_says}
 use Rattle.word.proofs.Laws.Word as word_laws
-use Rattle.answers.specs.declared.Answer.TheVariants.{No}
+use Rattle.answers.specs.Answer.{No}
 use Rattle.promises_runs.proofs.PlacesHold.{word_place_of_13, word_is_15}
 use Rattle.promises_runs.specs.Places.{CodedRight, ReadBitTwo, ZeroWordRefused}
 

@@ -12,8 +12,7 @@
 use Rattle.std.specs.Prelude.{◌≡◌, List, ℕ, ◌+◌, ◌-◌, ◌*◌, ◌/◌, ◌^◌, ◌≤◌, ◌<◌, ltb, leb, eqb, length, get_or}
 use Rattle.bits.specs.Pack.{bit_at, Bytes}
 use Rattle.bits.specs.Basics.{bool, both}
-use Rattle.answers.specs.Answer.{ask, then}
-use Rattle.answers.specs.declared.Answer.TheVariants.{Done, No}
+use Rattle.answers.specs.Answer.{Done, No, ask, then}
 use Rattle.header.specs.Header.{fields_of}
 use Rattle.header_sizes.specs.Quantities.{slot_count, slot_bytes, marker_bytes}
 use Rattle.header_questions.specs.Questions.{header_says, run_says}

@@ -11,8 +11,7 @@ use Rattle.std.specs.Prelude.{◌≡◌, true, false, List, [], ◌∷◌, map, 
 use Rattle.bits.specs.Basics.{bool}
 use Rattle.bits.specs.Pack.{bit_at, Bytes}
 use Rattle.bits.specs.Count.{weight}
-use Rattle.answers.specs.Answer.{number_of, among}
-use Rattle.answers.specs.declared.Answer.TheVariants.{Done, No}
+use Rattle.answers.specs.Answer.{Done, No, number_of, among}
 use Rattle.header.specs.Header.{fields_of, with_copies}
 use Rattle.header_sizes.specs.Quantities.{symbol_count, slot_count, slot_bytes}
 use Rattle.header_questions.specs.Questions.{copies_good, form_says, marks_good}

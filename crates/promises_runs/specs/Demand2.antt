@@ -9,7 +9,7 @@
 use Rattle.std.specs.Prelude.{◌≡◌, List, ℕ, ◌+◌, ◌-◌, ◌*◌, ◌/◌, ◌%◌, ◌^◌, ◌≤◌, ◌<◌, eqb, length, get_or}
 use Rattle.bits.specs.Basics.{bool}
 use Rattle.bits.specs.Pack.{bit_at, val, Bytes}
-use Rattle.answers.specs.declared.Answer.TheVariants.{Done}
+use Rattle.answers.specs.Answer.{Done}
 use Rattle.sizes.specs.Sizes.{info_bits, block_bytes, word_bytes}
 use Rattle.word.specs.Word as words
 use Rattle.word.specs.Word.{word_read_says, word_write_says}

@@ -6,8 +6,7 @@
 -- to begin at a slot, `MarkerAt`, and for a run to do so, `RunAt`.
 use Rattle.std.specs.Prelude.{◌≡◌, List, ℕ, ◌+◌, ◌-◌, ◌*◌, ◌^◌, ◌≤◌, ◌<◌, ltb, leb, eqb, length}
 use Rattle.bits.specs.Basics.{both}
-use Rattle.answers.specs.Answer.{ask, then}
-use Rattle.answers.specs.declared.Answer.TheVariants.{Done, No}
+use Rattle.answers.specs.Answer.{Done, No, ask, then}
 use Rattle.header.specs.Header.{fields_of}
 use Rattle.header_sizes.specs.Quantities.{marker_bytes}
 use Rattle.header_questions.specs.Questions.{run_says}

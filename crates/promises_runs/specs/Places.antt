@@ -9,9 +9,7 @@
 use Rattle.std.specs.Prelude.{◌≡◌, List, ℕ, ◌+◌, ◌-◌, ◌*◌, ◌/◌, ◌%◌, ◌^◌, ◌≤◌, ◌<◌, eqb, length, get_or}
 use Rattle.bits.specs.Basics.{bool}
 use Rattle.bits.specs.Pack.{val, bit_at, bytes_of, piece}
-use Rattle.answers.specs.Answer.{number_of}
-use Rattle.answers.specs.declared.Answer.{Answer}
-use Rattle.answers.specs.declared.Answer.TheVariants.{Done, No}
+use Rattle.answers.specs.Answer.{Answer, Done, No, number_of}
 use Rattle.sizes.specs.Sizes.{info_bits, block_bytes}
 use Rattle.crc.specs.Check.{register}
 use Rattle.convolution.specs.Code.{encode, decode}

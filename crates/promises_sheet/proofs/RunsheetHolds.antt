@@ -6,7 +6,7 @@ use native.Mathlib.Omega.{arith}
 use native.Mathlib.Nat.{pow-suc}
 use lib.Dec.{ltb}
 use borrow.Author.Tests.{lt-ltb, le-ltb}
-use Rattle.answers.specs.declared.Answer.TheVariants.{Done}
+use Rattle.answers.specs.Answer.{Done}
 use Rattle.bits.specs.Basics.{pick}
 use Rattle.sizes.specs.Sizes.{inputs_per, coded_per}
 use Rattle.header.specs.Header.{fields_of}

@@ -7,7 +7,7 @@
 -- `header_answers` (promises_headers/specs/Card6.antt); C, the symbols and the slots are `block_count`, `sent_symbols` and `slot_count`, in figures `run_sizes`
 -- (promises_headers/specs/Questions.antt). The line is text in ASCII: 48 to 57 are the digits, 32 is a space, 47 a slash, 10 the end of the line, 110 and 111 are `no`.
 use Rattle.std.specs.Prelude.{◌≡◌, List, [], ◌∷◌, ◌++◌, ℕ, ◌+◌, ◌/◌, ◌%◌, ◌^◌, ◌≤◌, ◌<◌, length, take}
-use Rattle.answers.specs.declared.Answer.TheVariants.{Done, No}
+use Rattle.answers.specs.Answer.{Done, No}
 use Rattle.header.specs.Header.{fields_of}
 use Rattle.header.specs.declared.Fields.{Fields}
 use Rattle.header_sizes.specs.Quantities.{block_count, sent_symbols, slot_count}

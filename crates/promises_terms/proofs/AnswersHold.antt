@@ -3,9 +3,7 @@ use mathlib.Core.Path.{◌≡◌, refl, ap}
 use native.Mathlib.Omega.{arith}
 use borrow.Author.Tests.{ne_eqb}
 use Rattle.bits.proofs.Laws.First.{found_at}
-use Rattle.answers.specs.Answer.{is_done, first_refused, put_in_order, number_of}
-use Rattle.answers.specs.declared.Answer.{Answer}
-use Rattle.answers.specs.declared.Answer.TheVariants.{No}
+use Rattle.answers.specs.Answer.{Answer, No, is_done, first_refused, put_in_order, number_of}
 use Rattle.answers.proofs.Laws.Answer.{done_all}
 use Rattle.promises_terms.specs.Answers.{Answers, AskIs, BothIs, ThenIs, InOrderIs, NumberIs, AmongIs, AfterIs, RefusedCode, AcceptedCode}
 

@@ -2,9 +2,7 @@
 -- the lent slice as it was, and C gets place × 256 + number. A part of demand 1.
 use Rattle.std.specs.Prelude.{◌≡◌, Bool, true, false, ◌||◌, List, [], ◌∷◌, ℕ, ◌+◌, ◌*◌, ◌<◌, eqb}
 use Rattle.bits.specs.Basics.{both}
-use Rattle.answers.specs.Answer.{number_of, place_of, code_of, ask, then, after, put_in_order, among}
-use Rattle.answers.specs.declared.Answer.{Answer}
-use Rattle.answers.specs.declared.Answer.TheVariants.{Done, No}
+use Rattle.answers.specs.Answer.{Answer, Done, No, number_of, place_of, code_of, ask, then, after, put_in_order, among}
 
 -- ---- how questions follow one another
 

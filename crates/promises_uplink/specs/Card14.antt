@@ -13,8 +13,7 @@ use Rattle.std.specs.Int.Bits.{bit_xor}
 use Rattle.bits.specs.Basics.{bool, both, up_to}
 use Rattle.bits.specs.Pack.{Bits, Bytes, bit_at, piece}
 use Rattle.bits.specs.Count.{xor_sum}
-use Rattle.answers.specs.Answer.{number_of, ask, then, among}
-use Rattle.answers.specs.declared.Answer.TheVariants.{Done, No}
+use Rattle.answers.specs.Answer.{Done, No, number_of, ask, then, among}
 use Rattle.randomizer.specs.Randomizer.{sequence}
 use Rattle.ldpc.specs.Code.{parity_bit, codeword, is_codeword}
 use Rattle.uplink.specs.Uplink.{uplink_slots_of, is_bit, received, uplink_frames_of, uplink_write_says, uplink_read_says, uplink_slots_after, uplink_frames_after}

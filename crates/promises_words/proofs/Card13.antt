@@ -11,8 +11,7 @@ use Rattle.bits.proofs.Laws.Sum.{xor_same, same_xor}
 use Rattle.bits.specs.Pack.{bit_at, bytes_of, flip_bit}
 use Rattle.bits.proofs.Laws.Pack.{bit_lt, length_bytes}
 use Rattle.bits.proofs.Laws.Change.{flip_bit_lem}
-use Rattle.answers.specs.Answer.{after}
-use Rattle.answers.specs.declared.Answer.{Answer}
+use Rattle.answers.specs.Answer.{Answer, after}
 use Rattle.sizes.specs.Sizes.{info_bits, block_bytes}
 use Rattle.word.specs.Word.{coded_of, word_of, coded_in}
 use Rattle.word.proofs.Laws.Exports.{past_rates}

@@ -2,9 +2,7 @@
 use mathlib.Core.Path.{refl, ap, ◌∙◌}
 use lib.ListN.{length}
 use Rattle.bits.specs.Pack.{piece}
-use Rattle.answers.specs.Answer.{number_of, after, is_done}
-use Rattle.answers.specs.declared.Answer.{Answer}
-use Rattle.answers.specs.declared.Answer.TheVariants.{No}
+use Rattle.answers.specs.Answer.{Answer, No, number_of, after, is_done}
 use Rattle.sizes.specs.Sizes.{block_bytes}
 use Rattle.pass.specs.Pass as passes
 use Rattle.pass.specs.Pass.{pass_word_says, pass_read_says, pass_write_says}

@@ -6,7 +6,7 @@ use Rattle.std.specs.Prelude.{◌≡◌, Bool, true, List, ℕ, ◌+◌, ◌≤�
 use Rattle.std.specs.Int.Bits.{bit_xor}
 use Rattle.bits.specs.Basics.{bool}
 use Rattle.bits.specs.Pack.{bit_at, bytes_of, val}
-use Rattle.answers.specs.declared.Answer.TheVariants.{No}
+use Rattle.answers.specs.Answer.{No}
 use Rattle.sizes.specs.Sizes.{info_bits, block_bytes}
 use Rattle.convolution.specs.Code.{terminated, encode}
 use Rattle.interleaver.specs.Interleaver.{interleave}

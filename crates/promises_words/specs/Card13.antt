@@ -8,8 +8,7 @@ use Rattle.std.specs.Int.Bits.{bit_xor}
 use Rattle.bits.specs.Basics.{bool}
 use Rattle.bits.specs.Pack.{bit_at, flip_bit}
 use Rattle.bits.specs.Count.{differences}
-use Rattle.answers.specs.Answer.{ask, then}
-use Rattle.answers.specs.declared.Answer.TheVariants.{Done, No}
+use Rattle.answers.specs.Answer.{Done, No, ask, then}
 use Rattle.sizes.specs.Sizes.{info_bits, block_bytes}
 use Rattle.word.specs.Word.{coded_of, word_of, coded_in}
 use Rattle.spread.specs.Spread.{spread_of, spread_says, places_after}

@@ -7,8 +7,7 @@
 use Rattle.std.specs.Prelude.{◌≡◌, true, List, [], ◌∷◌, ℕ, ◌*◌, ◌/◌, ◌≤◌, ◌<◌, ltb, leb, eqb, length}
 use Rattle.bits.specs.Basics.{both}
 use Rattle.bits.specs.Pack.{Bytes, piece}
-use Rattle.answers.specs.Answer.{number_of, ask, then, put_in_order, among}
-use Rattle.answers.specs.declared.Answer.TheVariants.{Done, No}
+use Rattle.answers.specs.Answer.{Done, No, number_of, ask, then, put_in_order, among}
 use Rattle.sizes.specs.Sizes.{block_bytes}
 use Rattle.word.specs.Word as words
 use Rattle.word.specs.Word.{word_read_says, word_write_says}

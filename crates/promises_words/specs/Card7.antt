@@ -7,8 +7,7 @@
 -- are spare. `SpareZero` says that these are 0.
 use Rattle.std.specs.Prelude.{◌≡◌, true, List, [], ◌∷◌, ℕ, ◌<◌, length}
 use Rattle.bits.specs.Pack.{bit_at}
-use Rattle.answers.specs.Answer.{number_of, among}
-use Rattle.answers.specs.declared.Answer.TheVariants.{Done}
+use Rattle.answers.specs.Answer.{Done, number_of, among}
 use Rattle.sizes.specs.Sizes.{info_bits, block_bytes}
 use Rattle.word.specs.Word.{SpareZero, word_of, block_in, word_write_says, word_read_says}
 

@@ -7,8 +7,7 @@ use Rattle.std.specs.Int.Bits.{bit_xor}
 use Rattle.bits.specs.Basics.{bool}
 use Rattle.bits.specs.Pack.{bit_at, bytes_of, plus}
 use Rattle.bits.specs.Count.{differences}
-use Rattle.answers.specs.Answer.{number_of}
-use Rattle.answers.specs.declared.Answer.TheVariants.{Done}
+use Rattle.answers.specs.Answer.{Done, number_of}
 use Rattle.sizes.specs.Sizes.{info_bits, block_bytes, word_bytes}
 use Rattle.word.specs.Word.{word_of, coded_in, word_write_says, word_read_says}
 

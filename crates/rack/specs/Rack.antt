@@ -10,9 +10,7 @@
 -- So every content has a meaning, and the empty rack is zeros. A byte that is not there is read as 0.
 use Rattle.std.specs.Prelude.{Bool, true, not, ◌||◌, List, [], ◌∷◌, ℕ, ◌+◌, ◌*◌, ◌/◌, ◌%◌, ltb, eqb, length, get_or, drop, replicate}
 use Rattle.bits.specs.Basics.{pick, tab, both}
-use Rattle.answers.specs.declared.Answer.{Answer}
-use Rattle.answers.specs.declared.Answer.TheVariants.{Done}
-use Rattle.answers.specs.Answer.{code_of, ask, then, after}
+use Rattle.answers.specs.Answer.{Answer, Done, code_of, ask, then, after}
 use Rattle.header_questions.specs.Questions.{header_says}
 
 -- ---- entries

@@ -1,8 +1,7 @@
 -- Runs: the slots of frames under a header and its marker symbols, the way back, and the questions in the specification's order (docs/SPECIFICATION.md).
 -- Words are known by the names of crate `word` alone: its definitions are not opened here.
 use Rattle.std.specs.Prelude.{◌≡◌, List, ℕ, ◌*◌, ◌<◌, length}
-use Rattle.answers.specs.declared.Answer.{Answer}
-use Rattle.answers.specs.Answer.{after, then, put_in_order}
+use Rattle.answers.specs.Answer.{Answer, after, then, put_in_order}
 use Rattle.sizes.specs.Sizes.{info_bits, block_bytes}
 use Rattle.word.specs.Word.{word_of, block_in, word_read_says}
 use Rattle.header.specs.Header.{fields_of}

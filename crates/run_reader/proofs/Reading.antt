@@ -12,9 +12,7 @@ use Rattle.bits.proofs.Laws.Choice.{lt_or_le}
 use Rattle.bits.specs.Basics.{up_to}
 use Rattle.bits.proofs.Laws.First.{first_same, up_to_le}
 use Rattle.bits.specs.Pack.{piece}
-use Rattle.answers.specs.declared.Answer.{Answer}
-use Rattle.answers.specs.declared.Answer.TheVariants.{Done}
-use Rattle.answers.specs.Answer.{then, ask, is_done, number_of, put_in_order, first_refused}
+use Rattle.answers.specs.Answer.{Answer, Done, then, ask, is_done, number_of, put_in_order, first_refused}
 use Rattle.answers.proofs.Refused.{Refusal, stands}
 use Rattle.sizes.specs.Sizes.{info_bits, block_bytes, word_bytes}
 use Rattle.sizes.proofs.Laws.Rate.{by_rate}

@@ -3,8 +3,7 @@
 #![tactic(auto)]
 
 ghost use Rattle.std.specs.Prelude.{◌≡◌, ℕ, ◌*◌, ◌≤◌, ◌<◌, length};
-ghost use Rattle.answers.specs.declared.Answer.TheVariants.{Done};
-ghost use Rattle.answers.specs.Answer.{after};
+ghost use Rattle.answers.specs.Answer.{Done, after};
 ghost use Rattle.sizes.specs.Sizes.{info_bits, block_bytes, word_bytes};
 ghost use Rattle.word.specs.Word.{block_in};
 ghost use Rattle.header_sizes.specs.Quantities.{block_count};

@@ -4,8 +4,7 @@ use mathlib.Core.List.{List}
 use Prim.Native.Nat.{ℕ, ◌*◌, ◌≤◌, ◌<◌}
 use native.Mathlib.Omega.{arith}
 use lib.ListN.{length}
-use Rattle.answers.specs.declared.Answer.{Answer}
-use Rattle.answers.specs.Answer.{after}
+use Rattle.answers.specs.Answer.{Answer, after}
 use Rattle.word.proofs.Laws.Word.{Packed}
 use Rattle.word.specs.Word.{word_of, word_write_says}
 use Rattle.word.proofs.Laws.Exports.{packed_written}

@@ -6,7 +6,7 @@ use mathlib.Core.List.{append-nil}
 use borrow.Author.Tests.{ne_eqb}
 use Rattle.std.specs.declared.option.Option.{Option}
 use Rattle.std.specs.Io.KnownBytes.{Appends, Consumes, IsAtEnd}
-use Rattle.answers.specs.declared.Answer.TheVariants.{No}
+use Rattle.answers.specs.Answer.{No}
 use Rattle.bits.proofs.Laws.Choice.{lt_or_le}
 use Rattle.header_questions.specs.Questions.{question1, form_says, header_says}
 use Rattle.sheet.specs.Line.{line_of}

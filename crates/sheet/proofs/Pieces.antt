@@ -10,9 +10,7 @@ use lib.Seq.{take-suc, take-suc-set, drop-cons, length-take-le}
 use Rattle.io.specs.Counts.{IsPrefixLen}
 use Rattle.header.specs.Header.{fields_of}
 use Rattle.header_questions.specs.Questions.{header_says}
-use Rattle.answers.specs.Answer.{number_of}
-use Rattle.answers.specs.declared.Answer.{Answer}
-use Rattle.answers.specs.declared.Answer.TheVariants.{Done, No}
+use Rattle.answers.specs.Answer.{Answer, Done, No, number_of}
 use Rattle.sheet.specs.Text.{decimal, space, newline, item, items}
 use Rattle.sheet.specs.Inner.{Put}
 use Rattle.sheet.specs.Line.{run_line, no_line, line_for, line_of, Printed}

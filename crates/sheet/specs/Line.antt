@@ -5,8 +5,7 @@ use Rattle.header.specs.Header.{fields_of}
 use Rattle.header_sizes.specs.Quantities.{pulse_order, block_count, sent_symbols, slot_count}
 use Rattle.header_questions.specs.Questions.{header_says}
 use Rattle.header.specs.declared.Fields.{Fields}
-use Rattle.answers.specs.declared.Answer.{Answer}
-use Rattle.answers.specs.declared.Answer.TheVariants.{Done, No}
+use Rattle.answers.specs.Answer.{Answer, Done, No}
 use Rattle.sheet.specs.Text.{digit, items}
 
 -- `1/3`, `1/2` or `2/3`

@@ -6,8 +6,7 @@ use Rattle.pulses.specs.Pulses as pulses
 use Rattle.pool.specs.Pooled as pool
 use Rattle.plan.specs.declared.Plan.{Plan}
 use Rattle.plan.specs.Plan.{sent_count}
-use Rattle.answers.specs.declared.Answer.{Answer}
-use Rattle.answers.specs.Answer.{ask, then}
+use Rattle.answers.specs.Answer.{Answer, ask, then}
 
 -- question 9: are the spare bits after the last slot empty?
 abbrev pub spare_slots_empty : Plan → List ℕ → Bool

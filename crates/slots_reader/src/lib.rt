@@ -4,7 +4,7 @@
 mod sweep;
 
 ghost use Rattle.std.specs.Prelude.{◌≡◌, ℕ, ◌<◌};
-ghost use Rattle.answers.specs.declared.Answer.TheVariants.{Done};
+ghost use Rattle.answers.specs.Answer.{Done};
 ghost use Rattle.bits.specs.Pack.{piece};
 ghost use Rattle.sizes.specs.Sizes.{word_bytes};
 ghost use Rattle.slots.specs.Inner.{RunSlots};

@@ -3,9 +3,8 @@ use mathlib.Core.Path.{◌≡◌, refl}
 use Prim.Native.Nat.{ℕ, ◌≤◌, ◌<◌}
 use lib.Dec.{ltb, eqb}
 use borrow.Author.Tests.{lt-ltb, le-ltb, eq-eqb, ne_eqb, ltb-true, eqb-true}
-use Rattle.answers.specs.Answer.{ask}
+use Rattle.answers.specs.Answer.{Done, No, ask}
 use Rattle.answers.proofs.Laws.Answer.{then_done, ask_done}
-use Rattle.answers.specs.declared.Answer.TheVariants.{Done, No}
 use Rattle.sizes.specs.Sizes.{info_bits, word_bytes}
 use Rattle.spread.specs.Spread.{spread_says}
 use Rattle.spread.specs.Inner.{Marks}

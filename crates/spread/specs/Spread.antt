@@ -2,8 +2,7 @@
 use Rattle.std.specs.Prelude.{List, ℕ, ltb, eqb, length}
 use Rattle.std.specs.Int.Bits.{bit_xor}
 use Rattle.bits.specs.Pack.{bytes_of, flip_bit}
-use Rattle.answers.specs.declared.Answer.{Answer}
-use Rattle.answers.specs.Answer.{after, ask, then}
+use Rattle.answers.specs.Answer.{Answer, after, ask, then}
 use Rattle.sizes.specs.Sizes.{info_bits, block_bytes, word_bytes}
 use Rattle.word.specs.Word.{coded_of}
 

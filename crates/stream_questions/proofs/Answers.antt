@@ -2,7 +2,7 @@
 use mathlib.Core.Path.{◌≡◌, refl}
 use Prim.Native.Nat.{ℕ, ◌*◌}
 use borrow.Author.Tests.{eq-eqb, ne_eqb}
-use Rattle.answers.specs.declared.Answer.TheVariants.{Done, No}
+use Rattle.answers.specs.Answer.{Done, No}
 use Rattle.bits.specs.Basics.{up_to}
 use Rattle.sizes.specs.Sizes.{span}
 use Rattle.stream_reader.specs.Frames.{first_unmarked, zero_at, fill_zero, frames_say}

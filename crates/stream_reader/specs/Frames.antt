@@ -1,7 +1,6 @@
 -- Step 1 undone: the stream that blocks hold, questions 16 and 18, and the frames in it.
 use Rattle.std.specs.Prelude.{Bool, List, ℕ, ◌+◌, ◌*◌, ◌/◌, ◌%◌, eqb}
-use Rattle.answers.specs.Answer.{ask, then}
-use Rattle.answers.specs.declared.Answer.{Answer}
+use Rattle.answers.specs.Answer.{Answer, ask, then}
 use Rattle.bits.specs.Basics.{up_to}
 use Rattle.bits.specs.Pack.{val, bit_at, bytes_of}
 use Rattle.sizes.specs.Sizes.{frame_marker, marker_bits, span, info_bits}

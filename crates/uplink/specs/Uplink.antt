@@ -6,8 +6,7 @@
 use Rattle.std.specs.Prelude.{Bool, ◌||◌, List, ℕ, ◌+◌, ◌*◌, ◌/◌, ◌%◌, leb, eqb, length}
 use Rattle.bits.specs.Basics.{bool, both, up_to}
 use Rattle.bits.specs.Pack.{val, bit_at, bytes_of}
-use Rattle.answers.specs.declared.Answer.{Answer}
-use Rattle.answers.specs.Answer.{after, ask, then}
+use Rattle.answers.specs.Answer.{Answer, after, ask, then}
 use Rattle.randomizer.specs.Randomizer.{randomize}
 use Rattle.ldpc.specs.Code.{codeword, is_codeword}
 

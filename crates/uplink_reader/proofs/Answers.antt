@@ -5,7 +5,7 @@ use mathlib.Core.List.{List}
 use Prim.Native.Nat.{ℕ, ◌*◌}
 use lib.ListN.{length}
 use borrow.Author.Tests.{eq-eqb, ne_eqb}
-use Rattle.answers.specs.declared.Answer.TheVariants.{Done, No}
+use Rattle.answers.specs.Answer.{Done, No}
 use Rattle.uplink.specs.Uplink.{codeblock_count, uplink_lengths_right, first_no_bit, first_bad_block, uplink_slots_say, uplink_read_says}
 use Rattle.uplink.proofs.Laws.Uplink.{lengths_sized}
 use Rattle.uplink.specs.Inner.{Framed, Slotted}

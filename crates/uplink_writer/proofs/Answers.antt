@@ -4,7 +4,7 @@ use mathlib.Core.Bool.{Bool, true, false}
 use mathlib.Core.List.{List}
 use Prim.Native.Nat.{ℕ}
 use lib.ListN.{length}
-use Rattle.answers.specs.declared.Answer.TheVariants.{Done, No}
+use Rattle.answers.specs.Answer.{Done, No}
 use Rattle.uplink.specs.Uplink.{frame_count, uplink_lengths_right, uplink_write_says}
 use Rattle.uplink.proofs.Laws.Uplink.{lengths_sized}
 use Rattle.uplink.specs.Inner.{Framed, Slotted}

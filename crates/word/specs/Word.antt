@@ -10,8 +10,7 @@ use Rattle.convolution.specs.Code.{terminated, encode, decode}
 use Rattle.interleaver.specs.Interleaver.{interleave, deinterleave}
 use Rattle.accumulator.specs.Accumulator.{accumulate, differentiate}
 use Rattle.randomizer.specs.Randomizer.{randomize}
-use Rattle.answers.specs.declared.Answer.{Answer}
-use Rattle.answers.specs.Answer.{ask, then}
+use Rattle.answers.specs.Answer.{Answer, ask, then}
 
 -- ---- from a block to its word
 

@@ -9,9 +9,7 @@ use borrow.Author.Tests.{eq-eqb, ne_eqb, eqb-true}
 use mathlib.Core.List.{List}
 use Rattle.bits.specs.Basics.{up_to}
 use Rattle.bits.proofs.Laws.First.{up_to_le, first_here, first_end, all_pass, none_fails}
-use Rattle.answers.specs.declared.Answer.{Answer}
-use Rattle.answers.specs.declared.Answer.TheVariants.{Done, No}
-use Rattle.answers.specs.Answer.{number_of, place_of, code_of, code_with, ask, then, is_done, first_refused, put_in_order, among}
+use Rattle.answers.specs.Answer.{Answer, Done, No, number_of, place_of, code_of, code_with, ask, then, is_done, first_refused, put_in_order, among}
 use Rattle.answers.specs.Inner.{Fits}
 
 -- ---- laws

@@ -1,7 +1,6 @@
 -- The code of the answer, which fits.
 use mathlib.Core.Path.{ap, ◌∙◌}
-use Rattle.answers.specs.declared.Answer.{Answer}
-use Rattle.answers.specs.Answer.{code_of, after}
+use Rattle.answers.specs.Answer.{Answer, code_of, after}
 use Rattle.spread.specs.Spread.{spread_of}
 use Rattle.spread.proofs.Laws.Spread.{spread_fits}
 use Rattle.c_calls.proofs.mahyrei_bit_spread.Goals as goal

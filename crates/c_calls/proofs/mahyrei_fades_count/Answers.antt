@@ -1,8 +1,7 @@
 -- The code of the answer, which fits.
 use mathlib.Core.Path.{ap, ◌∙◌}
 use lib.ListN.{length}
-use Rattle.answers.specs.declared.Answer.{Answer}
-use Rattle.answers.specs.Answer.{code_of, after}
+use Rattle.answers.specs.Answer.{Answer, code_of, after}
 use Rattle.fades.specs.Fades.{counts_in}
 use Rattle.fades.proofs.Laws.Fades.{fades_fit}
 use Rattle.c_calls.proofs.mahyrei_fades_count.Goals as goal

@@ -1,8 +1,7 @@
 -- The code of the answer, which fits.
 use mathlib.Core.Path.{ap, ◌∙◌}
 use lib.ListN.{length}
-use Rattle.answers.specs.declared.Answer.{Answer}
-use Rattle.answers.specs.Answer.{code_of, after}
+use Rattle.answers.specs.Answer.{Answer, code_of, after}
 use Rattle.header_convert.specs.Convert.{narrowed}
 use Rattle.header_convert.proofs.Laws.Theorems.{narrow_fits}
 use Rattle.c_calls.proofs.mahyrei_header_narrow.Goals as goal

@@ -1,8 +1,7 @@
 -- The code of the answer, which fits.
 use mathlib.Core.Path.{ap, ◌∙◌}
 use lib.ListN.{length}
-use Rattle.answers.specs.declared.Answer.{Answer}
-use Rattle.answers.specs.Answer.{code_of, after}
+use Rattle.answers.specs.Answer.{Answer, code_of, after}
 use Rattle.pass.specs.Pass.{words_of}
 use Rattle.pass.proofs.Laws.Answers.{write_fits}
 use Rattle.c_calls.proofs.mahyrei_pass_write.Goals as goal

@@ -2,8 +2,7 @@
 use mathlib.Core.Path.{ap, ◌∙◌}
 use mathlib.Core.List.{List}
 use Prim.Native.Nat.{ℕ}
-use Rattle.answers.specs.declared.Answer.{Answer}
-use Rattle.answers.specs.Answer.{code_of}
+use Rattle.answers.specs.Answer.{Answer, code_of}
 use Rattle.rack.specs.Rack.{entry_at, Read, handed}
 use Rattle.rack.proofs.Laws.Answers.{says_fits}
 use Rattle.c_calls.proofs.mahyrei_rack_read.Goals as goal

@@ -1,8 +1,7 @@
 -- The code of the answer, which fits.
 use mathlib.Core.Path.{ap, ◌∙◌}
 use lib.ListN.{length}
-use Rattle.answers.specs.declared.Answer.{Answer}
-use Rattle.answers.specs.Answer.{code_of, after}
+use Rattle.answers.specs.Answer.{Answer, code_of, after}
 use Rattle.header.specs.Header.{fields_of}
 use Rattle.capture_cut.specs.Cut.{cut_of}
 use Rattle.capture_cut.proofs.Laws.Cut.{cut_fits}

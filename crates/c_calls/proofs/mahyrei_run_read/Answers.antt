@@ -1,8 +1,7 @@
 -- The code of the answer, which fits.
 use mathlib.Core.Path.{ap, ◌∙◌}
 use lib.ListN.{length}
-use Rattle.answers.specs.declared.Answer.{Answer}
-use Rattle.answers.specs.Answer.{code_of, after}
+use Rattle.answers.specs.Answer.{Answer, code_of, after}
 use Rattle.run.specs.Run.{frames_read}
 use Rattle.run.proofs.Laws.Return.{read_fits}
 use Rattle.c_calls.proofs.mahyrei_run_read.Goals as goal

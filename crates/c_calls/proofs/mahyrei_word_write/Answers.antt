@@ -1,8 +1,7 @@
 -- The code of the answer, which fits.
 use mathlib.Core.Path.{ap, ◌∙◌}
 use lib.ListN.{length}
-use Rattle.answers.specs.declared.Answer.{Answer}
-use Rattle.answers.specs.Answer.{code_of, after}
+use Rattle.answers.specs.Answer.{Answer, code_of, after}
 use Rattle.word.specs.Word.{word_of}
 use Rattle.word.proofs.Laws.Exports.{write_fits}
 use Rattle.c_calls.proofs.mahyrei_word_write.Goals as goal

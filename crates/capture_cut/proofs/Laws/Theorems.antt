@@ -12,9 +12,8 @@ use Rattle.bits.specs.Basics.{bool}
 use Rattle.bits.proofs.Laws.Choice.{lt_or_le}
 use Rattle.bits.specs.Pack.{bit_at, cut}
 use Rattle.bits.proofs.Laws.Pack.{bit_bytes, bytes_made, cut_in, cut_past}
-use Rattle.answers.specs.Answer.{ask}
+use Rattle.answers.specs.Answer.{Done, ask}
 use Rattle.answers.proofs.Laws.Answer.{then_done}
-use Rattle.answers.specs.declared.Answer.TheVariants.{Done}
 use Rattle.header.specs.Header.{fields_of}
 use Rattle.header.specs.declared.Fields.{Fields}
 use Rattle.header_sizes.specs.Quantities as quantities

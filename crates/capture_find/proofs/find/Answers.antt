@@ -4,10 +4,8 @@ use mathlib.Core.Bool.{Bool, true}
 use mathlib.Core.List.{List}
 use Prim.Native.Nat.{ℕ, ◌≤◌}
 use lib.ListN.{length}
-use Rattle.answers.specs.Answer.{ask, then}
+use Rattle.answers.specs.Answer.{Answer, Done, ask, then}
 use Rattle.answers.proofs.Laws.Answer.{no_done}
-use Rattle.answers.specs.declared.Answer.{Answer}
-use Rattle.answers.specs.declared.Answer.TheVariants.{Done}
 use Rattle.answers.proofs.Refused.{not_done, stands}
 use Rattle.header.specs.Header.{fields_of}
 use Rattle.header_sizes.specs.Inner.{Valid}

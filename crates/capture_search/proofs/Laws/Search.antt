@@ -11,10 +11,9 @@ use borrow.Author.Tests.{ltb-true, leb-true, eqb-true, eq-eqb, lt-ltb, le-ltb, l
 use Rattle.plan.specs.declared.Plan.{Plan}
 use Rattle.pattern_search.specs.Starts.{stands, starts, first_mismatch, earliest}
 use Rattle.bits.proofs.Laws.Table.{both_true}
-use Rattle.answers.specs.Answer.{ask}
+use Rattle.answers.specs.Answer.{Done, No, ask}
 use Rattle.answers.proofs.Laws.Answer.{then_done, ask_done, ask_yes, ask_no, fits_ask, fits_then}
 use Rattle.answers.specs.Inner.{Fits}
-use Rattle.answers.specs.declared.Answer.TheVariants.{Done, No}
 use Rattle.header.specs.Header.{fields_of}
 use Rattle.header.specs.declared.Fields.{Fields}
 use Rattle.header_sizes.specs.Quantities.{marker_bytes}

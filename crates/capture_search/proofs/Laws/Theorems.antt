@@ -13,10 +13,8 @@ use Rattle.bits.specs.Basics.{bool}
 use Rattle.bits.proofs.Laws.Choice.{lt_or_le}
 use Rattle.bits.proofs.Laws.Table.{true_false}
 use Rattle.bits.specs.Pack.{bit_at}
-use Rattle.answers.specs.Answer.{number_of, ask, then}
+use Rattle.answers.specs.Answer.{Answer, Done, No, number_of, ask, then}
 use Rattle.answers.proofs.Laws.Answer.{ask_done, no_done}
-use Rattle.answers.specs.declared.Answer.{Answer}
-use Rattle.answers.specs.declared.Answer.TheVariants.{Done, No}
 use Rattle.header.specs.Header.{fields_of}
 use Rattle.header.specs.declared.Fields.{Fields}
 use Rattle.header_sizes.specs.Quantities.{pulse_order, slots_per_symbol, marker_bytes, layout_of}

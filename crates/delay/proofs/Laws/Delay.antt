@@ -12,10 +12,9 @@ use lib.ListN.{get_or, set}
 use borrow.Author.Tests.{ltb-true, eqb-true, lt-ltb, eq-eqb, ne_eqb}
 use Rattle.bits.specs.Basics.{tab}
 use Rattle.bits.proofs.Laws.Choice.{lt_or_le}
-use Rattle.answers.specs.Answer.{place_of, ask}
+use Rattle.answers.specs.Answer.{Done, place_of, ask}
 use Rattle.answers.proofs.Laws.Answer.{then_done, ask_done, placeless_ask, placeless_then, fits_ask, fits_then}
 use Rattle.answers.specs.Inner.{Fits}
-use Rattle.answers.specs.declared.Answer.TheVariants.{Done}
 use Rattle.header.specs.Header.{fields_of}
 use Rattle.header.specs.declared.Fields.{Fields}
 use Rattle.header_sizes.specs.Quantities.{pulse_order, interleaver_delay}

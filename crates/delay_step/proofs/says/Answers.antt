@@ -5,9 +5,7 @@ use Prim.Native.Nat.{ℕ, ◌/◌, ◌≤◌, ◌<◌}
 use native.Mathlib.Omega.{arith}
 use lib.Dec.{ltb, eqb}
 use borrow.Author.Tests.{lt-ltb, le-ltb, eq-eqb, ne_eqb}
-use Rattle.answers.specs.Answer.{ask, then}
-use Rattle.answers.specs.declared.Answer.{Answer}
-use Rattle.answers.specs.declared.Answer.TheVariants.{Done, No}
+use Rattle.answers.specs.Answer.{Answer, Done, No, ask, then}
 use Rattle.answers.proofs.Refused.{stands}
 use Rattle.header.specs.Header.{fields_of}
 use Rattle.header.specs.declared.Fields.{Fields}

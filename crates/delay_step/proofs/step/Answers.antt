@@ -7,9 +7,7 @@ use native.Mathlib.Nat.{mod-lt}
 use lib.Dec.{eqb}
 use lib.ListN.{length, get_or, set}
 use Rattle.bits.specs.Basics.{pick}
-use Rattle.answers.specs.Answer.{after}
-use Rattle.answers.specs.declared.Answer.{Answer}
-use Rattle.answers.specs.declared.Answer.TheVariants.{Done}
+use Rattle.answers.specs.Answer.{Answer, Done, after}
 use Rattle.answers.proofs.Refused.{not_done, kept}
 use Rattle.header.specs.Header.{fields_of}
 use Rattle.header.specs.declared.Fields.{Fields}

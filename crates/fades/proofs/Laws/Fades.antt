@@ -10,10 +10,9 @@ use lib.ListN.{length}
 use borrow.Author.Tests.{leb-true, eqb-true, lt-ltb, le-ltb, le-leb, lt-leb}
 use Rattle.bits.specs.Basics.{both}
 use Rattle.bits.proofs.Laws.Table.{both_true, either_right}
-use Rattle.answers.specs.Answer.{ask}
+use Rattle.answers.specs.Answer.{Done, ask}
 use Rattle.answers.proofs.Laws.Answer.{then_done, ask_done, fits_ask, fits_then}
 use Rattle.answers.specs.Inner.{Fits}
-use Rattle.answers.specs.declared.Answer.TheVariants.{Done}
 use Rattle.header.specs.Header.{fields_of}
 use Rattle.header.specs.declared.Fields.{Fields}
 use Rattle.header_sizes.specs.Quantities.{block_count, symbol_count, layout_of}

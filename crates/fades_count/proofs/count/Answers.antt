@@ -7,10 +7,8 @@ use native.Mathlib.Omega.{arith}
 use lib.Dec.{eqb}
 use lib.ListN.{length}
 use borrow.Author.Tests.{eq-eqb, ne_eqb}
-use Rattle.answers.specs.Answer.{ask, then}
+use Rattle.answers.specs.Answer.{Answer, Done, No, ask, then}
 use Rattle.answers.proofs.Laws.Answer.{ask_yes, ask_no}
-use Rattle.answers.specs.declared.Answer.{Answer}
-use Rattle.answers.specs.declared.Answer.TheVariants.{Done, No}
 use Rattle.answers.proofs.Refused.{stands, kept}
 use Rattle.header.specs.Header.{fields_of}
 use Rattle.header_sizes.specs.Quantities.{block_count, symbol_count, layout_of}

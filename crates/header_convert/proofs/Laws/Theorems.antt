@@ -13,10 +13,9 @@ use Rattle.bits.proofs.Laws.Choice.{bool_lt, lt_or_le}
 use Rattle.bits.specs.Pack.{val, bit_at, Bits, Bytes, cut}
 use Rattle.bits.proofs.Laws.Pack.{val_same, bit_lt, length_bytes, bit_bytes, bytes_made, cut_in, cut_past, cut_bits}
 use Rattle.bits.proofs.Laws.Parts.{val_none, none_val, same_val}
-use Rattle.answers.specs.Answer.{ask, then}
+use Rattle.answers.specs.Answer.{Done, ask, then}
 use Rattle.answers.proofs.Laws.Answer.{then_done, ask_done, fits_ask, fits_then}
 use Rattle.answers.specs.Inner.{Fits}
-use Rattle.answers.specs.declared.Answer.TheVariants.{Done}
 use Rattle.header.specs.Header.{field, fields_of, spare_of, old_spare_of, with_copies}
 use Rattle.header.proofs.Laws.Form.{fields_front}
 use Rattle.header.specs.declared.Fields.{Fields}

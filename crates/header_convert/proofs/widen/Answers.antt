@@ -4,9 +4,7 @@ use native.Mathlib.Omega.{arith}
 use lib.Dec.{eqb}
 use lib.ListN.{length}
 use borrow.Author.Tests.{eq-eqb, ne_eqb}
-use Rattle.answers.specs.Answer.{ask, then}
-use Rattle.answers.specs.declared.Answer.{Answer}
-use Rattle.answers.specs.declared.Answer.TheVariants.{Done}
+use Rattle.answers.specs.Answer.{Answer, Done, ask, then}
 use Rattle.answers.proofs.Refused.{stands, kept}
 use Rattle.header_questions.specs.Questions.{old_says}
 use Rattle.header_questions.proofs.Laws.Good.{old_good}

@@ -6,7 +6,7 @@ use Prim.Native.Nat.{ℕ}
 use Rattle.bits.specs.Basics.{first_from}
 use Rattle.header.specs.declared.Fields.{Fields}
 use Rattle.header_sizes.specs.Quantities.{pulse_order, symbols_per_word, interleaver_delay}
-use Rattle.answers.specs.declared.Answer.TheVariants.{Done, No}
+use Rattle.answers.specs.Answer.{Done, No}
 use Rattle.header_questions.specs.Questions.{question2, question3, question4, question5, question6, question7, lent_marks, marks_good, fields_say}
 
 -- with m = 8 and N = 10

@@ -16,10 +16,9 @@ use Rattle.header.specs.declared.Fields.{Fields}
 use Rattle.header_sizes.specs.Quantities.{symbols_per_word, interleaver_delay}
 use Rattle.header_sizes.specs.Inner.{Valid, Shaped}
 use Rattle.header_sizes.proofs.Laws.Shape.{symbols_least}
-use Rattle.answers.specs.Answer.{place_of, ask, then}
+use Rattle.answers.specs.Answer.{Done, place_of, ask, then}
 use Rattle.answers.proofs.Laws.Answer.{then_done, ask_done, fits_ask, fits_then, placeless_ask, placeless_then}
 use Rattle.answers.specs.Inner.{Fits}
-use Rattle.answers.specs.declared.Answer.TheVariants.{Done}
 use Rattle.header_questions.specs.Questions.{within, question1, old_question1, question2, question3, question4, question5, question6, question7, copies_good, question20, fields_say, form_says, header_says, old_says}
 
 -- a range, from its test and to it

@@ -5,8 +5,7 @@ use mathlib.Core.List.{List}
 use Prim.Native.Nat.{ℕ}
 use Rattle.header.specs.Header.{fields_of}
 use Rattle.header.specs.declared.Fields.{Fields}
-use Rattle.answers.specs.declared.Answer.{Answer}
-use Rattle.answers.specs.Answer.{ask, then}
+use Rattle.answers.specs.Answer.{Answer, ask, then}
 use Rattle.answers.proofs.Laws.Answer.{then_then}
 use Rattle.header_questions.specs.Questions.{question1, question2, question3, question4, question5, question6, question7, question20, fields_say, form_says, header_says}
 

@@ -13,10 +13,9 @@ use Rattle.bits.proofs.Laws.First.{first_here, first_end, none_fails, first_same
 use Rattle.header.specs.Header.{fields_of}
 use Rattle.header.specs.declared.Fields.{Fields}
 use Rattle.header_sizes.specs.Quantities.{pulse_order}
-use Rattle.answers.specs.Answer.{ask, then}
+use Rattle.answers.specs.Answer.{Done, ask, then}
 use Rattle.answers.proofs.Laws.Answer.{then_done, ask_done, fits_ask, fits_then}
 use Rattle.answers.specs.Inner.{Fits}
-use Rattle.answers.specs.declared.Answer.TheVariants.{Done}
 use Rattle.header_questions.specs.Questions.{lent_marks, below, all_under, marks_good, question20, form_says, header_says, run_says}
 use Rattle.header_questions.proofs.Laws.Good.{form_fits}
 

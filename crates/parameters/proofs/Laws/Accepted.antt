@@ -20,7 +20,7 @@ use Rattle.header_sizes.specs.Inner.{Valid}
 use Rattle.header_sizes.proofs.Laws.Shape.{order_least}
 use Rattle.header_questions.specs.Questions.{lent_marks, below, marks_good, run_says}
 use Rattle.header_questions.proofs.Laws.Marks.{lent_most}
-use Rattle.answers.specs.declared.Answer.TheVariants.{Done}
+use Rattle.answers.specs.Answer.{Done}
 use Rattle.parameters.specs.Parameters.{parameters_of}
 use Rattle.parameters.specs.Inner.{checked_of, checked}
 use Rattle.parameters.specs.declared.Parameters.{Parameters}

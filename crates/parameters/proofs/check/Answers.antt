@@ -8,8 +8,7 @@ use Rattle.parameters.specs.Parameters.{parameters_of}
 use Rattle.parameters.proofs.Carried.{checked_refused, checked_good}
 use Rattle.answers.proofs.Refused.{not_done}
 use Rattle.header.specs.declared.Fields.{Fields}
-use Rattle.answers.specs.declared.Answer.{Answer}
-use Rattle.answers.specs.declared.Answer.TheVariants.{Done}
+use Rattle.answers.specs.Answer.{Answer, Done}
 use Rattle.parameters.proofs.check.Goals as goal
 
 pub returns-in_default : goal.returns-in_default

@@ -12,9 +12,7 @@ use Rattle.bits.proofs.Laws.Table.{both_true}
 use Rattle.bits.proofs.Laws.First.{first_here, found_at}
 use Rattle.bits.specs.Pack.{piece}
 use Rattle.bits.proofs.Laws.Pieces.{length_piece}
-use Rattle.answers.specs.declared.Answer.{Answer}
-use Rattle.answers.specs.declared.Answer.TheVariants.{Done, No}
-use Rattle.answers.specs.Answer.{number_of, ask, then, is_done, put_in_order, among}
+use Rattle.answers.specs.Answer.{Answer, Done, No, number_of, ask, then, is_done, put_in_order, among}
 use Rattle.answers.proofs.Laws.Answer.{then_done, ask_done, fits_ask, fits_then, all_done, done_all, order_no, fits_order, among_ask, among_then, among_order}
 use Rattle.answers.specs.Inner.{Fits}
 use Rattle.sizes.specs.Sizes.{block_bytes, word_bytes}

@@ -6,7 +6,7 @@ use native.Mathlib.Omega.{arith}
 use lib.ListN.{length}
 use Rattle.bits.specs.Pack.{bit_at, Bytes, piece}
 use Rattle.bits.proofs.Laws.Pieces.{length_piece}
-use Rattle.answers.specs.declared.Answer.TheVariants.{Done}
+use Rattle.answers.specs.Answer.{Done}
 use Rattle.answers.proofs.Laws.Answer.{done_all}
 use Rattle.sizes.specs.Sizes.{block_bytes, word_bytes}
 use Rattle.word.specs.Word.{SameBits, SpareZero, word_of, block_in, word_read_says}

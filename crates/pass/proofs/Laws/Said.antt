@@ -5,7 +5,7 @@ use mathlib.Core.List.{List}
 use Prim.Native.Nat.{ℕ, ◌≤◌, ◌<◌}
 use lib.ListN.{length}
 use borrow.Author.Tests.{lt-ltb, le-ltb}
-use Rattle.answers.specs.declared.Answer.TheVariants.{No}
+use Rattle.answers.specs.Answer.{No}
 use Rattle.sizes.specs.Sizes.{block_bytes}
 use Rattle.pass.specs.Pass.{blocks_in, words_in, pass_lengths_right, pass_write_says, pass_read_says}
 

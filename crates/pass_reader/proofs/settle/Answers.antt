@@ -1,9 +1,7 @@
 -- The blocks are read aside; they are copied on acceptance, and otherwise the slice is left alone.
 use mathlib.Core.Path.{◌≡◌, sym, ap, ◌∙◌}
 use native.Mathlib.Omega.{arith}
-use Rattle.answers.specs.declared.Answer.{Answer}
-use Rattle.answers.specs.declared.Answer.TheVariants.{Done}
-use Rattle.answers.specs.Answer.{after}
+use Rattle.answers.specs.Answer.{Answer, Done, after}
 use Rattle.pass.specs.Pass.{blocks_of}
 use Rattle.pass.proofs.Laws.Return.{blocks_made}
 use Rattle.pass_reader.proofs.settle.Goals as goal

@@ -10,9 +10,7 @@ use borrow.Rule.Slice.PartMut.{put_mid, mid_len, same_len_mid}
 use Rattle.bits.proofs.Laws.First.{first_on}
 use Rattle.bits.specs.Pack.{piece}
 use Rattle.bits.proofs.Laws.Pieces.{pieces_more}
-use Rattle.answers.specs.declared.Answer.{Answer}
-use Rattle.answers.specs.declared.Answer.TheVariants.{Done}
-use Rattle.answers.specs.Answer.{after, is_done}
+use Rattle.answers.specs.Answer.{Answer, Done, after, is_done}
 use Rattle.answers.proofs.Laws.Answer.{no_done, order_no, order_yes}
 use Rattle.answers.proofs.Refused.{is_not_done, moved}
 use Rattle.sizes.specs.Sizes.{block_bytes, word_bytes}

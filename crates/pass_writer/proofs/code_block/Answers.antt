@@ -7,9 +7,7 @@ use native.Mathlib.Nat.{mul-le-mul}
 use lib.ListN.{length, take, drop}
 use Rattle.bits.specs.Pack.{piece}
 use Rattle.bits.proofs.Laws.Pieces.{length_piece}
-use Rattle.answers.specs.declared.Answer.{Answer}
-use Rattle.answers.specs.declared.Answer.TheVariants.{Done}
-use Rattle.answers.specs.Answer.{after}
+use Rattle.answers.specs.Answer.{Answer, Done, after}
 use Rattle.sizes.specs.Sizes.{block_bytes}
 use Rattle.sizes.proofs.Laws.Rate.{block_room}
 use Rattle.word.specs.Word.{word_of, word_write_says}

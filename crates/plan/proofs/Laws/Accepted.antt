@@ -9,10 +9,9 @@ use lib.ListN.{length}
 use borrow.Author.Tests.{eqb-true}
 use Rattle.bits.specs.Basics.{both}
 use Rattle.bits.proofs.Laws.Table.{both_true}
-use Rattle.answers.specs.Answer.{ask}
+use Rattle.answers.specs.Answer.{Done, ask}
 use Rattle.answers.proofs.Laws.Answer.{then_done, ask_done, fits_ask, fits_then}
 use Rattle.answers.specs.Inner.{Fits}
-use Rattle.answers.specs.declared.Answer.TheVariants.{Done}
 use Rattle.header.specs.Header.{fields_of}
 use Rattle.header_sizes.specs.Quantities as quantities
 use Rattle.header_sizes.specs.Inner.{Valid, Shaped}

@@ -11,8 +11,7 @@ use borrow.Author.Tests.{ltb-true, ne_eqb}
 use Rattle.bits.specs.Basics.{pick}
 use Rattle.bits.proofs.Laws.Choice.{lt_or_le}
 use Rattle.bits.proofs.Laws.Table.{true_false, both_true, tab_made}
-use Rattle.answers.specs.declared.Answer.{Answer}
-use Rattle.answers.specs.declared.Answer.TheVariants.{Done, No}
+use Rattle.answers.specs.Answer.{Answer, Done, No}
 use Rattle.header_questions.specs.Questions.{header_says}
 use Rattle.rack.proofs.Laws.Rack.{empty_rack, accepted, step_refused, length_step, step_elsewhere, same_or_other}
 use Rattle.rack.specs.Rack.{entry_number, entry_at, status_in, header_in, loaded, lent_to, Task, Load, Read, Drop, Lend, Call, call_of, loan_right, allowed, header_asked, entry_for, says, filled, entry_after, after_call, told_of}

@@ -11,9 +11,7 @@ use borrow.Author.Tests.{ltb-true, lt-ltb, eqb-true, eq-eqb, ne_eqb, not-false}
 use Rattle.bits.specs.Basics.{pick, both}
 use Rattle.bits.proofs.Laws.Choice.{eq_or_ne}
 use Rattle.bits.proofs.Laws.Table.{both_true, both_false, either_right, length_tab, tab_made}
-use Rattle.answers.specs.declared.Answer.{Answer}
-use Rattle.answers.specs.declared.Answer.TheVariants.{Done, No}
-use Rattle.answers.specs.Answer.{ask, then}
+use Rattle.answers.specs.Answer.{Answer, Done, No, ask, then}
 use Rattle.header_questions.specs.Questions.{header_says}
 use Rattle.header_questions.proofs.Laws.Good.{header_good}
 use Rattle.rack.specs.Rack.{entry_number, entry_at, status_in, header_in, loaded, lent_to, Task, Load, Read, Drop, Lend, Call, call_of, missions_right, place_right, allowed, header_asked, entry_for, says, entry_after, after_call, told_of}

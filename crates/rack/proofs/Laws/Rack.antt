@@ -11,9 +11,7 @@ use borrow.Author.Tests.{ltb-true, eqb-true, eq-eqb, ne_eqb}
 use Rattle.bits.specs.Basics.{pick, tab, both}
 use Rattle.bits.proofs.Laws.Choice.{lt_or_le, eq_or_ne}
 use Rattle.bits.proofs.Laws.Table.{both_true, both_false, length_tab, get_or_tab, get_or_tab_past, tab_made, tab_same}
-use Rattle.answers.specs.declared.Answer.{Answer}
-use Rattle.answers.specs.declared.Answer.TheVariants.{Done, No}
-use Rattle.answers.specs.Answer.{ask, after}
+use Rattle.answers.specs.Answer.{Answer, Done, No, ask, after}
 use Rattle.answers.proofs.Laws.Answer.{then_done, then_when, ask_done}
 use Rattle.rack.specs.Rack.{entry_number, entry_at, put, loaded, lent_to, Task, Load, Read, Drop, Lend, Call, call_of, loan_right, missions_right, place_right, allowed, header_asked, rack_lengths_right, entry_for, says, entry_after, after_call}
 

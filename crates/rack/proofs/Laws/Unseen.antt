@@ -11,9 +11,7 @@ use borrow.Author.Tests.{ltb-true, lt-ltb, eqb-true, eqb-false, eq-eqb, ne_eqb}
 use Rattle.bits.specs.Basics.{pick, tab, both}
 use Rattle.bits.proofs.Laws.Choice.{eq_or_ne}
 use Rattle.bits.proofs.Laws.Table.{true_false, both_true, either_left, either_right, either_true, either_false}
-use Rattle.answers.specs.declared.Answer.{Answer}
-use Rattle.answers.specs.declared.Answer.TheVariants.{Done, No}
-use Rattle.answers.specs.Answer.{code_of}
+use Rattle.answers.specs.Answer.{Answer, Done, No, code_of}
 use Rattle.rack.specs.Rack.{entry_at, header_in, lent_to, Task, Load, Read, Drop, Lend, Call, allowed, entry_for, says, entry_after, after_call, handed, Told, told_of}
 use Rattle.rack.specs.Traces.{heard, lent, ever_lent, concerns, kept}
 use Rattle.rack.proofs.Laws.Rack.{not_allowed, accepted, says_same, step_other, step_refused, length_step, step_elsewhere, step_here, same_or_other}

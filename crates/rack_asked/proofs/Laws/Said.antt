@@ -8,9 +8,7 @@ use lib.ListN.{length}
 use borrow.Author.Tests.{ltb-true, eqb-true, lt-ltb, le-ltb, eq-eqb, ne_eqb}
 use Rattle.bits.specs.Basics.{both}
 use Rattle.bits.proofs.Laws.Table.{both_true, both_false}
-use Rattle.answers.specs.declared.Answer.{Answer}
-use Rattle.answers.specs.declared.Answer.TheVariants.{Done, No}
-use Rattle.answers.specs.Answer.{ask, then, after}
+use Rattle.answers.specs.Answer.{Answer, Done, No, ask, then, after}
 use Rattle.answers.proofs.Refused.{Refusal, stands, kept}
 use Rattle.header_questions.proofs.Laws.Good.{header_good}
 use Rattle.rack.proofs.Laws.Rack.{accepted}

@@ -2,8 +2,7 @@
 use mathlib.Core.Path.{sym, ap, ◌∙◌}
 use mathlib.Core.List.{List}
 use Prim.Native.Nat.{ℕ}
-use Rattle.answers.specs.declared.Answer.{Answer}
-use Rattle.answers.specs.Answer.{after}
+use Rattle.answers.specs.Answer.{Answer, after}
 use Rattle.rack.specs.Rack.{entry_at, header_in, Call, Read, call_of}
 use Rattle.rack_asked.proofs.Laws.Said.{named, area_whole, slice_whole}
 use Rattle.rack_calls.proofs.read.Goals as goal

@@ -15,9 +15,7 @@ use Rattle.bits.proofs.Laws.Choice.{lt_or_le}
 use Rattle.bits.proofs.Laws.First.{found_none, none_found}
 use Rattle.bits.proofs.Laws.Pack.{val_same, bit_val}
 use Rattle.bits.proofs.Laws.Table.{true_false}
-use Rattle.answers.specs.declared.Answer.{Answer}
-use Rattle.answers.specs.declared.Answer.TheVariants.{Done, No}
-use Rattle.answers.specs.Answer.{ask, then, among}
+use Rattle.answers.specs.Answer.{Answer, Done, No, ask, then, among}
 use Rattle.answers.proofs.Laws.Answer.{no_done, then_then, then_done, ask_done, ask_yes, ask_no, ask_refused, all_done, done_all}
 use Rattle.channel.specs.Channel.{total, unit, layout_symbols, place, hit_by, mark_right, rest_zero}
 use Rattle.channel.specs.declared.Layout.{Layout}

@@ -10,9 +10,7 @@ use Rattle.bits.specs.Basics.{up_to}
 use Rattle.bits.proofs.Laws.Choice.{lt_or_le}
 use Rattle.bits.proofs.Laws.First.{up_to_le, all_pass, none_fails, one_fails, passes_before, found_at}
 use Rattle.bits.proofs.Laws.Table.{true_false}
-use Rattle.answers.specs.declared.Answer.{Answer}
-use Rattle.answers.specs.declared.Answer.TheVariants.{Done, No}
-use Rattle.answers.specs.Answer.{number_of, ask, then, is_done, first_refused, put_in_order}
+use Rattle.answers.specs.Answer.{Answer, Done, No, number_of, ask, then, is_done, first_refused, put_in_order}
 use Rattle.answers.proofs.Laws.Answer.{ask_done, ask_yes, ask_refused, then_refused, done_is}
 
 -- p is the first of n at which a question is answered no; it is answered yes at all of them

@@ -10,7 +10,7 @@ use Rattle.bits.proofs.Laws.First.{found_at}
 use Rattle.bits.specs.Pack.{Bytes, Bits}
 use Rattle.answers.proofs.Laws.Answer.{then_done, fits_then, all_done, done_all, fits_order}
 use Rattle.answers.specs.Inner.{Fits}
-use Rattle.answers.specs.declared.Answer.TheVariants.{Done, No}
+use Rattle.answers.specs.Answer.{Done, No}
 use Rattle.sizes.specs.Sizes.{info_bits, block_bytes, span}
 use Rattle.word.proofs.Laws.Word.{Packed}
 use Rattle.word.specs.Word.{word_of, block_in, word_read_says}

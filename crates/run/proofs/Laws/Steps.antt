@@ -9,9 +9,8 @@ use lib.Dec.{eqb}
 use lib.ListN.{get_or, length}
 use Rattle.bits.specs.Basics.{bool}
 use Rattle.bits.specs.Pack.{val, bit_at, bytes_of}
-use Rattle.answers.specs.Answer.{ask, then}
+use Rattle.answers.specs.Answer.{Answer, ask, then}
 use Rattle.answers.proofs.Laws.Answer.{then_then}
-use Rattle.answers.specs.declared.Answer.{Answer}
 use Rattle.sizes.specs.Sizes.{info_bits}
 use Rattle.header.specs.Header.{fields_of}
 use Rattle.header_sizes.specs.Quantities as quantities

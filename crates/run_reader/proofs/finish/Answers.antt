@@ -4,8 +4,7 @@ use Prim.Native.Nat.{ℕ, ◌*◌}
 use Rattle.sizes.specs.Sizes.{info_bits, block_bytes}
 use Rattle.header_sizes.specs.Quantities.{frame_bytes}
 use Rattle.stream_reader.specs.Frames.{joined, frames_in, frames_say}
-use Rattle.answers.specs.declared.Answer.{Answer}
-use Rattle.answers.specs.Answer.{after}
+use Rattle.answers.specs.Answer.{Answer, after}
 use Rattle.bits.specs.Pack.{piece}
 use Rattle.run_reader.proofs.Reading.{frames_judged}
 use Rattle.answers.proofs.Refused.{kept}

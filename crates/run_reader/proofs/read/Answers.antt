@@ -3,8 +3,7 @@ use mathlib.Core.Path.{◌≡◌, sym, ap, ◌∙◌}
 use mathlib.Core.List.{List}
 use Prim.Native.Nat.{ℕ}
 use lib.ListN.{length}
-use Rattle.answers.specs.declared.Answer.{Answer}
-use Rattle.answers.specs.Answer.{after, then}
+use Rattle.answers.specs.Answer.{Answer, Done, after, then}
 use Rattle.answers.proofs.Refused.{kept, stands}
 use Rattle.header.specs.Header.{fields_of}
 use Rattle.parameters.specs.Parameters.{parameters_of}
@@ -14,7 +13,6 @@ use Rattle.plan.specs.Lengths.{call_says}
 use Rattle.plan.proofs.Laws.Accepted.{entered}
 use Rattle.slots.specs.Reading.{word_out}
 use Rattle.run.specs.Run.{frames_of, frames_read, buffer_says, run_read_says}
-use Rattle.answers.specs.declared.Answer.TheVariants.{Done}
 use Rattle.run_reader.proofs.read.Goals as goal
 
 -- what the checked parameters say, and give, is what the header does

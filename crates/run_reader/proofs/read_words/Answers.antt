@@ -12,10 +12,8 @@ use Rattle.bits.specs.Pack.{piece}
 use Rattle.bits.proofs.Laws.Pieces.{pieces_more}
 use Rattle.sizes.specs.Sizes.{block_bytes, word_bytes}
 use Rattle.word.specs.Word.{block_in}
-use Rattle.answers.specs.declared.Answer.{Answer}
-use Rattle.answers.specs.Answer.{after, is_done}
+use Rattle.answers.specs.Answer.{Answer, Done, after, is_done}
 use Rattle.answers.proofs.Laws.Answer.{no_done, order_no, order_yes}
-use Rattle.answers.specs.declared.Answer.TheVariants.{Done}
 use Rattle.answers.proofs.Refused.{is_not_done, moved}
 use Rattle.header_sizes.specs.Quantities.{block_count}
 use Rattle.run.specs.Run.{run_word_says, words_say}

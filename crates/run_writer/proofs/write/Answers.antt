@@ -2,8 +2,7 @@
 use mathlib.Core.Path.{◌≡◌, sym, ap, ◌∙◌}
 use mathlib.Core.List.{List}
 use lib.ListN.{length}
-use Rattle.answers.specs.declared.Answer.{Answer}
-use Rattle.answers.specs.Answer.{after}
+use Rattle.answers.specs.Answer.{Answer, after}
 use Rattle.answers.proofs.Refused.{kept}
 use Rattle.header.specs.Header.{fields_of}
 use Rattle.parameters.specs.Parameters.{parameters_of}

@@ -1,7 +1,7 @@
 -- A refusal's line is `no` and its number; past it the header is good, and its fields are valid.
 use mathlib.Core.Path.{◌≡◌, sym, ap, ◌∙◌}
 use native.Mathlib.Omega.{arith}
-use Rattle.answers.specs.declared.Answer.TheVariants.{Done}
+use Rattle.answers.specs.Answer.{Done}
 use Rattle.answers.proofs.Refused.{not_done}
 use Rattle.header.specs.Header.{fields_of}
 use Rattle.header_questions.specs.Questions.{header_says}

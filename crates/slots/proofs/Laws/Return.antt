@@ -24,10 +24,9 @@ use Rattle.plan.specs.Plan.{sent_count}
 use Rattle.slots.proofs.Laws.Bounds.{Bounds, bounds}
 use Rattle.slots.proofs.Laws.Slots.{symbol_below, slots_one}
 use Rattle.slots.specs.Writing.{data_symbol, symbol_at, sent_at, run_slots}
-use Rattle.answers.specs.Answer.{ask}
+use Rattle.answers.specs.Answer.{Done, No, ask}
 use Rattle.answers.proofs.Laws.Answer.{then_done, ask_done, fits_ask, fits_then}
 use Rattle.answers.specs.Inner.{Fits}
-use Rattle.answers.specs.declared.Answer.TheVariants.{Done, No}
 use Rattle.channel.specs.Channel as channels
 use Rattle.channel.specs.Channel.{total, layout_symbols, place, symbol_of, mark_right, rest_zero}
 use Rattle.slots.specs.Reading.{spare_slots_empty, pooled_in, first_bad_symbol, first_bad_mark, first_bad_rest, data_in, word_out, slots_say}

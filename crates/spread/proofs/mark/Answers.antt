@@ -1,8 +1,7 @@
 -- The questions' answer stands; the places are written only where it is acceptance.
 use mathlib.Core.Path.{sym, ap, ◌∙◌}
 use lib.ListN.{length}
-use Rattle.answers.specs.Answer.{after}
-use Rattle.answers.specs.declared.Answer.{Answer}
+use Rattle.answers.specs.Answer.{Answer, after}
 use Rattle.spread.specs.Spread.{spread_of}
 use Rattle.spread.proofs.Said.{spread_accepted}
 use Rattle.spread.proofs.mark.Goals as goal

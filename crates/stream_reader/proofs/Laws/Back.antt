@@ -10,10 +10,9 @@ use lib.Arith.{digits_lt, digits_div, digits_mod}
 use lib.Dec.{eqb}
 use lib.ListN.{length}
 use borrow.Author.Tests.{eq-eqb, eqb-true}
-use Rattle.answers.specs.Answer.{ask}
+use Rattle.answers.specs.Answer.{Done, ask}
 use Rattle.answers.proofs.Laws.Answer.{ask_done, then_done, fits_ask, fits_then}
 use Rattle.answers.specs.Inner.{Fits}
-use Rattle.answers.specs.declared.Answer.TheVariants.{Done}
 use Rattle.bits.proofs.Laws.Choice.{lt_or_le}
 use Rattle.bits.specs.Basics.{up_to}
 use Rattle.bits.proofs.Laws.First.{up_to_le, all_pass, none_fails, found_none, none_found}

@@ -10,8 +10,7 @@ use lib.ListN.{length}
 use borrow.Author.Tests.{eqb-true, eqb-false}
 use Rattle.bits.proofs.Laws.Choice.{lt_or_le}
 use Rattle.bits.proofs.Laws.First.{up_to_le, none_fails, one_fails, passes_before}
-use Rattle.answers.specs.declared.Answer.TheVariants.{Done, No}
-use Rattle.answers.specs.Answer.{number_of, ask, among}
+use Rattle.answers.specs.Answer.{Done, No, number_of, ask, among}
 use Rattle.answers.specs.Inner.{Fits}
 use Rattle.answers.proofs.Laws.Answer.{ask_done, ask_refused, then_refused, fits_ask, fits_then, among_ask, among_then}
 use Rattle.ldpc.specs.Code.{is_codeword}

@@ -13,8 +13,7 @@ use Rattle.bits.specs.Pack.{Bytes, bit_at, bytes_of, piece}
 use Rattle.bits.proofs.Laws.Pack.{bit_lt, val_same, byte_at, bytes_made, bytes_by_byte}
 use Rattle.bits.proofs.Laws.First.{all_pass, none_fails}
 use Rattle.bits.proofs.Laws.Pieces.{length_piece, piece_at, piece_bit}
-use Rattle.answers.specs.declared.Answer.TheVariants.{Done}
-use Rattle.answers.specs.Answer.{ask}
+use Rattle.answers.specs.Answer.{Done, ask}
 use Rattle.answers.proofs.Laws.Answer.{ask_done, ask_yes, then_done}
 use Rattle.randomizer.specs.Randomizer.{sequence, randomize}
 use Rattle.randomizer.proofs.Laws.Randomizer.{randomize_same}

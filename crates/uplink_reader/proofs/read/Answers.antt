@@ -1,8 +1,7 @@
 -- Question 8, then 28 and 29, and the frames once all are answered yes.
 use mathlib.Core.Path.{refl, sym, ap, ◌∙◌}
 use lib.ListN.{length}
-use Rattle.answers.specs.declared.Answer.{Answer}
-use Rattle.answers.specs.Answer.{after}
+use Rattle.answers.specs.Answer.{Answer, after}
 use Rattle.answers.proofs.Refused.{kept}
 use Rattle.uplink.specs.Uplink.{uplink_frames_of}
 use Rattle.uplink_reader.proofs.Answers.{read_no, read_on, slotted, frames_slotted}

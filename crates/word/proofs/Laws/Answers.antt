@@ -14,10 +14,9 @@ use Rattle.bits.proofs.Laws.First.{up_to_le}
 use Rattle.sizes.specs.Sizes.{info_bits, block_bytes, word_bits, word_bytes}
 use Rattle.crc.specs.Check.{register}
 use Rattle.convolution.specs.Code.{encode, decode}
-use Rattle.answers.specs.Answer.{number_of, ask, then, among}
+use Rattle.answers.specs.Answer.{Done, No, number_of, ask, then, among}
 use Rattle.answers.proofs.Laws.Answer.{then_done, ask_done, fits_ask, fits_then, among_ask, among_then}
 use Rattle.answers.specs.Inner.{Fits}
-use Rattle.answers.specs.declared.Answer.TheVariants.{Done, No}
 use Rattle.word.specs.Word.{coded_in, input_in, agrees, first_wrong, ends_in_zeros, check_right, word_write_says, judged, word_read_says}
 use Rattle.word.proofs.Laws.Word.{Sound, sound}
 use Rattle.word.specs.Inner.{WriteAccepted}

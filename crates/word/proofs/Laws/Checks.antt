@@ -16,7 +16,7 @@ use Rattle.sizes.specs.Inner.{input_bits}
 use Rattle.crc.specs.Check.{register, check_bit}
 use Rattle.crc.proofs.Laws.Check.{register_lt, register_same, checked_block_lem, checked_check}
 use Rattle.crc.proofs.Laws.Found.{DifferWithin, registers_differ, field_zero}
-use Rattle.answers.specs.declared.Answer.TheVariants.{No}
+use Rattle.answers.specs.Answer.{No}
 use Rattle.word.specs.Word.{taken_in, checked_block, check_field, carried_on, coded_in, input_in, check_right, word_read_says}
 use Rattle.word.proofs.Laws.Word as Laws
 use Rattle.word.proofs.Laws.Answers as Answers

@@ -6,9 +6,8 @@ use Prim.Native.Nat.{ℕ, suc, ◌+◌, ◌<◌}
 use lib.Bits.{bit_xor}
 use lib.ListN.{length}
 use Rattle.bits.specs.Pack.{Bytes, Bits, bit_at}
-use Rattle.answers.specs.Answer.{number_of, among}
+use Rattle.answers.specs.Answer.{Done, number_of, among}
 use Rattle.answers.specs.Inner.{Fits}
-use Rattle.answers.specs.declared.Answer.TheVariants.{Done}
 use Rattle.sizes.specs.Sizes.{info_bits, block_bytes, word_bits, word_bytes, inputs_per, coded_per}
 use Rattle.crc.specs.Inner.{checked_change}
 use Rattle.convolution.specs.Code.{terminated, input_place, encode}

@@ -20,7 +20,7 @@ use Rattle.sizes.proofs.Laws.Rate.{info_ge}
 use Rattle.crc.specs.Check.{register}
 use Rattle.crc.proofs.Laws.Check.{register_same}
 use Rattle.convolution.specs.Code.{encode}
-use Rattle.answers.specs.declared.Answer.TheVariants.{Done, No}
+use Rattle.answers.specs.Answer.{Done, No}
 use Rattle.word.specs.Word.{agrees, first_wrong, ends_in_zeros, check_right, judged}
 use Rattle.word.proofs.Laws.Answers as Answers
 

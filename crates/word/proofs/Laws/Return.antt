@@ -5,7 +5,7 @@ use Prim.Native.Nat.{ℕ, ◌<◌}
 use lib.ListN.{length}
 use Rattle.bits.specs.Pack.{Bytes}
 use Rattle.sizes.specs.Sizes.{word_bytes}
-use Rattle.answers.specs.declared.Answer.TheVariants.{Done}
+use Rattle.answers.specs.Answer.{Done}
 use Rattle.word.specs.Word.{SameBits, SpareZero, word_of, block_in, coded_in, input_in, word_write_says, word_read_says}
 use Rattle.word.proofs.Laws.Word as Laws
 use Rattle.word.proofs.Laws.Answers as Answers

@@ -8,7 +8,7 @@ use Rattle.bits.proofs.Laws.Sum.{sum3}
 use Rattle.bits.specs.Pack.{bit_at, plus}
 use Rattle.bits.proofs.Laws.Pack.{length_plus, bit_plus, bytes_plus}
 use Rattle.sizes.specs.Sizes.{info_bits, word_bytes}
-use Rattle.answers.specs.declared.Answer.TheVariants.{Done}
+use Rattle.answers.specs.Answer.{Done}
 use Rattle.word.specs.Word.{coded_of, word_of, word_write_says}
 use Rattle.word.proofs.Laws.Word as Laws
 use Rattle.word.proofs.Laws.Answers as Answers

@@ -4,8 +4,7 @@ use Prim.Native.Nat.{ℕ}
 use lib.ListN.{get_or}
 use Rattle.convolution.specs.Code.{decode}
 use Rattle.randomizer.specs.Randomizer.{randomize}
-use Rattle.answers.specs.Answer.{after}
-use Rattle.answers.specs.declared.Answer.TheVariants.{Done}
+use Rattle.answers.specs.Answer.{Done, after}
 use Rattle.word.specs.Word.{packed_block}
 use Rattle.word.proofs.Laws.Lists.{undone_read}
 use Rattle.word_reader.proofs.read_coded.Goals as goal

@@ -1,11 +1,10 @@
 -- The questions' answer stands; the word is written only where it is acceptance.
 use mathlib.Core.Path.{sym, ap, ◌∙◌}
 use lib.ListN.{length}
-use Rattle.answers.specs.Answer.{after}
+use Rattle.answers.specs.Answer.{Answer, after}
 use Rattle.word.specs.Word.{word_of}
 use Rattle.word.proofs.Laws.Answers.{write_accepted}
 use Rattle.answers.proofs.Refused.{kept}
-use Rattle.answers.specs.declared.Answer.{Answer}
 use Rattle.word_writer.proofs.write.Goals as goal
 
 pub returns-in_default : goal.returns-in_default
