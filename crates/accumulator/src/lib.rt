@@ -41,12 +41,10 @@ fn by_eights(word: &mut [u8], n: usize) -> u8
     ensures { SoFar word.old word.new (8 * n) result }
 {
     let mut last: u8 = 0;
-    let mut j = 0;
-    while j < n {
+    for j in 0..n {
         let sums = summed_64(packing::eight(word, 8 * j), last as u64);
         packing::put_eight(word, 8 * j, sums);
         last = (sums & 1) as u8;
-        j += 1;
     }
     last
 }
@@ -56,12 +54,10 @@ pub fn accumulate(word: &mut [u8])
 {
     let n = word.len() / 8;
     let mut last = by_eights(word, n);
-    let mut i = 8 * n;
-    while i < word.len() {
+    for i in 8 * n..word.len() {
         let sums = summed(word[i], last);
         word[i] = sums;
         last = sums & 1;
-        i += 1;
     }
 }
 
@@ -79,11 +75,8 @@ pub fn differentiate(word: &[u8], inputs: &mut [u8])
     ensures { inputs.new ≡ bytes_of (length word.now) (step.differentiate (bit_at word.now)) }
 {
     let mut prior: u8 = 0;
-    let mut i = 0;
-    while i < word.len() {
-        let outputs = word[i];
-        inputs[i] = stepped(outputs, prior);
-        prior = outputs & 1;
-        i += 1;
+    for (i, outputs) in word.iter().enumerate() {
+        inputs[i] = stepped(*outputs, prior);
+        prior = *outputs & 1;
     }
 }

@@ -15,10 +15,8 @@ pub fn parity(frame: u64) -> u64
 {
     let table = PARITY;
     let mut p = 0u64;
-    let mut i = 0;
-    while i < 64 {
-        p = p ^ (table[i] * ((frame >> (63 - i)) & 1));
-        i += 1;
+    for (i, row) in table.iter().enumerate() {
+        p ^= *row * ((frame >> (63 - i)) & 1);
     }
     p
 }

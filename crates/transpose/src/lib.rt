@@ -19,15 +19,13 @@ fn exchanged(s: &mut [u8], at: usize, d: usize, e: usize, m: u8)
     ensures { Exchanged e m d at d s.old s.new }
 {
     let up = m << e;
-    let mut i = 0;
-    while i < d {
+    for i in 0..d {
         let x = at + i;
         let y = x + d;
         let a = s[x];
         let b = s[y];
         s[x] = (a & m) | ((b & m) << e);
         s[y] = ((a >> e) & m) | (b & up);
-        i += 1;
     }
 }
 
@@ -36,10 +34,8 @@ fn stage(s: &mut [u8], w: usize, n: usize, e: usize, m: u8)
     requires { Mask e m × (1 ≤ w) × (2 * (w * (e * n)) ≤ length s.old) }
     ensures { Stage w e n s.old s.new }
 {
-    let mut k = 0;
-    while k < n {
+    for k in 0..n {
         exchanged(s, 2 * (w * (e * k)), w * e, e, m);
-        k += 1;
     }
 }
 

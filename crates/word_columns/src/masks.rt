@@ -25,10 +25,8 @@ pub fn rolled(mask: &mut [u8])
     requires { length mask.old ≡ mask_bytes }
     ensures { Rolled (6 * two_lines) mask.old mask.new }
 {
-    let mut x = 0;
-    while x < FURTHER_MASKS {
+    for x in 0..FURTHER_MASKS {
         let b = mask[x];
         mask[x + TWO_LINES] = (b >> 6) + ((b & 63) << 1);
-        x += 1;
     }
 }

@@ -22,10 +22,8 @@ fn mixed(coded: &[u8], mask: &[u8], x: usize, y: usize) -> u8
     ensures { result ≡ mix_sum (λ i. get_or coded.now (x + row_bits * i) 0) (λ i. get_or mask.now (two_lines * i + y) 0) 7 }
 {
     let mut v: u8 = 0;
-    let mut i = 0usize;
-    while i < ROWS {
-        v = v + chosen(coded[x + ROW * i], mask[TWO_LINES * i + y]);
-        i += 1;
+    for i in 0..ROWS {
+        v += chosen(coded[x + ROW * i], mask[TWO_LINES * i + y]);
     }
     v
 }
@@ -36,10 +34,8 @@ fn two_lines(coded: &[u8], mask: &[u8], n: usize, v: &mut [u8])
     ensures { Filled (mixed_at coded.now mask.now) v.new (two_lines * n + two_lines) }
 {
     let at = TWO_LINES * n;
-    let mut y = 0;
-    while y < TWO_LINES {
+    for y in 0..TWO_LINES {
         v[at + y] = mixed(coded, mask, at + y, y);
-        y += 1;
     }
 }
 
@@ -48,9 +44,7 @@ pub fn all_lines(coded: &[u8], mask: &[u8], v: &mut [u8])
     requires { Coded coded.now × Light mask.now × (length v.old ≡ 2 * row_bits) }
     ensures { Filled (mixed_at coded.now mask.now) v.new row_bits }
 {
-    let mut n = 0;
-    while n < ROW_TWOS {
+    for n in 0..ROW_TWOS {
         two_lines(coded, mask, n, v);
-        n += 1;
     }
 }

@@ -16,10 +16,8 @@ fn eight(v: &[u8], at: &[usize], k: usize, n: usize, seen: &mut [u8])
     requires seen_len { (length seen.old ≡ row_bits) × Picked v.now at.now (lines * k + n) seen.old }
     ensures { Picked v.now at.now (lines * k + n + 1) seen.new }
 {
-    let mut t = 0usize;
-    while t < 8 {
+    for t in 0..8 {
         seen[COLUMNS * n + 8 * k + t] = v[LINE_BYTES * n + at[8 * k + t]];
-        t += 1;
     }
 }
 
@@ -29,10 +27,8 @@ fn eight_columns(v: &[u8], at: &[usize], k: usize, seen: &mut [u8])
     requires seen_len { (length seen.old ≡ row_bits) × Picked v.now at.now (lines * k) seen.old }
     ensures { Picked v.now at.now (lines * k + lines) seen.new }
 {
-    let mut n = 0;
-    while n < LINES {
+    for n in 0..LINES {
         eight(v, at, k, n, seen);
-        n += 1;
     }
 }
 
@@ -41,10 +37,8 @@ pub fn all_columns(v: &[u8], at: &[usize], seen: &mut [u8])
     requires { (length v.now ≡ 2 * row_bits) × Starts at.now × (length seen.old ≡ row_bits) }
     ensures { Filled (picked_at v.now at.now) seen.new row_bits }
 {
-    let mut k = 0;
-    while k < LINE_BYTES {
+    for k in 0..LINE_BYTES {
         eight_columns(v, at, k, seen);
-        k += 1;
     }
 }
 
@@ -52,8 +46,7 @@ pub fn all_columns(v: &[u8], at: &[usize], seen: &mut [u8])
 fn has_bit(x: u8, m: u8) -> u8
     ensures { result ≡ has_bit x m }
 {
-    let y = x & m;
-    if y < 1 { 0 } else { 1 }
+    u8::from(x & m != 0)
 }
 
 // The coded bits of two lines, from bit 144 k on: of the seven rows each has fifteen times so many.
@@ -63,10 +56,8 @@ fn two_lines(seen: &[u8], mask: &[u8], k: usize, coded: &mut [u8])
 {
     let from = TWO_LINES * (k % ROW_TWOS);
     let by = TWO_LINES * (k / ROW_TWOS);
-    let mut y = 0;
-    while y < TWO_LINES {
+    for y in 0..TWO_LINES {
         coded[TWO_LINES * k + y] = has_bit(seen[from + y], mask[by + y]);
-        y += 1;
     }
 }
 
@@ -75,9 +66,7 @@ pub fn split(seen: &[u8], mask: &[u8], coded: &mut [u8])
     requires { (length seen.now ≡ row_bits) × (length mask.now ≡ mask_bytes) × (length coded.old ≡ word_bits) }
     ensures { Filled (split_at seen.now mask.now) coded.new word_bits }
 {
-    let mut k = 0;
-    while k < WORD_TWOS {
+    for k in 0..WORD_TWOS {
         two_lines(seen, mask, k, coded);
-        k += 1;
     }
 }

@@ -21,10 +21,8 @@ pub fn turned(v: &mut [u8], n: usize)
     requires { n + n ≤ length v.old }
     ensures { Turned n n v.old v.new }
 {
-    let mut x = 0;
-    while x < n {
+    for x in 0..n {
         v[n + x] = turn(v[x]);
-        x += 1;
     }
 }
 
@@ -33,12 +31,10 @@ fn plane(planes: &[u8], m: usize, v: &mut [u8])
     requires { (length planes.now ≡ row_bits) × (m < 8) × (length v.old ≡ 2 * row_bits) × Filled (doubled_at planes.now) v.old (2 * plane_bytes * m) }
     ensures { Filled (doubled_at planes.now) v.new (2 * plane_bytes * m + 2 * plane_bytes) }
 {
-    let mut x = 0;
-    while x < PLANE {
+    for x in 0..PLANE {
         let b = planes[PLANE * m + x];
         v[DOUBLE_PLANE * m + x] = b;
         v[DOUBLE_PLANE * m + PLANE + x] = turn(b);
-        x += 1;
     }
 }
 
@@ -47,10 +43,8 @@ pub fn doubled(planes: &[u8], v: &mut [u8])
     requires { (length planes.now ≡ row_bits) × (length v.old ≡ 2 * row_bits) }
     ensures { Filled (doubled_at planes.now) v.new (2 * row_bits) }
 {
-    let mut m = 0;
-    while m < 8 {
+    for m in 0..8 {
         plane(planes, m, v);
-        m += 1;
     }
 }
 
@@ -60,8 +54,7 @@ pub fn nines(from: &[u8], by: usize, out: &mut [u8])
     ensures by_index { (k : ℕ) → k < word_bytes → get_or out.new k 0 ≡ get_or from.now (nine_of by k) 0 }
     ensures by_index_2 { (k : ℕ) → word_bytes ≤ k → get_or out.new k 0 ≡ get_or out.old k 0 }
 {
-    let mut r = 0;
-    while r < WORD_LINES {
+    for r in 0..WORD_LINES {
         bits::change::copy_part(
             from,
             LINE_BYTES * (by * r % WORD_LINES),
@@ -69,6 +62,5 @@ pub fn nines(from: &[u8], by: usize, out: &mut [u8])
             LINE_BYTES * r,
             LINE_BYTES,
         );
-        r += 1;
     }
 }

@@ -2,24 +2,17 @@
 use mathlib.Core.Path.{◌≡◌, ap, ◌∙◌}
 use Prim.Native.Nat.{ℕ, ◌+◌, ◌*◌, ◌%◌}
 use native.Mathlib.Omega.{arith}
-use lib.Bits.{and_mask, mask_lt}
-use borrow.Author.Rules.{rules}
+use lib.Bits.{and_mask}
 use Rattle.bits.specs.Pack.{val, bit_of}
 use Rattle.accumulator.specs.Inner.{accumulate_from, SoFar}
 use Rattle.accumulator.proofs.Places.{so_far_none, last_bit, so_far_eight}
 use Rattle.accumulator.proofs.by_eights.Goals as goal
 
 pub loop-j-init : goal.loop-j-init
-loop-j-init c = (search rules, so_far_none c.args.word.now)
-
-pub overflow_cast-last : goal.overflow_cast-last
-overflow_cast-last c = omega (arith, last_bit c.loop-j.invariant.1)
+loop-j-init c = so_far_none c.args.word.now
 
 pub summed_64-sums-requires : goal.summed_64-sums-requires
-summed_64-sums-requires c = last_bit c.loop-j.invariant.1
-
-pub overflow_cast-last-in-loop-j : goal.overflow_cast-last-in-loop-j
-overflow_cast-last-in-loop-j c = omega (arith, mask_lt c.summed_64-sums.result 1)
+summed_64-sums-requires c = last_bit c.loop-j.invariant
 
 pub loop-j-preserved : goal.loop-j-preserved
 loop-j-preserved c =
@@ -29,11 +22,5 @@ loop-j-preserved c =
     let after = c.put_eight.new.out in
     let eq = o.ensures ∙ ap (λ (v : ℕ). val (accumulate_from l.last (bit_of v)) 64) c.eight.ensures in
     let e : 8 * l.j + 8 ≡ 8 * (l.j + 1) = omega arith in
-    let made : SoFar xs after (8 * (l.j + 1)) (o.result % 2) = rw e at (so_far_eight l.invariant.1 o.result eq after c.put_eight.ensures) in
-    (search rules, rw (and_mask o.result 1) made)
-
-pub returns : goal.returns
-returns c =
-    let l = c.loop-j in
-    let e : l.j ≡ c.args.n = omega arith in
-    rw (← e) l.invariant.1
+    let made : SoFar xs after (8 * (l.j + 1)) (o.result % 2) = rw e at (so_far_eight l.invariant o.result eq after c.put_eight.ensures) in
+    rw (and_mask o.result 1) made

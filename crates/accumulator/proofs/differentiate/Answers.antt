@@ -17,7 +17,7 @@ use Rattle.accumulator.proofs.differentiate.Goals as goal
 
 pub loop-i-init : goal.loop-i-init
 unfolding behind
-loop-i-init c = (search rules, refl, search rules, below_none _)
+loop-i-init c = (refl, search rules, below_none _)
 
 pub stepped-requires : goal.stepped-requires
 stepped-requires c =
@@ -31,12 +31,12 @@ loop-i-preserved c =
     let xs = c.args.word.now in
     let e : c.stepped.result ≡ made xs l.i =
     c.stepped.ensures
-    ∙ ap (λ (p : ℕ). val (differentiate_from p (bit_of (get_or xs l.i 0))) 8) l.invariant.1
+    ∙ ap (λ (p : ℕ). val (differentiate_from p (bit_of (get_or xs l.i 0))) 8) l.invariant.0
     ∙ differentiated_byte xs l.i in
-    (search rules, and_mask (get_or xs l.i 0) 1 ∙ given_last xs l.i, search rules, fill l.inputs (made xs) l.i c.stepped.result (search rules) e l.invariant.3)
+    (and_mask (get_or xs l.i 0) 1 ∙ given_last xs l.i, search rules, fill l.inputs (made xs) l.i c.stepped.result (search rules) e l.invariant.2)
 
 pub returns : goal.returns
 returns c =
     let l = c.loop-i in
     let xs = c.args.word.now in
-    bytes_by_byte (length xs) (differentiate (bit_at xs)) l.inputs l.invariant.2 (λ k h. l.invariant.3 k (omega arith))
+    bytes_by_byte (length xs) (differentiate (bit_at xs)) l.inputs l.invariant.1 (λ k h. l.invariant.2 k (omega arith))

@@ -89,8 +89,5 @@ module _ (b last : ℕ) (h : b < 2 ^ 64) (l : last < 2) where
       ∙ val_same (bit_of (bit_xor (whole b) (last * ones))) (accumulate_from last (bit_of b)) 64 (λ t g.
       xor_digit (whole b) (last * ones) (63 - t) ∙ ap₂ bit_xor (whole-sums b (63 - t)) (flips t g) ∙ from_is t g)
 
-pub overflow_mul-result : goal.overflow_mul-result
-overflow_mul-result c = record { fits = flips-lt c.args.b c.args.last c.ranges.b.fits c.requires }
-
 pub returns : goal.returns
 returns c = right c.args.b c.args.last c.ranges.b.fits c.requires

@@ -8,16 +8,6 @@ use Rattle.bits.proofs.Laws.Table.{fill}
 use Rattle.word_columns.specs.Inner.{mix_sum, mixed_at}
 use Rattle.word_columns.proofs.mixing.two_lines.Goals as goal
 
-pub loop-y-init : goal.loop-y-init
-loop-y-init c =
-    let s = c in
-    (search rules, s.requires.3, λ k h. s.requires.4 k (omega arith))
-
-pub mixed-requires : goal.mixed-requires
-mixed-requires c =
-    let s = c in
-    (s.requires.0, s.requires.1, omega arith, omega arith)
-
 pub loop-y-preserved : goal.loop-y-preserved
 unfolding mixed_at
 loop-y-preserved c =
@@ -26,11 +16,7 @@ loop-y-preserved c =
     let x : ℕ = 144 * a.n + l.y in
     let col : l.y ≡ x % 144 = omega arith in (
       search rules,
-      search rules,
       λ k h. fill l.v (mixed_at a.coded.now a.mask.now) x c.mixed.result (omega arith)
           (c.mixed.ensures ∙ ap (λ (y : ℕ). mix_sum (λ i. get_or a.coded.now (x + 2160 * i) 0) (λ i. get_or a.mask.now (144 * i + y) 0) 7) col)
-          l.invariant.2 k (omega arith),
+          l.invariant.1 k (omega arith),
     )
-
-pub returns : goal.returns
-returns c = λ k h. c.loop-y.invariant.2 k (omega arith)

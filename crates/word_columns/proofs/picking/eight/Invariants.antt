@@ -1,11 +1,7 @@
 use mathlib.Core.Path.{◌≡◌}
-use Prim.Native.Nat.{◌-◌, ◌≤◌}
 use lib.ListN.{length}
 use Rattle.word_columns.proofs.Loops.{Begun}
 use Rattle.word_columns.proofs.picking.eight.Given as goal
 
 abbrev pub invariant-loop-t : goal.invariant-loop-t
-invariant-loop-t l = (l.t ≤ 8) × (length l.seen ≡ 2160) × Begun l.v l.at l.k l.n l.t l.seen
-
-abbrev pub decreases-loop-t : goal.decreases-loop-t
-decreases-loop-t l = 8 - l.t
+invariant-loop-t l = (length l.seen ≡ 2160) × Begun l.v l.at l.k l.n l.t l.seen

@@ -1,20 +1,15 @@
--- The two answers of the test.
-use mathlib.Core.Path.{◌≡◌, refl}
-use native.Mathlib.Omega.{arith}
-use lib.Bits.{bit_and}
-use borrow.Author.Tests.{eq-eqb, ne_eqb}
+-- The test as a number.
+use mathlib.Core.Bool.{Bool, true, false, not}
+use mathlib.Core.Path.{◌≡◌, refl, ◌∙◌}
+use mir.Val.{bool_byte}
+use Rattle.bits.specs.Basics.{pick}
 use Rattle.word_columns.specs.Inner.{has_bit}
 use Rattle.word_columns.proofs.picking.has_bit.Goals as goal
 
-pub returns-then-y-lt1 : goal.returns-then-y-lt1
-unfolding has_bit
-returns-then-y-lt1 c =
-    let s = c in
-    let e : bit_and s.args.x s.args.m ≡ 0 = omega arith in
-    rw (eq-eqb (bit_and s.args.x s.args.m) 0 e) refl
+as_byte : (zero : Bool) → bool_byte (not zero) ≡ pick zero 0 1
+as_byte true = refl
+as_byte false = refl
 
-pub returns-else-y-lt1 : goal.returns-else-y-lt1
+pub returns : goal.returns
 unfolding has_bit
-returns-else-y-lt1 c =
-    let s = c in
-    rw (ne_eqb (bit_and s.args.x s.args.m) 0 (λ e. omega arith)) refl
+returns c = c.from.ensures ∙ as_byte _

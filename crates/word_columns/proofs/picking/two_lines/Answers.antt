@@ -8,11 +8,6 @@ use Rattle.bits.proofs.Laws.Table.{fill}
 use Rattle.word_columns.specs.Inner.{has_bit, split_at}
 use Rattle.word_columns.proofs.picking.two_lines.Goals as goal
 
-pub loop-y-init : goal.loop-y-init
-loop-y-init c =
-    let s = c in
-    (search rules, s.requires.3, λ k h. s.requires.4 k (omega arith))
-
 pub loop-y-preserved : goal.loop-y-preserved
 unfolding split_at
 loop-y-preserved c =
@@ -25,11 +20,7 @@ loop-y-preserved c =
     let from : 144 * (k % 15) + l.y ≡ x % 2160 = omega arith in
     let by : 144 * (k / 15) + l.y ≡ 144 * (x / 2160) + x % 144 = omega arith in (
       search rules,
-      search rules,
       λ j g. fill l.coded (split_at seen mask) x c.has_bit.result (omega arith)
           (c.has_bit.ensures ∙ ap₂ (λ (a b : ℕ). has_bit (get_or seen a 0) (get_or mask b 0)) from by)
-          l.invariant.2 j (omega arith),
+          l.invariant.1 j (omega arith),
     )
-
-pub returns : goal.returns
-returns c = λ k h. c.loop-y.invariant.2 k (omega arith)
