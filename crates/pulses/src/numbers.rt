@@ -46,13 +46,11 @@ fn only(b: &[u8], at: usize, n: usize) -> usize
     let mut any = 0u64;
     let mut empty = 0usize;
     let mut zeros = 0usize;
-    let mut k = 0usize;
-    while k < n {
+    for k in 0..n {
         let v = bits::packing::eight(b, at + 8 * k);
         any = any | v;
         empty += none(v);
         zeros += none(any);
-        k += 1;
     }
     if empty + 1 != n {
         return 64 * n;
@@ -82,14 +80,7 @@ pub fn all_good(order: usize, group: usize, b: &[u8], from: usize, to: usize) ->
     requires { Slots order group to b.now × (to * group + 64 ≤ 8 * length b.now) }
     ensures { result ≡ true → (s : ℕ) → from ≤ s → s < to → symbol_in order group b.now s < order }
 {
-    let mut s = from;
-    while s < to {
-        if symbol(order, group, b, s) >= order {
-            return false;
-        }
-        s += 1;
-    }
-    true
+    (from..to).all(|s| symbol(order, group, b, s) < order)
 }
 
 // The symbol of group s.
@@ -121,11 +112,9 @@ fn seen_far(order: usize, group: usize, b: &[u8], s: usize) -> usize
     let n = order / 64;
     let mut any = 0u64;
     let mut zeros = 0usize;
-    let mut k = 0usize;
-    while k < n {
+    for k in 0..n {
         any += bits::packing::eight(b, at + 8 * k);
         zeros += none(any);
-        k += 1;
     }
     64 * zeros + bits::scan::leading(any)
 }

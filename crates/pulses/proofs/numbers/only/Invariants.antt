@@ -1,10 +1,7 @@
-use Prim.Native.Nat.{◌-◌, ◌≤◌}
+use Prim.Native.Nat.{◌≤◌}
 use Rattle.pulses.proofs.Laws.Swept.{Swept}
 use Rattle.pulses.proofs.Swept.{number_at}
 use Rattle.pulses.proofs.numbers.only.Given as goal
 
 abbrev pub invariant-loop-k : goal.invariant-loop-k
 invariant-loop-k l = (l.k ≤ l.n) × Swept (number_at l.b l.at) l.k l.any l.empty l.zeros
-
-abbrev pub decreases-loop-k : goal.decreases-loop-k
-decreases-loop-k l = l.n - l.k
