@@ -11,10 +11,8 @@ fn any_of(b: &[u8], at: usize) -> u8
     ensures { result ≡ 0 → (k : ℕ) → k < 128 → get_or b.now (at + k) 0 ≡ 0 }
 {
     let mut d = 0u8;
-    let mut k = 0usize;
-    while k < 128 {
+    for k in 0..128 {
         d = d | b[at + k];
-        k += 1;
     }
     d
 }
@@ -24,15 +22,13 @@ fn empty_end(b: &[u8], i: usize) -> usize
     requires { i ≤ length b.now }
     ensures { (i ≤ result) × (result ≤ length b.now) × ((k : ℕ) → i ≤ k → k < result → get_or b.now k 0 ≡ 0) }
 {
-    let n = b.len();
-    let mut at = i;
-    while n - at >= 128 {
-        if any_of(b, at) != 0 {
-            return at;
+    let n = (b.len() - i) / 128;
+    for k in 0..n {
+        if any_of(b, i + 128 * k) != 0 {
+            return i + 128 * k;
         }
-        at += 128;
     }
-    at
+    i + 128 * n
 }
 
 // A slot from slot `at` on, up to `end`, with no pulse in those between.
@@ -40,6 +36,6 @@ pub fn past_empty(b: &[u8], at: usize, end: usize) -> usize
     requires { Scans b.now at end }
     ensures { (at ≤ result) × (result ≤ end) × ((k : ℕ) → at ≤ k → k < result → bit_at b.now k ≡ 0) }
 {
-    let e = bits::scan::least(empty_end(b, at / 8), end / 8);
-    bits::scan::most(at, 8 * e)
+    let e = empty_end(b, at / 8).min(end / 8);
+    at.max(8 * e)
 }

@@ -22,7 +22,7 @@ use Rattle.bits.specs.Count.{weight}
 use Rattle.bits.proofs.Laws.Weight.{weight_same}
 use Rattle.bits.proofs.Laws.Window.{lesser_min}
 use Rattle.pulses.proofs.Laws.Lone.{lone_bits, kept}
-use Rattle.pulses.proofs.Laws.Swept.{Swept}
+use Rattle.pulses.specs.Inner.{Sole}
 use Rattle.pool.specs.Inner.{some, lit}
 use Rattle.pool.proofs.Laws.Pooled.{weight_const}
 use Rattle.pool.specs.Pooled.{count}
@@ -205,10 +205,8 @@ module _ (b : List ℕ) (copies group s : ℕ) where
   abbrev pub number_of : ℕ → ℕ
   number_of k = val (cut (lesser 64 (group - 64 * k)) (λ t. lit b copies group s (64 * k + t))) 64
 
-  pub swept_alone : (n any empty zeros r : ℕ) → group ≤ 64 * n → Swept number_of n any empty zeros → empty + 1 ≡ n → r < 64 → any ≡ 2 ^ (63 - r)
-      → (i : ℕ) → i < group → lit b copies group s i ≡ bool (eqb i (64 * zeros + r))
-  swept_alone n any empty zeros r room swept e hr p i l =
-      let o = swept.one e in
+  pub sole_alone : (n r : ℕ) → group ≤ 64 * n → Sole number_of n r → (i : ℕ) → i < group → lit b copies group s i ≡ bool (eqb i r)
+  sole_alone n r room sole i l =
       let k : ℕ = i / 64 in
       let t : ℕ = i % 64 in
       let w : ℕ = lesser 64 (group - 64 * k) in
@@ -219,13 +217,13 @@ module _ (b : List ℕ) (copies group s : ℕ) where
       ap (lit b copies group s) (sym place)
       ∙ sym (cut_in w f t small)
       ∙ ⊎_elim
-      (λ (q : k ≡ zeros).
-      lone_bits (cut w f) bits r hr (ap number_of q ∙ sym o.1 ∙ p) t (omega arith)
+      (λ (q : k ≡ r / 64).
+      lone_bits (cut w f) bits (r % 64) (omega arith) (ap number_of q ∙ sole.number) t (omega arith)
       ∙ ⊎_elim
-      (λ (d : t ≡ r). rw (eq-eqb t r d, eq-eqb i (64 * zeros + r) (omega arith)) refl)
-      (λ (d : t ≡ r → ⊥). rw (ne_eqb t r d, ne_eqb i (64 * zeros + r) (λ u. d (omega arith))) refl)
-      (eq_or_ne t r))
-      (λ (q : k ≡ zeros → ⊥).
-      no_one (cut w f) bits (o.3 k (omega arith) q) t (omega arith)
-      ∙ sym (ap bool (ne_eqb i (64 * zeros + r) (λ u. q (omega arith)))))
-      (eq_or_ne k zeros)
+      (λ (d : t ≡ r % 64). rw (eq-eqb t (r % 64) d, eq-eqb i r (omega arith)) refl)
+      (λ (d : t ≡ r % 64 → ⊥). rw (ne_eqb t (r % 64) d, ne_eqb i r (λ u. d (omega arith))) refl)
+      (eq_or_ne t (r % 64)))
+      (λ (q : k ≡ r / 64 → ⊥).
+      no_one (cut w f) bits (sole.others k (omega arith) q) t (omega arith)
+      ∙ sym (ap bool (ne_eqb i r (λ u. q (omega arith)))))
+      (eq_or_ne k (r / 64))

@@ -9,16 +9,14 @@ fn next_lit(b: &[u8], copies: usize, group: usize, s: usize, from: usize) -> usi
     requires { Open group copies b.now s × (from ≤ group) }
     ensures { (from ≤ result) × (result ≤ group) × ((i : ℕ) → from ≤ i → i < result → count b.now copies group s i ≡ 0) }
 {
-    let mut at = from;
-    while at < group {
-        let width = bits::scan::least(57, group - at);
+    for at in (from..group).step_by(57) {
+        let width = (group - at).min(57);
         let v = crate::joined::slots_from(b, copies, group, s, at, width);
         if v != 0 {
             return at + bits::scan::leading(v);
         }
-        at += width;
     }
-    at
+    group
 }
 
 // A slot from `from` on, or the group's end; no copy has a pulse between `from` and there.
@@ -32,22 +30,14 @@ fn skip(b: &[u8], copies: usize, group: usize, s: usize, from: usize) -> usize
     from
 }
 
-fn wide(x: u8) -> usize
-    ensures { result ≡ x }
-{
-    x as usize
-}
-
 // The pulses in slot r.
 fn count_at(b: &[u8], copies: usize, group: usize, s: usize, r: usize) -> usize
     requires { Held group copies b.now s × (r < group) }
     ensures { result ≡ count b.now copies group s r }
 {
     let mut v = 0usize;
-    let mut c = 0usize;
-    while c < copies {
-        v += wide(bits::packing::bit_at(b, crate::joined::slot(copies, group, s, c, r)));
-        c += 1;
+    for c in 0..copies {
+        v += usize::from(bits::packing::bit_at(b, crate::joined::slot(copies, group, s, c, r)));
     }
     v
 }
@@ -76,7 +66,7 @@ pub fn counted(b: &[u8], copies: usize, group: usize, s: usize) -> usize
     while r < group {
         let v = count_at(b, copies, group, s, r);
         q = in_front(v, top, r, q, group);
-        top = bits::scan::most(v, top);
+        top = v.max(top);
         r = skip(b, copies, group, s, r + 1);
     }
     q

@@ -35,10 +35,8 @@ pub fn slots_from(b: &[u8], copies: usize, group: usize, s: usize, at: usize, wi
 {
     let rest = 64 - width;
     let mut any = 0u64;
-    let mut c = 0usize;
-    while c < copies {
+    for c in 0..copies {
         any = any | window(b, slot(copies, group, s, c, at));
-        c += 1;
     }
     (any >> rest) << rest
 }
@@ -58,10 +56,8 @@ fn fronts(b: &[u8], copies: usize, bytes: usize, at: usize, width: usize) -> u64
     ensures { result ≡ val (λ t. some (λ c. cut width (bits_from b.now (8 * (at + c * bytes))) t) copies) 64 }
 {
     let mut any = 0u64;
-    let mut c = 0usize;
-    while c < copies {
+    for c in 0..copies {
         any = any | front(b, at + c * bytes, width);
-        c += 1;
     }
     any
 }
@@ -72,6 +68,6 @@ pub fn number(b: &[u8], copies: usize, group: usize, s: usize, k: usize) -> u64
     ensures { result ≡ val (cut (lesser 64 (group - 64 * k)) (λ t. lit b.now copies group s (64 * k + t))) 64 }
 {
     let bytes = group / 8;
-    let width = bits::scan::least(64, group - 64 * k);
+    let width = (group - 64 * k).min(64);
     fronts(b, copies, bytes, s * copies * bytes + 8 * k, width)
 }

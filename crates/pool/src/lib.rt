@@ -18,5 +18,5 @@ pub fn pooled(b: &[u8], copies: usize, group: usize, order: usize, s: usize) -> 
     if q < order {
         return q;
     }
-    bits::scan::least(counts::counted(b, copies, group, s), order)
+    counts::counted(b, copies, group, s).min(order)
 }

@@ -23,7 +23,7 @@ use Rattle.pulses.proofs.Laws.Lone.{lone_bits, kept}
 use Rattle.pool.specs.Pooled.{count, peak, pooled}
 use Rattle.pool.proofs.Joining.{window_is}
 use Rattle.pool.proofs.Laws.Pooled.{peak_at, peak_got, above_same, pooled_at}
-use Rattle.pool_rows.specs.Inner.{pulses_at, worth}
+use Rattle.pool_rows.specs.Inner.{pulses_at, pulses_of, worth}
 
 -- ---- bits of a number
 
@@ -99,28 +99,28 @@ several_step n d h =
     full true = refl
     full false = refl
 
-module _ (b : List ℕ) (group y : ℕ) where
-  pub any_none : (i : ℕ) → bit_of 0 i ≡ bool (ltb 0 (pulses_at b group y 0 i))
+module _ (f : ℕ → ℕ → ℕ) where
+  pub any_none : (i : ℕ) → bit_of 0 i ≡ bool (ltb 0 (pulses_of f 0 i))
   unfolding weight
   any_none i = ap (λ (v : ℕ). v % 2) (zero-div (2 ^ (63 - i)))
 
-  pub several_none : (i : ℕ) → bit_of 0 i ≡ bool (ltb 1 (pulses_at b group y 0 i))
+  pub several_none : (i : ℕ) → bit_of 0 i ≡ bool (ltb 1 (pulses_of f 0 i))
   unfolding weight
   several_none i = ap (λ (v : ℕ). v % 2) (zero-div (2 ^ (63 - i)))
 
-  pub any_more : (c i any v : ℕ) → bit_of any i ≡ bool (ltb 0 (pulses_at b group y c i)) → bit_of v i ≡ bit_at b (y + c * group + i) → bit_of (bit_or any v) i ≡ bool (ltb 0 (pulses_at b group y (c + 1) i))
+  pub any_more : (c i any v : ℕ) → bit_of any i ≡ bool (ltb 0 (pulses_of f c i)) → bit_of v i ≡ f c i → bit_of (bit_or any v) i ≡ bool (ltb 0 (pulses_of f (c + 1) i))
   unfolding weight
   any_more c i any v before here =
-      or_bit any v i ∙ ap₂ bit_or before here ∙ any_step (pulses_at b group y c i) (bit_at b (y + c * group + i)) (bit_lt b (y + c * group + i))
-      ∙ ap (λ (n : ℕ). bool (ltb 0 (pulses_at b group y n i))) (sym (add-one c))
+      or_bit any v i ∙ ap₂ bit_or before here ∙ any_step (pulses_of f c i) (f c i) (rw (← here) (bit_of_lt v i))
+      ∙ ap (λ (n : ℕ). bool (ltb 0 (pulses_of f n i))) (sym (add-one c))
 
-  pub several_more : (c i any several v : ℕ) → bit_of any i ≡ bool (ltb 0 (pulses_at b group y c i)) → bit_of several i ≡ bool (ltb 1 (pulses_at b group y c i)) → bit_of v i ≡ bit_at b (y + c * group + i)
-      → bit_of (bit_or several (bit_and any v)) i ≡ bool (ltb 1 (pulses_at b group y (c + 1) i))
+  pub several_more : (c i any several v : ℕ) → bit_of any i ≡ bool (ltb 0 (pulses_of f c i)) → bit_of several i ≡ bool (ltb 1 (pulses_of f c i)) → bit_of v i ≡ f c i
+      → bit_of (bit_or several (bit_and any v)) i ≡ bool (ltb 1 (pulses_of f (c + 1) i))
   unfolding weight
   several_more c i any several v before more here =
       or_bit several (bit_and any v) i ∙ ap₂ bit_or more (and_bit any v i ∙ ap₂ bit_and before here)
-      ∙ several_step (pulses_at b group y c i) (bit_at b (y + c * group + i)) (bit_lt b (y + c * group + i))
-      ∙ ap (λ (n : ℕ). bool (ltb 1 (pulses_at b group y n i))) (sym (add-one c))
+      ∙ several_step (pulses_of f c i) (f c i) (rw (← here) (bit_of_lt v i))
+      ∙ ap (λ (n : ℕ). bool (ltb 1 (pulses_of f n i))) (sym (add-one c))
 
 -- ---- the slot that is worth more
 

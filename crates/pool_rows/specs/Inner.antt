@@ -7,6 +7,10 @@ use Rattle.bits.specs.Count.{weight}
 abbrev pub pulses_at : List ℕ → ℕ → ℕ → ℕ → ℕ → ℕ
 pulses_at b group y c r = weight (λ k. bit_at b (y + k * group + r)) c
 
+-- those in slot r, where f says which slots of a copy have one
+abbrev pub pulses_of : (ℕ → ℕ → ℕ) → ℕ → ℕ → ℕ
+pulses_of f c r = weight (λ k. f k r) c
+
 -- those copies are within b, and at least eight bytes from each of their slots on
 pub record Near (group copies : ℕ) (b : List ℕ) (y : ℕ) : Type 0 where
   pub group_least : 1 ≤ group

@@ -29,16 +29,14 @@ fn singly(
     ensures filled { to ≤ result → Filled (λ i. pooled b.now copies group order (from + i)) row.new (to - from) }
     ensures row_len_unchanged { length row.new ≡ length row.old }
 {
-    let mut k = s;
-    while k < to {
-        let q = pool::pooled(b, copies, group, order, k);
-        if q >= order {
-            return k;
-        }
-        row[k - from] = (q & 255) as u8;
-        k += 1;
-    }
-    k
+    pulses_rows::fill(
+        order,
+        |k| pool::pooled(b, copies, group, order, k),
+        from,
+        s,
+        to,
+        row,
+    )
 }
 
 // Symbol s too, if its copies decide on one and it is before `to`.
@@ -55,15 +53,14 @@ fn exact(
     requires { Sent order group copies to b.now × (from ≤ s) × (s ≤ to) × (to ≤ from + length row.old) × Known order (pooled b.now copies group order) from (s - from) row.old }
     ensures { Reached order (pooled b.now copies group order) row.old from to result row.new }
 {
-    if s >= to {
-        return s;
-    }
-    let q = pool::pooled(b, copies, group, order, s);
-    if q >= order {
-        return s;
-    }
-    row[s - from] = (q & 255) as u8;
-    s + 1
+    pulses_rows::fill(
+        order,
+        |k| pool::pooled(b, copies, group, order, k),
+        from,
+        s,
+        s + (to - s).min(1),
+        row,
+    )
 }
 
 // The symbols from `from` on, up to the first whose copies do not decide on one, or `to`. Pulses are counted only

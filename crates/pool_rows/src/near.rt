@@ -7,7 +7,7 @@ ghost use Rattle.bits.specs.Pack.{bit_at, bit_of};
 ghost use Rattle.pool.specs.Inner.{Sent};
 ghost use Rattle.pool.specs.Pooled.{peak, pooled};
 ghost use Rattle.pulses_rows.specs.Inner.{Known, Reached};
-ghost use Rattle.pool_rows.specs.Inner.{pulses_at, Near, worth, Ahead};
+ghost use Rattle.pool_rows.specs.Inner.{pulses_at, pulses_of, Near, worth, Ahead};
 
 // The bits from x on as the first of a number: 57 at the least.
 fn window(b: &[u8], x: usize) -> u64
@@ -33,52 +33,32 @@ fn settled(any: u64, several: u64, group: usize) -> usize
     pulses_rows::forties::single(either((any >> rest) << rest, (several >> rest) << rest))
 }
 
-// The slot with more pulses than each other, of the symbol whose slots begin at y; or 64, where that is not seen.
+// The slot with more pulses than each other, where number c begins with the slots of copy c; or 64, where that is not seen.
+fn leader<F: Fn(usize) -> u64>(number: F, copies: usize, group: usize) -> usize
+    requires callable { (c : ℕ) → c < copies → F.pre number c }
+    requires size { (1 ≤ group) × (group ≤ 64) }
+    ensures { result < group → (f : ℕ → ℕ → ℕ) → ((c v i : ℕ) → c < copies → i < group → F.post number c v → bit_of v i ≡ f c i) → peak (pulses_of f copies) group ≡ result }
+{
+    let mut any = 0u64;
+    let mut several = 0u64;
+    for c in 0..copies {
+        let v = number(c);
+        several = several | (any & v);
+        any = any | v;
+    }
+    settled(any, several, group)
+}
+
+// That of the symbol whose slots begin at y: one number shows all copies, or each copy has one.
 fn decisive(b: &[u8], copies: usize, group: usize, y: usize) -> usize
     requires { Near group copies b.now y }
     ensures { result < group → peak (pulses_at b.now group y copies) group ≡ result }
 {
-    let mut any = 0u64;
-    let mut several = 0u64;
-    let mut x = y;
-    let mut c = 0usize;
-    while c < copies {
-        let v = window(b, x);
-        several = several | (any & v);
-        any = any | v;
-        x += group;
-        c += 1;
-    }
-    settled(any, several, group)
-}
-
-// The same where all copies are within one number.
-fn decisive_short(b: &[u8], copies: usize, group: usize, y: usize) -> usize
-    requires { Near group copies b.now y × (copies * group ≤ 57) }
-    ensures { result < group → peak (pulses_at b.now group y copies) group ≡ result }
-{
-    let mut any = 0u64;
-    let mut several = 0u64;
-    let mut v = window(b, y);
-    let mut k = 0usize;
-    while k < copies {
-        several = several | (v & any);
-        any = any | v;
-        v = v << group;
-        k += 1;
-    }
-    settled(any, several, group)
-}
-
-// The same, by one number or by one for each copy.
-fn slot_of(b: &[u8], copies: usize, group: usize, y: usize) -> usize
-    requires { Near group copies b.now y }
-    ensures { result < group → peak (pulses_at b.now group y copies) group ≡ result }
-{
     if copies * group <= 57 {
-        return decisive_short(b, copies, group, y);
+        let all = window(b, y);
+        return leader(|c| all << (c * group), copies, group);
     }
-    decisive(b, copies, group, y)
+    leader(|c| window(b, y + c * group), copies, group)
 }
 
 // The symbols from s on, up to the first for which no slot is seen to lead, or `to`; those from `from` on up to s are
@@ -97,16 +77,12 @@ pub fn near_row(
     ensures { Reached order (pooled b.now copies group order) row.old from to result row.new × (s ≤ result) }
 {
     let size = copies * group;
-    let mut y = s * size;
-    let mut k = s;
-    while k < to {
-        let q = slot_of(b, copies, group, y);
-        if q >= order {
-            return k;
-        }
-        row[k - from] = (q & 255) as u8;
-        y += size;
-        k += 1;
-    }
-    k
+    pulses_rows::fill(
+        order,
+        |k| decisive(b, copies, group, k * size),
+        from,
+        s,
+        to,
+        row,
+    )
 }

@@ -16,18 +16,15 @@ use Rattle.bits.specs.Inner.{bits_from}
 use Rattle.pulses.proofs.Laws.Groups.{group_made}
 use Rattle.pulses.proofs.Laws.Lone.{lone_bits}
 use Rattle.pulses.specs.Pulses.{symbol_in}
-use Rattle.pulses.proofs.Laws.Swept.{Swept}
+use Rattle.pulses.specs.Inner.{Sole}
 
 -- number k of the bytes from `at` on
 abbrev pub number_at : List ℕ → ℕ → ℕ → ℕ
 number_at b at k = val (bits_from b (8 * (at + 8 * k))) 64
 
--- where all but one are 0, and that has a single one, there is no other
-pub swept_bits : (b : List ℕ) (at n any empty zeros r : ℕ) → Swept (number_at b at) n any empty zeros → empty + 1 ≡ n → r < 64 → any ≡ 2 ^ (63 - r)
-    → (i : ℕ) → i < 64 * n → bit_at b (8 * at + i) ≡ bool (eqb i (64 * zeros + r))
-swept_bits b at n any empty zeros r s e hr p i l =
-    let o = s.one e in
-    let low = o.0 in
+-- the bits of the bytes
+pub sole_bits : (b : List ℕ) (at n r : ℕ) → Sole (number_at b at) n r → (i : ℕ) → i < 64 * n → bit_at b (8 * at + i) ≡ bool (eqb i r)
+sole_bits b at n r s i l =
     let a : ℕ = i / 64 in
     let t : ℕ = i % 64 in
     let ht : t < 64 = omega arith in
@@ -36,17 +33,17 @@ swept_bits b at n any empty zeros r s e hr p i l =
     let place : 8 * at + i ≡ 8 * (at + 8 * a) + t = omega arith in
     ap (bit_at b) place
     ∙ ⊎_elim
-    (λ (q : a ≡ zeros).
-    let v : val f 64 ≡ 2 ^ (63 - r) = ap (number_at b at) q ∙ sym o.1 ∙ p in
-    lone_bits f bits r hr v t ht
+    (λ (q : a ≡ r / 64).
+    let v : val f 64 ≡ 2 ^ (63 - r % 64) = ap (number_at b at) q ∙ s.number in
+    lone_bits f bits (r % 64) (omega arith) v t ht
     ∙ ⊎_elim
-    (λ (w : t ≡ r). rw (eq-eqb t r w, eq-eqb i (64 * zeros + r) (omega arith)) refl)
-    (λ (w : t ≡ r → ⊥). rw (ne_eqb t r w, ne_eqb i (64 * zeros + r) (λ u. w (omega arith))) refl)
-    (eq_or_ne t r))
-    (λ (q : a ≡ zeros → ⊥).
-    no_one f bits (o.3 a (omega arith) q) t ht
-    ∙ sym (ap bool (ne_eqb i (64 * zeros + r) (λ u. q (omega arith)))))
-    (eq_or_ne a zeros)
+    (λ (w : t ≡ r % 64). rw (eq-eqb t (r % 64) w, eq-eqb i r (omega arith)) refl)
+    (λ (w : t ≡ r % 64 → ⊥). rw (ne_eqb t (r % 64) w, ne_eqb i r (λ u. w (omega arith))) refl)
+    (eq_or_ne t (r % 64)))
+    (λ (q : a ≡ r / 64 → ⊥).
+    no_one f bits (s.others a (omega arith) q) t ht
+    ∙ sym (ap bool (ne_eqb i r (λ u. q (omega arith)))))
+    (eq_or_ne a (r / 64))
 
 -- guard slots that are empty: the last of 64
 pub guard_none : (b : List ℕ) (at w : ℕ) → w ≤ 64 → val (bits_from b (8 * at)) 64 * 2 ^ (64 - w) % 2 ^ 64 ≡ 0 → (i : ℕ) → 64 - w ≤ i → i < 64 → bit_at b (8 * at + i) ≡ 0

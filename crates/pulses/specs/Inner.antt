@@ -1,5 +1,5 @@
 -- What the functions on slots require: pulse orders, groups within the slots, and the forty bytes that zero symbols repeat.
-use Rattle.std.specs.Prelude.{◌≡◌, List, ℕ, ◌+◌, ◌*◌, ◌/◌, ◌^◌, ◌≤◌, ◌<◌, ◌%◌, length, get_or, eqb}
+use Rattle.std.specs.Prelude.{◌≡◌, List, ℕ, ◌+◌, ◌-◌, ◌*◌, ◌/◌, ◌^◌, ◌≤◌, ◌<◌, ◌%◌, length, get_or, eqb}
 use Rattle.bits.specs.Basics.{bool}
 use Rattle.bits.specs.Pack.{bit_at}
 
@@ -57,6 +57,11 @@ pub record Far (order group : ℕ) (b : List ℕ) (s : ℕ) : Type 0 where
   pub guard_most : group ≤ order + 64
   pub inside : s * group + group ≤ 8 * length b
   pub small : s * group + group < 2 ^ 31
+
+-- of n numbers of 64 bits only one is not 0, and its only one has place r among the bits of all
+pub record Sole (f : ℕ → ℕ) (n r : ℕ) : Type 0 where
+  pub number : f (r / 64) ≡ 2 ^ (63 - r % 64)
+  pub others : (k : ℕ) → k < n → (k ≡ r / 64 → ⊥) → f k ≡ 0
 
 -- forty bytes with a pulse at each multiple of the group
 pub record Zeros (group : ℕ) (z : List ℕ) : Type 0 where

@@ -8,10 +8,8 @@ pub fn zeros(group: usize) -> [u8; 40]
     ensures { Zeros group result }
 {
     let mut slots = [0u8; 40];
-    let mut x = 0usize;
-    while x < 320 {
+    for x in (0..320).step_by(group) {
         bits::packing::put_bit(&mut slots, x);
-        x += group;
     }
     slots
 }
@@ -22,10 +20,8 @@ pub fn difference(b: &[u8], at: usize, given: &[u8]) -> u8
     ensures { result ≡ 0 → (k : ℕ) → k < 40 → get_or b.now (at + k) 0 ≡ get_or given.now k 0 }
 {
     let mut d = 0u8;
-    let mut k = 0usize;
-    while k < 40 {
+    for k in 0..40 {
         d = d | (b[at + k] ^ given[k]);
-        k += 1;
     }
     d
 }
@@ -35,14 +31,9 @@ pub fn past_zeros(b: &[u8], given: &[u8], c: usize, n: usize) -> usize
     requires { Forties b.now given.now c n }
     ensures { (c ≤ result) × (result ≤ n) × ((k : ℕ) → c ≤ k → k < result → Same b.now (40 * k) given.now 40) }
 {
-    let mut k = c;
-    while k < n {
-        if difference(b, 40 * k, given) != 0 {
-            return k;
-        }
-        k += 1;
-    }
-    k
+    (c..n)
+        .find(|k| difference(b, 40 * *k, given) != 0)
+        .unwrap_or(n)
 }
 
 // The first that are, or n; only the bounds are promised.
@@ -50,12 +41,7 @@ pub fn past_others(b: &[u8], given: &[u8], c: usize, n: usize) -> usize
     requires { Forties b.now given.now c n }
     ensures { (c ≤ result) × (result ≤ n) }
 {
-    let mut k = c;
-    while k < n {
-        if difference(b, 40 * k, given) == 0 {
-            return k;
-        }
-        k += 1;
-    }
-    k
+    (c..n)
+        .find(|k| difference(b, 40 * *k, given) == 0)
+        .unwrap_or(n)
 }

@@ -2,8 +2,7 @@
 // A function here that finds no symbol decides nothing: the group is then examined slot by slot.
 ghost use Rattle.std.specs.Prelude.{◌≡◌, true, ℕ, ◌+◌, ◌*◌, ◌/◌, ◌-◌, ◌^◌, ◌≤◌, ◌<◌, eqb, length};
 ghost use Rattle.bits.specs.Basics.{bool};
-ghost use Rattle.bits.specs.Pack.{bit_at};
-ghost use Rattle.pulses.specs.Inner.{Near, Far, Slots};
+ghost use Rattle.pulses.specs.Inner.{Near, Far, Slots, Sole};
 ghost use Rattle.pulses.specs.Pulses.{symbol_in};
 
 // How many zeros come before the only one of 64 bits; 64 if there is no single one.
@@ -21,7 +20,7 @@ pub fn lone(v: u64) -> usize
 }
 
 // 1 if v is 0, and otherwise 0.
-pub fn none(v: u64) -> usize
+fn none(v: u64) -> usize
     ensures { result ≡ bool (eqb v 0) }
 {
     if v == 0 { 1 } else { 0 }
@@ -38,21 +37,20 @@ fn near(order: usize, group: usize, b: &[u8], s: usize) -> usize
     lone((v >> rest) << rest)
 }
 
-// The place of the only one among the 64·n bits from byte `at` on.
-fn only(b: &[u8], at: usize, n: usize) -> usize
-    requires { (at + 8 * n ≤ length b.now) × (1 ≤ n) × (n ≤ 4) }
-    ensures { result < 64 * n → (i : ℕ) → i < 64 * n → bit_at b.now (8 * at + i) ≡ bool (eqb i result) }
+// The place of the only one among the bits of n numbers; 64·n where there is no single one.
+pub fn only<F: Fn(usize) -> u64>(number: F, n: usize) -> usize
+    requires callable { (k : ℕ) → k < n → F.pre number k }
+    requires few { n < 2 ^ 32 }
+    ensures { result < 64 * n → (f : ℕ → ℕ) → ((k v : ℕ) → k < n → F.post number k v → v ≡ f k) → Sole f n result }
 {
     let mut any = 0u64;
     let mut empty = 0usize;
     let mut zeros = 0usize;
-    let mut k = 0usize;
-    while k < n {
-        let v = bits::packing::eight(b, at + 8 * k);
+    for k in 0..n {
+        let v = number(k);
         any = any | v;
         empty += none(v);
         zeros += none(any);
-        k += 1;
     }
     if empty + 1 != n {
         return 64 * n;
@@ -74,7 +72,7 @@ fn far(order: usize, group: usize, b: &[u8], s: usize) -> usize
     if guard != 0 {
         return order;
     }
-    only(b, at, order / 64)
+    only(|k| bits::packing::eight(b, at + 8 * k), order / 64)
 }
 
 // Whether the groups from `from` up to `to` all have a symbol.
@@ -82,14 +80,7 @@ pub fn all_good(order: usize, group: usize, b: &[u8], from: usize, to: usize) ->
     requires { Slots order group to b.now × (to * group + 64 ≤ 8 * length b.now) }
     ensures { result ≡ true → (s : ℕ) → from ≤ s → s < to → symbol_in order group b.now s < order }
 {
-    let mut s = from;
-    while s < to {
-        if symbol(order, group, b, s) >= order {
-            return false;
-        }
-        s += 1;
-    }
-    true
+    (from..to).all(|s| symbol(order, group, b, s) < order)
 }
 
 // The symbol of group s.
@@ -121,11 +112,9 @@ fn seen_far(order: usize, group: usize, b: &[u8], s: usize) -> usize
     let n = order / 64;
     let mut any = 0u64;
     let mut zeros = 0usize;
-    let mut k = 0usize;
-    while k < n {
+    for k in 0..n {
         any += bits::packing::eight(b, at + 8 * k);
         zeros += none(any);
-        k += 1;
     }
     64 * zeros + bits::scan::leading(any)
 }

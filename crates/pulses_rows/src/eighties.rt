@@ -20,14 +20,5 @@ pub fn eighties(b: &[u8], from: usize, to: usize, row: &mut [u8]) -> usize
     requires { Clear 64 80 b.now from to × (to ≤ from + length row.old) }
     ensures { Reached 64 (symbol_in 64 80 b.now) row.old from to result row.new }
 {
-    let mut s = from;
-    while s < to {
-        let q = eighty(b, s);
-        if q >= 64 {
-            return s;
-        }
-        row[s - from] = (q & 255) as u8;
-        s += 1;
-    }
-    s
+    crate::fill(64, |s| eighty(b, s), from, from, to, row)
 }

@@ -29,10 +29,8 @@ fn put_fives(row: &mut [u8], at: usize, w: u64)
     requires { at + 8 ≤ length row.old }
     ensures { Fives row.old at 8 w row.new }
 {
-    let mut k = 0usize;
-    while k < 8 {
+    for k in 0..8 {
         row[at + k] = ((w >> (35 - 5 * k)) & 3) as u8;
-        k += 1;
     }
 }
 
@@ -57,13 +55,13 @@ pub fn fives(b: &[u8], from: usize, to: usize, row: &mut [u8]) -> usize
     if from * 5 % 8 != 0 {
         return from;
     }
-    let mut s = from;
-    while to - s >= 8 {
-        let end = s + 8;
-        s = eight_fives(b, from, s, row);
-        if s < end {
-            return s;
+    let eights = (to - from) / 8;
+    for k in 0..eights {
+        let s = from + 8 * k;
+        let end = eight_fives(b, from, s, row);
+        if end < s + 8 {
+            return end;
         }
     }
-    s
+    from + 8 * eights
 }

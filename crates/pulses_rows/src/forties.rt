@@ -42,16 +42,14 @@ fn forty(
     ensures { Reached order (symbol_in order group b.now) row.old from (s + per) result row.new }
 {
     let v = bits::packing::eight(b, s * group / 8);
-    let mut k = 0usize;
-    while k < per {
-        let q = lone_at(v, k * group, group);
-        if q >= order {
-            return s + k;
-        }
-        row[s + k - from] = (q & 255) as u8;
-        k += 1;
-    }
-    s + k
+    crate::fill(
+        order,
+        |k| lone_at(v, (k - s) * group, group),
+        from,
+        s,
+        s + per,
+        row,
+    )
 }
 
 // The groups from `from` on up to `to`, forty slots at a time: the symbols of those before the first that may be bad.
@@ -70,13 +68,13 @@ pub fn forties(
     if from * group % 8 != 0 {
         return from;
     }
-    let mut s = from;
-    while to - s >= per {
-        let end = s + per;
-        s = forty(order, group, per, b, from, s, row);
-        if s < end {
-            return s;
+    let whole = (to - from) / per;
+    for k in 0..whole {
+        let s = from + per * k;
+        let end = forty(order, group, per, b, from, s, row);
+        if end < s + per {
+            return end;
         }
     }
-    s
+    from + per * whole
 }

@@ -13,6 +13,33 @@ ghost use Rattle.pulses.specs.Inner.{Slots};
 ghost use Rattle.pulses.specs.Pulses.{symbol_in, grouped};
 ghost use Rattle.pulses_rows.specs.Inner.{Known, Reached, Clear};
 
+// Symbols asked for one after another: where those from `from` on up to s are in the row, those from s on go into it too, up to the first
+// that is not below M, or `to`.
+pub fn fill<F: Fn(usize) -> usize>(
+    order: usize,
+    symbol: F,
+    from: usize,
+    s: usize,
+    to: usize,
+    row: &mut [u8],
+) -> usize
+    requires callable { (k : ℕ) → s ≤ k → k < to → F.pre symbol k }
+    requires room { (order ≤ 256) × (from ≤ s) × (s ≤ to) × (to ≤ from + length row.old) }
+    ensures reached { (f : ℕ → ℕ) → ((k q : ℕ) → s ≤ k → k < to → F.post symbol k q → q < order → f k ≡ q) → Known order f from (s - from) row.old → Reached order f row.old from to result row.new }
+    ensures within { (s ≤ result) × (result ≤ to) }
+    ensures stops { result < to → (q : ℕ) × F.post symbol result q × (order ≤ q) }
+    ensures row_len_unchanged { length row.new ≡ length row.old }
+{
+    for k in s..to {
+        let q = symbol(k);
+        if q >= order {
+            return k;
+        }
+        row[k - from] = (q & 255) as u8;
+    }
+    to
+}
+
 // The first bad group from s on, or `to`, where those from `from` on up to s are in the row already; and where
 // there is none, the symbols. Group after group, slot by slot.
 fn singly(
@@ -29,16 +56,14 @@ fn singly(
     ensures filled { to ≤ result → Filled (λ i. symbol_in order group b.now (from + i)) row.new (to - from) }
     ensures row_len_unchanged { length row.new ≡ length row.old }
 {
-    let mut k = s;
-    while k < to {
-        let q = pulses::symbol_in(order, group, b, k);
-        if q >= order {
-            return k;
-        }
-        row[k - from] = (q & 255) as u8;
-        k += 1;
-    }
-    k
+    fill(
+        order,
+        |k| pulses::symbol_in(order, group, b, k),
+        from,
+        s,
+        to,
+        row,
+    )
 }
 
 // Up to which of the groups, or symbols, from `from` on at least eight bytes follow; `from` where that is not known.
@@ -49,7 +74,7 @@ pub fn clear_end(size: usize, b: &[u8], from: usize, to: usize) -> usize
     if to * size / 8 + 8 < b.len() {
         return to;
     }
-    to - bits::scan::least(to - from, 16)
+    to - (to - from).min(16)
 }
 
 // The symbols of groups that all have one.
@@ -57,12 +82,10 @@ fn seen_row(order: usize, group: usize, b: &[u8], from: usize, to: usize, row: &
     requires { Slots order group to b.now × (from ≤ to) × (to ≤ from + length row.old) × ((s : ℕ) → from ≤ s → s < to → symbol_in order group b.now s < order) }
     ensures { Reached order (symbol_in order group b.now) row.old from to result row.new }
 {
-    let mut s = from;
-    while s < to {
+    for s in from..to {
         row[s - from] = (pulses::numbers::seen(order, group, b, s) & 255) as u8;
-        s += 1;
     }
-    s
+    to
 }
 
 // The symbols of the groups from `from` on up to `to`, or none.

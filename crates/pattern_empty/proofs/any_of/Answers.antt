@@ -8,27 +8,13 @@ use Rattle.bits.proofs.Laws.Choice.{lt_or_le}
 use Rattle.bits.proofs.Laws.Sum.{or_zero}
 use Rattle.pattern_empty.proofs.any_of.Goals as goal
 
-pub loop-k-init : goal.loop-k-init
-loop-k-init c = (omega arith, λ e k l. absurd (omega arith))
-
-pub overflow_add-k : goal.overflow_add-k
-overflow_add-k c = omega arith
-
-pub loop-k-smaller : goal.loop-k-smaller
-loop-k-smaller c = omega arith
-
 pub loop-k-preserved : goal.loop-k-preserved
 loop-k-preserved c =
     let a = c.args in
-    let l = c.loop-k in (
-      omega arith,
-      λ e i h.
-          let z = or_zero l.d (get_or a.b.now (a.at + l.k) 0) e in
-          ⊎_elim
-          (λ (g : i < l.k). l.invariant.1 z.0 i g)
-          (λ (g : l.k ≤ i). let q : i ≡ l.k = omega arith in rw q z.1)
-          (lt_or_le i l.k),
-    )
-
-pub returns : goal.returns
-returns c e k h = c.loop-k.invariant.1 e k (omega arith)
+    let l = c.loop-k in
+    λ e i h.
+    let z = or_zero l.d (get_or a.b.now (a.at + l.k) 0) e in
+    ⊎_elim
+    (λ (g : i < l.k). l.invariant z.0 i g)
+    (λ (g : l.k ≤ i). let q : i ≡ l.k = omega arith in rw q z.1)
+    (lt_or_le i l.k)

@@ -7,7 +7,7 @@ use Rattle.bits.specs.Basics.{up_to}
 use Rattle.bits.specs.Pack.{clear_at, first_set}
 use Rattle.bits.specs.Inner.{lesser}
 use Rattle.bits.proofs.Laws.First.{first_end}
-use Rattle.bits.proofs.Laws.Window.{lesser_le, window_pass, window_stop}
+use Rattle.bits.proofs.Laws.Window.{lesser_min, window_pass, window_stop}
 use Rattle.pattern_look.specs.Inner.{shows}
 use Rattle.pattern_look.proofs.Sight.{shows_is}
 use Rattle.pattern_look.proofs.pulse_from.Goals as goal
@@ -20,35 +20,14 @@ returns-then-x-end c =
     let e : a.x ≡ a.end = omega arith in
     e ∙ sym (first_end (clear_at a.b.now) a.end a.x (omega arith) o)
 
-pub overflow_add-result : goal.overflow_add-result
-overflow_add-result c =
-    let s = c in
-    let i = lesser_le c.leading.result (s.args.end - s.args.x) in
-    let e = c.least.ensures in
-    record { fits = let f = c.ranges.end.fits in omega arith }
-
 pub returns-then-v-ne0 : goal.returns-then-v-ne0
 unfolding first_set
 returns-then-v-ne0 c =
     let s = c in
     let a = c.args in
-    ap (λ (n : ℕ). a.x + n) c.least.ensures
+    ap (λ (n : ℕ). a.x + n) (c.min.ensures ∙ sym (lesser_min _ _))
     ∙ sym (window_stop a.b.now a.x a.end (shows (length a.b.now) a.x) c.leading.result s.requires.order
     (rw c.look-v.ensures at c.leading.ensures))
-
-pub overflow_add-x : goal.overflow_add-x
-overflow_add-x c =
-    let s = c in
-    let i = lesser_le c.shown.result (s.args.end - s.args.x) in
-    let e = c.least-2.ensures in
-    record { fits = let f = c.ranges.end.fits in omega arith }
-
-pub further-requires : goal.further-requires
-further-requires c =
-    let s = c in
-    let i = lesser_le c.shown.result (s.args.end - s.args.x) in
-    let e = c.least-2.ensures in
-    record { eight = s.requires.eight; order = omega arith; room = s.requires.room }
 
 pub returns : goal.returns
 unfolding first_set
@@ -58,8 +37,8 @@ returns c =
     let w : ℕ = shows (length a.b.now) a.x in
     let m = c.requires.room in
     let z = shows_is (length a.b.now) a.x s.requires.eight (omega arith) in
-    let n : c.least-2.result ≡ lesser w (a.end - a.x) =
-    c.least-2.ensures ∙ ap (λ (k : ℕ). lesser k (a.end - a.x)) c.shown.ensures in
+    let n : c.min-2.result ≡ lesser w (a.end - a.x) =
+    (c.min-2.ensures ∙ sym (lesser_min _ _)) ∙ ap (λ (k : ℕ). lesser k (a.end - a.x)) c.shown.ensures in
     c.further.ensures
     ∙ ap (λ (k : ℕ). up_to (clear_at a.b.now) (a.x + k) a.end) n
     ∙ window_pass a.b.now a.x a.end w s.requires.order z.1 (sym c.look-v.ensures ∙ c.if-v-ne0.false)

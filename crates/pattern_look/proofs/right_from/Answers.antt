@@ -6,6 +6,7 @@ use native.Mathlib.Omega.{arith}
 use lib.ListN.{length}
 use lib.Bits.{bit_xor}
 use Rattle.bits.specs.Inner.{lesser}
+use Rattle.bits.proofs.Laws.Window.{lesser_min}
 use Rattle.pattern_look.specs.Inner.{Looks, shows}
 use Rattle.pattern_look.proofs.Sight.{shows_is, Sight, sight, look_all, look_some}
 use Rattle.pattern_look.proofs.right_from.Goals as goal
@@ -24,14 +25,14 @@ pub returns-then-v-ne0 : goal.returns-then-v-ne0
 returns-then-v-ne0 c =
     let s = c in
     let a = c.args in
-    let most = c.least-most in
+    let most = c.min-most in
     let k = compared a.b.now a.marker.now a.y a.i a.n c.shown.result
     c.shown-2.result
-    c.least-seen.result most.result s.requires
+    c.min-seen.result most.result s.requires
     c.shown.ensures
     c.shown-2.ensures
-    c.least-seen.ensures most.ensures in
-    rw c.least.ensures
+    (c.min-seen.ensures ∙ sym (lesser_min _ _)) (most.ensures ∙ sym (lesser_min _ _)) in
+    rw (c.min.ensures ∙ sym (lesser_min _ _))
     (look_some a.b.now a.y a.marker.now a.i a.n (shows (length a.b.now) a.y) (shows (length a.marker.now) a.i)
     most.result k
     c.leading.result
@@ -41,12 +42,12 @@ pub returns : goal.returns
 returns c =
     let s = c in
     let a = c.args in
-    let most = c.least-most in
+    let most = c.min-most in
     let k = compared a.b.now a.marker.now a.y a.i a.n c.shown.result
     c.shown-2.result
-    c.least-seen.result most.result s.requires
+    c.min-seen.result most.result s.requires
     c.shown.ensures c.shown-2.ensures
-    c.least-seen.ensures most.ensures in
+    (c.min-seen.ensures ∙ sym (lesser_min _ _)) (most.ensures ∙ sym (lesser_min _ _)) in
     let w = shows_is (length a.b.now) a.y s.requires.capture.eight s.requires.capture.there in
     let small : most.result ≤ 64 = let z = k.capture in omega arith in
     look_all a.b.now a.y a.marker.now a.i a.n (shows (length a.b.now) a.y) (shows (length a.marker.now) a.i)

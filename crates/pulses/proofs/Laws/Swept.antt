@@ -1,7 +1,7 @@
 -- Numbers one after another, of which at most one is not 0.
 use mathlib.Core.Path.{◌≡◌, refl, sym, ap, ◌∙◌}
 use mathlib.Core.Logic.{⊎_elim}
-use Prim.Native.Nat.{ℕ, ◌+◌, ◌≤◌, ◌<◌}
+use Prim.Native.Nat.{ℕ, ◌+◌, ◌-◌, ◌*◌, ◌/◌, ◌%◌, ◌^◌, ◌≤◌, ◌<◌}
 use native.Mathlib.Omega.{arith}
 use lib.Bits.{bit_or, or_zero_l, or_zero_r}
 use lib.Dec.{eqb}
@@ -9,6 +9,7 @@ use borrow.Author.Tests.{eq-eqb, ne_eqb}
 use Rattle.bits.specs.Basics.{bool}
 use Rattle.bits.proofs.Laws.Choice.{eq_or_ne, lt_or_le}
 use Rattle.bits.proofs.Laws.Sum.{or_zero}
+use Rattle.pulses.specs.Inner.{Sole}
 
 -- of the first k numbers `empty` are 0 and `any` is their join; where all are, or all but one, `zeros` stand in front
 pub record Swept (f : ℕ → ℕ) (k any empty zeros : ℕ) : Type 0 where
@@ -62,3 +63,11 @@ swept_more f k any empty zeros v e z s here he hz =
           (omega arith, now ∙ here ∙ ap f (sym at), omega (arith, now), λ i l w. n.2 i (let y : i ≡ k → ⊥ = λ u. w (u ∙ sym at) in omega arith));
     })
     (eq_or_ne v 0)
+
+-- where all but one are 0, and that has a single one, there is no other
+pub swept_sole : (f : ℕ → ℕ) (n any empty zeros r : ℕ) → Swept f n any empty zeros → empty + 1 ≡ n → r < 64 → any ≡ 2 ^ (63 - r) → Sole f n (64 * zeros + r)
+swept_sole f n any empty zeros r s e hr p =
+    let o = s.one e in
+    let q : (64 * zeros + r) / 64 ≡ zeros = omega arith in
+    let t : (64 * zeros + r) % 64 ≡ r = omega arith in
+    record { number = rw (q, t) (sym o.1 ∙ p); others = λ k l w. o.3 k l (λ u. w (u ∙ sym q)) }

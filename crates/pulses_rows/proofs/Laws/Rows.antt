@@ -75,6 +75,14 @@ module _ (order : ℕ) (f : ℕ → ℕ) where
   pub reach_full : (before : List ℕ) (from to s : ℕ) (row : List ℕ) → Reached order f before from to s row → to ≤ s → Filled (λ i. f (from + i)) row (to - from)
   reach_full before from to s row r l i h = (r.known i (omega arith)).1
 
+  -- the end or the first that has none
+  pub reach_value : (before : List ℕ) (from to s : ℕ) (row : List ℕ) → Reached order f before from to s row → (s < to → order ≤ f s) → s ≡ up_to is_symbol from to
+  reach_value before from to s row r none =
+      ⊎_elim
+      (λ (l : s < to). reach_stop before from to s (f s) row r l (none l) refl)
+      (λ (l : to ≤ s). reach_end before from to s row r l)
+      (lt_or_le s to)
+
   -- a step from s on, of a row that was known up to s
   pub reach_on : (before : List ℕ) (from to s end r : ℕ) (row after : List ℕ) → Reached order f before from to s row → Reached order f row from end r after → end ≤ to
       → Reached order f before from to r after

@@ -1,50 +1,23 @@
 -- Each symbol goes into the row as it is asked for.
-use mathlib.Core.Path.{refl, sym}
-use native.Mathlib.Omega.{arith}
-use lib.Bits.{mask_lt}
-use Rattle.pulses.proofs.Laws.Needs.{sizes, held}
-use Rattle.pulses_rows.proofs.Laws.Rows.{reach_more, reach_stop, reach_end, reach_full}
+use Rattle.std.proofs.Common.{◌≡◌, arith, rules}
+use Rattle.pulses.specs.Pulses.{symbol_in}
+use Rattle.pulses.proofs.Laws.Needs.{held}
+use Rattle.pulses_rows.proofs.Laws.Rows.{reach_value, reach_full}
 use Rattle.pulses_rows.proofs.singly.Goals as goal
 
-pub loop-k-init : goal.loop-k-init
-loop-k-init c =
-    let s = c in
-    record { least = s.requires.1; most = s.requires.2; long = refl; known = s.requires.4 }
-
-pub symbol_in-q-requires : goal.symbol_in-q-requires
-symbol_in-q-requires c =
-    let s = c in
-    held _ _ _ _ s.requires.0 c.loop-k.k (omega arith)
-
-pub returns-then-q-order : goal.returns-then-q-order
-returns-then-q-order c =
-    let a = c.args in
-    let l = c.loop-k in
-    let o = c.symbol_in-q in
-    record {
-      value = reach_stop _ _ _ _ _ _ o.result _ l.invariant (omega arith) c.if-q-order.true o.ensures;
-      filled = λ h. absurd (omega arith);
-      row_len_unchanged = l.invariant.long;
-    }
-
-pub overflow_cast-row : goal.overflow_cast-row
-overflow_cast-row c = omega (arith, mask_lt c.symbol_in-q.result 8)
-
-pub loop-k-preserved : goal.loop-k-preserved
-loop-k-preserved c =
-    let s = c in
-    let l = c.loop-k in
-    let o = c.symbol_in-q in
-    let z = sizes _ _ s.requires.0.shape in
-    let room = c.loop-k.invariant.long in
-    let from = c.loop-k.invariant.least in
-    reach_more _ _ _ _ _ _ o.result _ l.invariant (omega arith) (omega arith) z.order_most c.if-q-order.false (sym o.ensures)
+pub fill-requires-clause-callable : goal.fill-requires-clause-callable
+fill-requires-clause-callable c = λ k low high. let h = held _ _ _ _ c.requires.0 k high in search rules
 
 pub returns : goal.returns
 returns c =
-    let l = c.loop-k in
+    let a = c.args in
+    let reached = c.fill.ensures.reached (symbol_in a.order a.group a.b.now) (λ k q low high e small. search rules) c.requires.4 in
     record {
-      value = reach_end _ _ _ _ _ _ _ l.invariant (omega arith);
-      filled = λ h. reach_full _ _ _ _ _ _ _ l.invariant (omega arith);
-      row_len_unchanged = l.invariant.long;
+      value = reach_value _ _ _ _ _ _ _ reached (λ l.
+          let bad = c.fill.ensures.stops l in
+          let post = bad.1 in
+          let is : bad.0 ≡ symbol_in a.order a.group a.b.now c.fill.result = search rules in
+          rw is at bad.2);
+      filled = λ h. reach_full _ _ _ _ _ _ _ reached (omega arith);
+      row_len_unchanged = c.fill.ensures.row_len_unchanged;
     }

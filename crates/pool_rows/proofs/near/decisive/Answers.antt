@@ -1,65 +1,28 @@
--- Copy after copy, the first number has the slots with a pulse and the second those with several.
-use mathlib.Core.Path.{◌≡◌, ap, ◌∙◌}
-use Prim.Native.Nat.{ℕ, ◌+◌, ◌*◌, ◌≤◌, ◌<◌}
-use native.Mathlib.Omega.{arith}
+-- A number that shows all copies, moved on by as many, or one number for each.
+use Rattle.std.proofs.Common.{◌≡◌, ℕ, ◌+◌, ◌*◌, ◌%◌, ◌^◌, ◌≤◌, ◌<◌, ap, ◌∙◌, arith, rules}
 use native.Mathlib.Nat.{le_refl, mul-le-mul}
 use Rattle.bits.specs.Pack.{bit_at, bit_of}
-use Rattle.pool_rows.specs.Inner.{pulses_at}
-use Rattle.pool_rows.proofs.Worth.{any_none, several_none, any_more, several_more, worth_peak}
+use Rattle.pool_rows.proofs.Worth.{shl_bit}
 use Rattle.pool_rows.proofs.near.decisive.Goals as goal
 
-pub loop-c-init : goal.loop-c-init
-loop-c-init c =
-    let s = c in
-    let a = c.args in
-    (omega arith, omega arith, (λ i l. any_none a.b.now a.group a.y i), (λ i l. several_none a.b.now a.group a.y i))
+-- copy c is within all
+within : (copies group c : ℕ) → c < copies → c * group + group ≤ copies * group
+within copies group c l = let m : (c + 1) * group ≤ copies * group = mul-le-mul (let h : c + 1 ≤ copies = omega arith in h) (le_refl group) in omega arith
 
-pub window-v-requires : goal.window-v-requires
-window-v-requires c =
-    let s = c in
+pub returns-then-copies-group-le57 : goal.returns-then-copies-group-le57
+returns-then-copies-group-le57 c = λ small.
     let a = c.args in
-    let l = c.loop-c in
-    let m : l.c * a.group ≤ a.copies * a.group = mul-le-mul l.invariant.0 (le_refl a.group) in
-    let x = c.loop-c.invariant.1 in
-    let i = c.requires.inside in
-    omega arith
-
-pub overflow_add-x : goal.overflow_add-x
-overflow_add-x c =
-    let s = c in
-    let a = c.args in
-    let l = c.loop-c in
-    let m : l.c * a.group ≤ a.copies * a.group = mul-le-mul l.invariant.0 (le_refl a.group) in
-    let x = c.loop-c.invariant.1 in
-    let i = c.requires.small in
-    let g = c.requires.group_most in
-    record { fits = omega arith }
-
-pub loop-c-preserved : goal.loop-c-preserved
-loop-c-preserved c =
-    let s = c in
-    let a = c.args in
-    let l = c.loop-c in
-    let x = c.loop-c.invariant.1 in
-    let g = c.requires.group_most in
-    let shown : (i : ℕ) → i < a.group → bit_of c.window-v.result i ≡ bit_at a.b.now (a.y + l.c * a.group + i) = λ i h. c.window-v.ensures i (omega arith) ∙ ap (λ (z : ℕ). bit_at a.b.now (z + i)) x in (
-      omega arith,
-      omega arith,
-      (λ i h. any_more a.b.now a.group a.y l.c i l.any c.window-v.result (l.invariant.2 i h) (shown i h)),
-      (λ i h. several_more a.b.now a.group a.y l.c i l.any l.several c.window-v.result (l.invariant.2 i h) (l.invariant.3 i h) (shown i h)),
-    )
-
-pub settled-requires : goal.settled-requires
-settled-requires c =
-    let p = c.requires in
-    let m = c.requires.group_most in
-    (p.group_least, omega arith)
+    c.leader.ensures small (λ k i. bit_at a.b.now (a.y + k * a.group + i)) (λ k v i low l e.
+    let w = within a.copies a.group k low in
+    let most = c.if-copies-group-le57.true in
+    let is : v ≡ c.window-all.result * 2 ^ (k * a.group) % 2 ^ 64 = search rules in
+    let at : a.y + (k * a.group + i) ≡ a.y + k * a.group + i = omega arith in
+    ap (λ (n : ℕ). bit_of n i) is ∙ shl_bit c.window-all.result (k * a.group) i (omega arith) ∙ c.window-all.ensures (k * a.group + i) (omega arith) ∙ ap (bit_at a.b.now) at)
 
 pub returns : goal.returns
-returns c = λ h.
+returns c = λ small.
     let a = c.args in
-    let l = c.loop-c in
-    let n = c.loop-c.invariant.0 in
-    let e : l.c ≡ a.copies = omega arith in
-    let f : ℕ → ℕ = pulses_at a.b.now a.group a.y a.copies in
-    worth_peak f a.group l.any l.several c.settled.result h (λ i k. rw e at (l.invariant.2 i k)) (λ i k. rw e at (l.invariant.3 i k)) (c.settled.ensures h)
+    let most = c.requires.group_most in
+    c.leader-2.ensures small (λ k i. bit_at a.b.now (a.y + k * a.group + i)) (λ k v i low l e.
+    let bits : i < 57 → bit_of v i ≡ bit_at a.b.now (a.y + k * a.group + i) = search rules in
+    bits (omega arith))

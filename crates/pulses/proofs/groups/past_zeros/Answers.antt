@@ -1,33 +1,19 @@
--- All forties that were passed are those given.
-use mathlib.Core.Path.{◌≡◌}
-use mathlib.Core.Logic.{⊎_elim}
-use native.Mathlib.Omega.{arith}
-use Rattle.bits.proofs.Laws.Choice.{eq_or_ne}
+-- The forties in front of the first that differs are those given.
+use Rattle.std.proofs.Common.{ℕ, ◌*◌, ◌≤◌, ◌<◌, Option, None, Some, MatchOption, unwrap_or, arith, rules, tests}
+use Rattle.std.proofs.lemmas.Iterator.{first_from_Range}
+use Rattle.pulses.specs.Inner.{Same}
 use Rattle.pulses.proofs.groups.past_zeros.Goals as goal
 
-pub loop-k-init : goal.loop-k-init
-loop-k-init c = (omega arith, c.requires.order, λ i a l. absurd (omega arith))
-
-pub overflow_mul-k : goal.overflow_mul-k
-overflow_mul-k c = let r = c.requires.room in omega arith
-
-pub difference-requires : goal.difference-requires
-difference-requires c = let h = c.requires in let r = c.requires.room in (omega arith, h.long)
-
-pub returns-then-difference-ne0 : goal.returns-then-difference-ne0
-returns-then-difference-ne0 c = c.loop-k.invariant
-
-pub loop-k-preserved : goal.loop-k-preserved
-loop-k-preserved c =
-    let l = c.loop-k in
-    let from = c.loop-k.invariant.0 in (
-      omega arith,
-      omega arith,
-      λ i g m. ⊎_elim
-          (λ (q : i ≡ l.k). rw q (c.difference.ensures c.if-difference-ne0.false))
-          (λ (q : i ≡ l.k → ⊥). l.invariant.2 i g (omega arith))
-          (eq_or_ne i l.k),
-    )
+-- the first of the numbers from c on, or n
+first_or : (c n : ℕ) (Yes No : ℕ → Type 0) → c ≤ n → (r : Option ℕ)
+    → MatchOption r ((k : ℕ) → c ≤ k → k < n → No k) (λ i. (c ≤ i) × (i < n) × Yes i × ((k : ℕ) → c ≤ k → k < i → No k))
+    → (c ≤ unwrap_or r n) × (unwrap_or r n ≤ n) × ((k : ℕ) → c ≤ k → k < unwrap_or r n → No k)
+first_or c n Yes No h None m = (h, omega arith, m)
+first_or c n Yes No h (Some i) m = (m.0, omega arith, m.3)
 
 pub returns : goal.returns
-returns c = c.loop-k.invariant
+returns c =
+    let a = c.args in
+    let No : ℕ → Type 0 = λ k. Same a.b.now (40 * k) a.given.now 40 in
+    rw c.unwrap_or.ensures (first_or a.c a.n (λ k. Unit {0}) No c.requires.order c.find.result
+    (first_from_Range _ _ _ _ (λ k. Unit {0}) No c.find.ensures.ran (λ k q h. tt) (λ k q h. search (rules, tests))))

@@ -1,10 +1,10 @@
-use Prim.Native.Nat.{◌-◌, ◌≤◌}
+use Rattle.std.proofs.Common.{◌≡◌, ℕ, ◌≤◌, ◌<◌}
 use Rattle.pulses.proofs.Laws.Swept.{Swept}
-use Rattle.pulses.proofs.Swept.{number_at}
 use Rattle.pulses.proofs.numbers.only.Given as goal
 
 abbrev pub invariant-loop-k : goal.invariant-loop-k
-invariant-loop-k l = (l.k ≤ l.n) × Swept (number_at l.b l.at) l.k l.any l.empty l.zeros
-
-abbrev pub decreases-loop-k : goal.decreases-loop-k
-decreases-loop-k l = l.n - l.k
+invariant-loop-k g l = record {
+  most : l.empty ≤ l.k;
+  room : l.zeros ≤ l.k;
+  swept : (f : ℕ → ℕ) → ((k v : ℕ) → k < l.n → goal.F-post g l.number k v → v ≡ f k) → Swept f l.k l.any l.empty l.zeros;
+}

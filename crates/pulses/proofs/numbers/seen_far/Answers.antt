@@ -2,9 +2,6 @@
 use mathlib.Core.Path.{◌≡◌, ap, ◌∙◌}
 use native.Mathlib.Omega.{arith}
 use native.Mathlib.Nat.{mul_left_comm}
-use lib.Dec.{eqb}
-use borrow.Author.Rules.{rules}
-use Rattle.bits.proofs.Laws.Choice.{bool_lt}
 use Rattle.bits.proofs.Laws.Pack.{val_lt, bit_lt}
 use Rattle.bits.specs.Inner.{bits_from}
 use Prim.Native.Nat.{ℕ, ◌+◌, ◌*◌, ◌/◌, ◌^◌, ◌<◌}
@@ -12,7 +9,7 @@ use mathlib.Core.List.{List}
 use Rattle.pulses.specs.Inner.{Far}
 use Rattle.pulses.specs.Pulses.{symbol_in}
 use Rattle.pulses.proofs.Swept.{number_at}
-use Rattle.pulses.proofs.Seen.{front_start, front_room, front_more, front_sum, far_none, far_some, far_seen}
+use Rattle.pulses.proofs.Seen.{front_more, front_sum, far_none, far_some, far_seen}
 use Rattle.pulses.proofs.numbers.seen_far.Goals as goal
 
 -- the group begins on a byte, and its symbol's number is one of n
@@ -23,18 +20,6 @@ at_byte order group s b h l =
     let bytes : s * group ≡ 8 * (s * k) = ap (λ (g : ℕ). s * g) h.bytes ∙ mul_left_comm s 8 k in
     let e = h.numbers in
     (omega arith, omega arith)
-
-pub loop-k-init : goal.loop-k-init
-loop-k-init c = (search rules, front_start _ _)
-
-pub overflow_mul-k : goal.overflow_mul-k
-overflow_mul-k c = let h = c.requires.0 in omega arith
-
-pub overflow_add-at : goal.overflow_add-at
-overflow_add-at c = let h = c.requires.0 in let e = at_byte c.args.order c.args.group c.args.s c.args.b.now c.requires.0 c.requires.1 in omega arith
-
-pub eight-any-requires : goal.eight-any-requires
-eight-any-requires c = let h = c.requires.0 in let e = at_byte c.args.order c.args.group c.args.s c.args.b.now c.requires.0 c.requires.1 in omega arith
 
 pub overflow_add-any : goal.overflow_add-any
 overflow_add-any c =
@@ -52,15 +37,6 @@ overflow_add-any c =
           (λ n. far_none a.order a.group a.b.now a.s at (omega arith) e.0 s.requires.1 l.k (omega arith) n) l.invariant.1 c.eight-any.ensures;
     }
 
-pub overflow_add-zeros : goal.overflow_add-zeros
-overflow_add-zeros c =
-    let l = c.loop-k in
-    let e = c.none-zeros.ensures in
-    let t = bool_lt (eqb (l.any + c.eight-any.result) 0) in
-    let m = front_room _ _ _ _ _ l.invariant.1 in
-    let h = c.requires.0 in
-    omega arith
-
 pub loop-k-preserved : goal.loop-k-preserved
 loop-k-preserved c =
     let s = c in
@@ -77,9 +53,6 @@ loop-k-preserved c =
           (λ n. far_none a.order a.group a.b.now a.s at (omega arith) e.0 s.requires.1 l.k (omega arith) n) l.invariant.1 c.eight-any.ensures c.none-zeros.ensures,
     )
 
-pub overflow_mul-result : goal.overflow_mul-result
-overflow_mul-result c = let l = c.loop-k in let m = front_room _ _ _ _ _ l.invariant.1 in let h = c.requires.0 in omega arith
-
 pub leading-requires : goal.leading-requires
 leading-requires c =
     let s = c in
@@ -91,9 +64,6 @@ leading-requires c =
     let all = (l.invariant.1.high (omega arith)).0 in
     let one = far_some a.order a.group a.b.now a.s (a.s * a.group / 8) (omega arith) e.0 s.requires.1 h.numbers in
     omega arith
-
-pub overflow_add-result : goal.overflow_add-result
-overflow_add-result c = let l = c.loop-k in let m = front_room _ _ _ _ _ l.invariant.1 in let h = c.requires.0 in let r = c.leading.ensures.small in omega arith
 
 pub returns : goal.returns
 returns c =

@@ -1,11 +1,7 @@
-use mathlib.Core.Path.{◌≡◌}
-use Prim.Native.Nat.{◌-◌, ◌*◌, ◌/◌}
+use Prim.Native.Nat.{◌+◌, ◌*◌}
 use Rattle.pulses.specs.Pulses.{symbol_in}
 use Rattle.pulses_rows.specs.Inner.{Reached}
 use Rattle.pulses_rows.proofs.forties.forties.Given as goal
 
-abbrev pub invariant-loop-s : goal.invariant-loop-s
-invariant-loop-s l = Reached l.order (symbol_in l.order l.group l.b) l.initial.row l.from l.to l.s l.row × (l.s * l.group ≡ 8 * (l.s * l.group / 8))
-
-abbrev pub decreases-loop-s : goal.decreases-loop-s
-decreases-loop-s l = l.to - l.s
+abbrev pub invariant-loop-k : goal.invariant-loop-k
+invariant-loop-k l = Reached l.order (symbol_in l.order l.group l.b) l.initial.row l.from l.to (l.from + l.per * l.k) l.row
