@@ -4,221 +4,161 @@
 ghost use Rattle.std.specs.Prelude.{◌≡◌, true, ℕ, ◌+◌, ◌-◌, ◌*◌, ◌/◌, ◌%◌, ◌≤◌, ◌<◌, length};
 ghost use Rattle.slots_gather.specs.Inner.{symbol_in, Column, Places, Gather, Strides, cut_from, Bytewise};
 
+// Bytes of a row: `count` of them, n apart, from byte `from` on.
+#[derive(Clone, Copy)]
+pub struct Stride {
+    pub from: usize,
+    pub n: usize,
+    pub count: usize,
+}
+
+// Bits of bytes that are `step` apart, from byte `at` on: what is left of each after a shift and a mask.
+#[derive(Clone, Copy)]
+struct Cut {
+    at: usize,
+    step: usize,
+    shift: usize,
+    mask: usize,
+}
+
 // How many of the places from x on, n apart, are before `end`.
 pub fn places(x: usize, end: usize, n: usize) -> usize
     requires { 1 ≤ n }
     ensures { Places x end n result }
 {
-    if end <= x {
-        return 0;
-    }
-    (end - x - 1) / n + 1
+    end.saturating_sub(x).div_ceil(n)
 }
 
-// `count` symbols of m bits from symbol t on, n apart, to a row, n apart from byte `from` on: each from one byte or two.
-fn gather_fields(
-    words: &[u8],
-    t: usize,
-    m: usize,
-    row: &mut [u8],
-    from: usize,
-    n: usize,
-    count: usize,
-)
-    requires { Gather m t n count words.now from row.old }
-    ensures { Column row.old from n count (λ j. symbol_in m words.now (t + j * n)) row.new }
+// Symbols of m bits from symbol t on, as far apart as their bytes of the row: each from one byte or two.
+fn gather_fields(words: &[u8], t: usize, m: usize, row: &mut [u8], to: Stride)
+    requires { Gather m t to.n to.count words.now to.from row.old }
+    ensures { Column row.old to.from to.n to.count (λ j. symbol_in m words.now (t + j * to.n)) row.new }
 {
-    let turn = m * n;
-    let mut y = m * t;
-    let mut i = from;
-    let mut j = 0;
-    while j < count {
-        row[i] = (bits::packing::field(words, y, m) & 255) as u8;
-        y += turn;
-        i += n;
-        j += 1;
+    for j in 0..to.count {
+        let y = m * (t + j * to.n);
+        row[to.from + j * to.n] = bits::packing::field(words, y, m) as u8;
     }
 }
 
-// The same bits of `count` bytes that are `step` apart.
-fn gather_some(
-    words: &[u8],
-    at: usize,
-    step: usize,
-    shift: usize,
-    mask: usize,
-    row: &mut [u8],
-    from: usize,
-    n: usize,
-    count: usize,
-)
-    requires { Strides at step shift mask words.now from n count row.old }
-    ensures { Column row.old from n count (cut_from words.now at step shift mask) row.new }
+// The cut bits, to a row.
+fn gather_some(words: &[u8], cut: Cut, row: &mut [u8], to: Stride)
+    requires { Strides cut.at cut.step cut.shift cut.mask words.now to.from to.n to.count row.old }
+    ensures { Column row.old to.from to.n to.count (cut_from words.now cut.at cut.step cut.shift cut.mask) row.new }
 {
-    let mut j = 0usize;
-    while j < count {
-        row[from + j * n] = (((words[at + j * step] as usize) >> shift) & mask) as u8;
-        j += 1;
+    for j in 0..to.count {
+        row[to.from + j * to.n] = (((words[cut.at + j * cut.step] as usize) >> cut.shift)
+            & cut.mask) as u8;
     }
 }
 
-// The same, four at a turn.
-fn gather_bytes(
-    words: &[u8],
-    at: usize,
-    step: usize,
-    shift: usize,
-    mask: usize,
-    row: &mut [u8],
-    from: usize,
-    n: usize,
-    count: usize,
-)
-    requires { Strides at step shift mask words.now from n count row.old }
-    ensures { Column row.old from n count (cut_from words.now at step shift mask) row.new }
+// `few` of them, from the j-th on.
+fn gather_part(words: &[u8], cut: Cut, row: &mut [u8], to: Stride, j: usize, few: usize)
+    requires { Strides cut.at cut.step cut.shift cut.mask words.now to.from to.n to.count row.old × (j + few ≤ to.count) }
+    ensures { Column row.old (to.from + j * to.n) to.n few (cut_from words.now (cut.at + j * cut.step) cut.step cut.shift cut.mask) row.new }
 {
-    let far = 4 * step;
-    let wide = 4 * n;
-    let mut b = at;
-    let mut i = from;
-    let mut j = count;
-    while j >= 4 {
-        gather_some(words, b, step, shift, mask, row, i, n, 4);
-        b += far;
-        i += wide;
-        j -= 4;
-    }
-    gather_some(words, b, step, shift, mask, row, i, n, j);
+    gather_some(
+        words,
+        Cut {
+            at: cut.at + j * cut.step,
+            ..cut
+        },
+        row,
+        Stride {
+            from: to.from + j * to.n,
+            n: to.n,
+            count: few,
+        },
+    );
 }
 
-// Where `turn` symbols make a byte, every symbol `turn` · n further on has its bits at the same place of a byte, n bytes further on.
-fn gather_turns(
-    words: &[u8],
-    t: usize,
-    m: usize,
-    turn: usize,
-    mask: usize,
-    row: &mut [u8],
-    from: usize,
-    n: usize,
-    count: usize,
-)
-    requires { Gather m t n count words.now from row.old × Bytewise m turn mask }
-    ensures { Column row.old from n count (λ j. symbol_in m words.now (t + j * n)) row.new }
+// All of them, four at a turn.
+fn gather_bytes(words: &[u8], cut: Cut, row: &mut [u8], to: Stride)
+    requires { Strides cut.at cut.step cut.shift cut.mask words.now to.from to.n to.count row.old }
+    ensures { Column row.old to.from to.n to.count (cut_from words.now cut.at cut.step cut.shift cut.mask) row.new }
 {
-    let mut u = 0usize;
-    while u < turn {
-        let y = m * (t + u * n);
-        let few = places(u, count, turn);
+    for k in 0..to.count / 4 {
+        gather_part(words, cut, row, to, 4 * k, 4);
+    }
+    let rest = to.count % 4;
+    gather_part(words, cut, row, to, to.count - rest, rest);
+}
+
+// Where M bits divide a byte, every symbol a byte's number of them · n further on has its bits at the same place of a byte, n bytes further on.
+fn gather_turns<const M: usize>(words: &[u8], t: usize, row: &mut [u8], to: Stride)
+    requires { Gather M t to.n to.count words.now to.from row.old × (8 % M ≡ 0) }
+    ensures { Column row.old to.from to.n to.count (λ j. symbol_in M words.now (t + j * to.n)) row.new }
+{
+    let turn = 8 / M;
+    for u in 0..turn {
+        let y = M * (t + u * to.n);
         gather_bytes(
             words,
-            y / 8,
-            n,
-            8 - m - y % 8,
-            mask,
+            Cut {
+                at: y / 8,
+                step: to.n,
+                shift: 8 - M - y % 8,
+                mask: (1usize << M) - 1,
+            },
             row,
-            from + u * n,
-            turn * n,
-            few,
+            Stride {
+                from: to.from + u * to.n,
+                n: turn * to.n,
+                count: places(u, to.count, turn),
+            },
         );
-        u += 1;
     }
 }
 
 // The symbols of one byte.
-fn unpack_byte(
-    words: &[u8],
-    b: usize,
-    m: usize,
-    turn: usize,
-    mask: usize,
-    row: &mut [u8],
-    at: usize,
-)
-    requires { Bytewise m turn mask × (b < length words.now) × (at + turn ≤ length row.old) }
-    ensures { Column row.old at 1 turn (λ q. symbol_in m words.now (b * turn + q)) row.new }
+fn unpack_byte<const M: usize>(words: &[u8], b: usize, row: &mut [u8], at: usize)
+    requires { (8 % M ≡ 0) × (b < length words.now) × (at + 8 / M ≤ length row.old) }
+    ensures { Column row.old at 1 (8 / M) (λ q. symbol_in M words.now (b * (8 / M) + q)) row.new }
 {
     let w = words[b] as usize;
-    let mut q = 0usize;
-    while q < turn {
-        row[at + q] = ((w >> (8 - m - m * q)) & mask) as u8;
-        q += 1;
+    for q in 0..8 / M {
+        row[at + q] = ((w >> (8 - M - M * q)) & ((1usize << M) - 1)) as u8;
     }
 }
 
 // The symbols of n bytes from byte b on, one after the other.
-fn unpack(
-    words: &[u8],
-    b: usize,
-    m: usize,
-    turn: usize,
-    mask: usize,
-    row: &mut [u8],
-    at: usize,
-    n: usize,
-)
-    requires { Bytewise m turn mask × (b + n ≤ length words.now) × (at + turn * n ≤ length row.old) }
-    ensures { Column row.old at 1 (turn * n) (λ j. symbol_in m words.now (b * turn + j)) row.new }
+fn unpack<const M: usize>(words: &[u8], b: usize, row: &mut [u8], at: usize, n: usize)
+    requires { (8 % M ≡ 0) × (b + n ≤ length words.now) × (at + 8 / M * n ≤ length row.old) }
+    ensures { Column row.old at 1 (8 / M * n) (λ j. symbol_in M words.now (b * (8 / M) + j)) row.new }
 {
-    let mut i = 0usize;
-    while i < n {
-        unpack_byte(words, b + i, m, turn, mask, row, at + turn * i);
-        i += 1;
+    for i in 0..n {
+        unpack_byte::<M>(words, b + i, row, at + 8 / M * i);
     }
 }
 
-// Whether the symbols follow one another and are whole bytes, where two or four of them make one.
-fn packed(t: usize, n: usize, count: usize) -> bool
-    ensures { result ≡ true → (n ≡ 1) × (4 ≤ count) × (t % 4 ≡ 0) × (count % 4 ≡ 0) }
+// Whether the symbols follow one another and are whole bytes of `turn` symbols.
+fn packed(t: usize, n: usize, count: usize, turn: usize) -> bool
+    requires { 1 ≤ turn }
+    ensures { result ≡ true → (n ≡ 1) × (4 ≤ count) × (t % turn ≡ 0) × (count % turn ≡ 0) }
 {
-    if n != 1 {
-        return false;
-    }
-    if count < 4 {
-        return false;
-    }
-    if t % 4 != 0 {
-        return false;
-    }
-    count % 4 == 0
+    n == 1 && count >= 4 && t % turn == 0 && count % turn == 0
 }
 
-// Symbols of two bits.
-fn gather_twos(words: &[u8], t: usize, row: &mut [u8], from: usize, n: usize, count: usize)
-    requires { Gather 2 t n count words.now from row.old }
-    ensures { Column row.old from n count (λ j. symbol_in 2 words.now (t + j * n)) row.new }
+// Symbols of M bits, of which some make a byte.
+fn gather_whole<const M: usize>(words: &[u8], t: usize, row: &mut [u8], to: Stride)
+    requires { Gather M t to.n to.count words.now to.from row.old × (8 % M ≡ 0) }
+    ensures { Column row.old to.from to.n to.count (λ j. symbol_in M words.now (t + j * to.n)) row.new }
 {
-    if packed(t, n, count) {
-        unpack(words, t / 4, 2, 4, 3, row, from, count / 4);
+    let turn = 8 / M;
+    if packed(t, to.n, to.count, turn) {
+        unpack::<M>(words, t / turn, row, to.from, to.count / turn);
     } else {
-        gather_turns(words, t, 2, 4, 3, row, from, n, count);
+        gather_turns::<M>(words, t, row, to);
     }
 }
 
-// And of four.
-fn gather_fours(words: &[u8], t: usize, row: &mut [u8], from: usize, n: usize, count: usize)
-    requires { Gather 4 t n count words.now from row.old }
-    ensures { Column row.old from n count (λ j. symbol_in 4 words.now (t + j * n)) row.new }
+// Symbols of m bits from symbol t on, as far apart as their bytes of the row.
+pub fn gather(words: &[u8], t: usize, m: usize, row: &mut [u8], to: Stride)
+    requires { Gather m t to.n to.count words.now to.from row.old }
+    ensures { Column row.old to.from to.n to.count (λ j. symbol_in m words.now (t + j * to.n)) row.new }
 {
-    if packed(t, n, count) {
-        unpack(words, t / 2, 4, 2, 15, row, from, count / 2);
-    } else {
-        gather_turns(words, t, 4, 2, 15, row, from, n, count);
+    match m {
+        2 => gather_whole::<2>(words, t, row, to),
+        4 => gather_whole::<4>(words, t, row, to),
+        _ => gather_fields(words, t, m, row, to),
     }
-}
-
-// `count` symbols of m bits from symbol t on, n apart, to a row, n apart from byte `from` on.
-pub fn gather(words: &[u8], t: usize, m: usize, row: &mut [u8], from: usize, n: usize, count: usize)
-    requires { Gather m t n count words.now from row.old }
-    ensures { Column row.old from n count (λ j. symbol_in m words.now (t + j * n)) row.new }
-{
-    if m == 2 {
-        gather_twos(words, t, row, from, n, count);
-        return;
-    }
-    if m == 4 {
-        gather_fours(words, t, row, from, n, count);
-        return;
-    }
-    gather_fields(words, t, m, row, from, n, count);
 }

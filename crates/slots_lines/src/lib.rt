@@ -21,11 +21,9 @@ pub fn put_marks(p: Plan, line: usize, slots: &mut [u8])
     let group = p.group;
     let markers = p.layout.markers;
     let first = line * (p.layout.symbols + markers);
-    let mut k = 0;
-    while k < markers {
+    for k in 0..markers {
         let mark = p.marks[k] as usize;
         slots_moves::move_symbol(copies, group, first + k, mark, slots);
-        k += 1;
     }
 }
 
@@ -52,15 +50,14 @@ fn put_residue(p: Plan, words: &[u8], line: usize, c: usize, r: usize, slots: &m
     let start = line * symbols;
     let skip = line * markers + markers;
     let delay = r % rows * (step * rows);
-    let end = bits::scan::least(start + symbols, delay + all);
+    let end = (start + symbols).min(delay + all);
     let n = stride_of(rows);
     let back = skip + delay;
     let last = skip + end;
-    let mut s = skip + bits::scan::most(channel::first_place(start, c, r, n), delay + r);
-    while s < last {
+    let first = skip + channel::first_place(start, c, r, n).max(delay + r);
+    for s in (first..last).step_by(n) {
         let q = channel::data_at(words, s - back, p.bits);
         slots_moves::move_symbol(copies, group, s, q, slots);
-        s += n;
     }
 }
 
@@ -72,7 +69,7 @@ pub fn residues_from(rows: usize, step: usize, total: usize, start: usize) -> us
     if start < total {
         return 0;
     }
-    (start - total) / bits::scan::most(step * rows, 1) + 1
+    (start - total) / (step * rows).max(1) + 1
 }
 
 // Residues from this one on, below n, have none before place `end`.
@@ -81,13 +78,10 @@ pub fn residues_to(rows: usize, step: usize, end: usize, n: usize) -> usize
     ensures { (result ≤ n) × ((r : ℕ) → result ≤ r → r < n → end ≤ r % rows * (step * rows)) }
 {
     let back = step * rows;
-    if n != rows {
+    if n != rows || back == 0 {
         return n;
     }
-    if back == 0 {
-        return n;
-    }
-    bits::scan::least(n, (end - 1) / back + 1)
+    n.min((end - 1) / back + 1)
 }
 
 // The pulses of a line's symbols. Most residues of a long run have none in it.
@@ -103,9 +97,7 @@ pub fn put_residues(p: Plan, words: &[u8], line: usize, slots: &mut [u8])
     let c = start % n;
     let to = residues_to(rows, step, start + symbols, n);
     let from = residues_from(rows, step, p.layout.words * symbols, start);
-    let mut r = bits::scan::least(from, to);
-    while r < to {
+    for r in from.min(to)..to {
         put_residue(p, words, line, c, r, slots);
-        r += 1;
     }
 }

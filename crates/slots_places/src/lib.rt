@@ -2,6 +2,7 @@
 #![tactic(auto)]
 
 ghost use Rattle.std.specs.Prelude.{◌≡◌, true, List, ℕ, ◌+◌, ◌-◌, ◌*◌, ◌≤◌, ◌<◌};
+ghost use Rattle.bits.specs.Basics.{bool};
 ghost use Rattle.channel.specs.Channel.{unit, total};
 ghost use Rattle.channel.specs.Inner.{Puts, delay};
 ghost use Rattle.plan.specs.Inner.{Fine};
@@ -11,33 +12,30 @@ ghost use Rattle.slots_places.specs.Inner.{Stretch, Placed, Tells, Known};
 
 // Takes symbol q, of m bits, at place x, which a symbol delayed by `delay` would hit: puts it into the words if it is one of theirs, and returns
 // whether it is right.
-fn take_place(total: usize, m: usize, x: usize, delay: usize, q: usize, words: &mut [u8]) -> u8
+fn take_place(total: usize, m: usize, x: usize, delay: usize, q: usize, words: &mut [u8]) -> bool
     requires { (t : ℕ) → t < total → Puts t m q words.old }
-    ensures { Placed total m x delay q words.old result words.new }
+    ensures { Placed total m x delay q words.old (bool result) words.new }
 {
-    if x < delay {
-        return slots_symbols::same(0, q);
-    }
-    if total <= x - delay {
-        return slots_symbols::same(0, q);
+    if x < delay || total <= x - delay {
+        return q == 0;
     }
     channel::put_symbol(words, x - delay, m, q);
-    1
+    true
 }
 
-// The symbols of a line from `from` on up to `to`: the first that is at a place that is not hit
-// and is not 0; or `to`. The row has the symbols from `base` on.
-fn take_in(
-    p: plan::Plan,
-    row: &[u8],
+// Symbols of a line, from `from` on up to `to`, in a row that has the symbols from `base` on.
+#[derive(Clone, Copy)]
+struct Part {
     base: usize,
     line: usize,
     from: usize,
     to: usize,
-    words: &mut [u8],
-) -> usize
-    requires { Stretch p base from to row.now × (line < p.layout.lines) × (line * unit p.layout ≤ from) × (to ≤ line * unit p.layout + unit p.layout) × Room p words.old }
-    ensures { Tells p row.now base from to words.old result words.new }
+}
+
+// The first symbol of the part that is at a place that is not hit and is not 0; or `to`.
+fn take_in(p: plan::Plan, row: &[u8], part: Part, words: &mut [u8]) -> usize
+    requires { Stretch p part.base part.from part.to row.now × (part.line < p.layout.lines) × (part.line * unit p.layout ≤ part.from) × (part.to ≤ part.line * unit p.layout + unit p.layout) × Room p words.old }
+    ensures { Tells p row.now part.base part.from part.to words.old result words.new }
 {
     let symbols = p.layout.symbols;
     let markers = p.layout.markers;
@@ -45,18 +43,17 @@ fn take_in(
     let total = p.layout.words * symbols;
     let back = p.layout.step * rows;
     let wrap = rows * back;
-    let skip = line * markers + markers;
-    let mut s = bits::scan::most(from, line * symbols + skip);
-    let mut delay = (s - skip) % rows * back;
-    while s < to {
-        let q = row[s - base] as usize;
-        if take_place(total, p.bits, s - skip, delay, q, words) == 0 {
+    let skip = part.line * markers + markers;
+    let first = part.from.max(part.line * symbols + skip);
+    let mut delay = (first - skip) % rows * back;
+    for s in first..part.to {
+        let q = row[s - part.base] as usize;
+        if !take_place(total, p.bits, s - skip, delay, q, words) {
             return s;
         }
         delay = slots_residues::next_delay(delay, back, wrap);
-        s += 1;
     }
-    to
+    part.to
 }
 
 // Whether all places from x up to y are hit, and there are at least two of each residue.
@@ -65,37 +62,25 @@ fn full(p: plan::Plan, x: usize, y: usize) -> bool
     ensures { result ≡ true → (x < y) × (delay p.layout (p.layout.rows - 1) ≤ x) × (y ≤ total p.layout) }
 {
     let rows = p.layout.rows;
-    if y - x < 2 * rows {
-        return false;
-    }
-    if x < (rows - 1) * (p.layout.step * rows) {
-        return false;
-    }
-    y <= p.layout.words * p.layout.symbols
+    y - x >= 2 * rows
+        && x >= (rows - 1) * (p.layout.step * rows)
+        && y <= p.layout.words * p.layout.symbols
 }
 
 // As `take_in`; where all places are hit, none is wrong.
-fn take_line(
-    p: plan::Plan,
-    row: &[u8],
-    base: usize,
-    line: usize,
-    from: usize,
-    to: usize,
-    words: &mut [u8],
-) -> usize
-    requires { Stretch p base from to row.now × (line < p.layout.lines) × (line * unit p.layout ≤ from) × (to ≤ line * unit p.layout + unit p.layout) × Room p words.old }
-    ensures { Tells p row.now base from to words.old result words.new }
+fn take_line(p: plan::Plan, row: &[u8], part: Part, words: &mut [u8]) -> usize
+    requires { Stretch p part.base part.from part.to row.now × (part.line < p.layout.lines) × (part.line * unit p.layout ≤ part.from) × (part.to ≤ part.line * unit p.layout + unit p.layout) × Room p words.old }
+    ensures { Tells p row.now part.base part.from part.to words.old result words.new }
 {
     let markers = p.layout.markers;
-    let skip = line * markers + markers;
-    let s = bits::scan::most(from, line * p.layout.symbols + skip);
-    let end = bits::scan::most(s, to);
+    let skip = part.line * markers + markers;
+    let s = part.from.max(part.line * p.layout.symbols + skip);
+    let end = s.max(part.to);
     if full(p, s - skip, end - skip) {
-        slots_flat::take_full(p, row, s - base, end - base, s - skip, words);
-        return to;
+        slots_flat::take_full(p, row, s - part.base, end - part.base, s - skip, words);
+        return part.to;
     }
-    take_in(p, row, base, line, from, to, words)
+    take_in(p, row, part, words)
 }
 
 // The same for symbols of one line or two.
@@ -106,13 +91,25 @@ fn take(p: plan::Plan, row: &[u8], from: usize, to: usize, words: &mut [u8]) -> 
     let unit = p.layout.symbols + p.layout.markers;
     let line = from / unit;
     let end = line * unit + unit;
-    let mid = bits::scan::least(to, end);
-    let r = take_line(p, row, from, line, from, mid, words);
+    let mid = to.min(end);
+    let first = Part {
+        base: from,
+        line,
+        from,
+        to: mid,
+    };
+    let r = take_line(p, row, first, words);
     if r < mid {
         return r;
     }
     if mid < to {
-        return take_line(p, row, from, line + 1, mid, to, words);
+        let second = Part {
+            base: from,
+            line: line + 1,
+            from: mid,
+            to,
+        };
+        return take_line(p, row, second, words);
     }
     to
 }

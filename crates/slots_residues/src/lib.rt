@@ -12,10 +12,7 @@ pub fn next_delay(delay: usize, back: usize, wrap: usize) -> usize
     ensures { (x n : ℕ) → 1 ≤ n → wrap ≡ n * back → delay ≡ x % n * back → result ≡ (x + 1) % n * back }
 {
     let next = delay + back;
-    if next == wrap {
-        return 0;
-    }
-    next
+    if next == wrap { 0 } else { next }
 }
 
 // Adds the bits of q, shifted up by k, to a byte.
@@ -23,7 +20,7 @@ fn add_at(words: &mut [u8], at: usize, q: usize, k: usize)
     requires { (at < length words.old) × (k < 8) × (q * 2 ^ k < 256) }
     ensures { words.new ≡ set words.old at (bit_xor (get_or words.old at 0) (q * 2 ^ k)) }
 {
-    words[at] = words[at] ^ ((q << k) as u8);
+    words[at] ^= (q << k) as u8;
 }
 
 // Step 8 undone as by `channel::put_symbol`, where m divides 8: the symbol's bits are in one byte. `y % 8` is a multiple of m
@@ -37,47 +34,54 @@ fn put_in_byte(words: &mut [u8], t: usize, m: usize, q: usize)
     add_at(words, y / 8, q, last ^ (y % 8));
 }
 
-// Every n-th symbol of a row, from `from` on before `to`, to every n-th of the words, from symbol t on. Each is in one byte.
-pub fn scatter_in_bytes(
-    row: &[u8],
-    from: usize,
-    to: usize,
-    n: usize,
-    m: usize,
-    t: usize,
-    words: &mut [u8],
-)
-    requires { Scatters row.now from to n m t words.old × (8 % m ≡ 0) }
-    ensures { Scattered row.now from (to - from) n m t words.old words.new }
-{
-    let mut u = t;
-    let mut i = from;
-    while i < to {
-        put_in_byte(words, u, m, row[i] as usize);
-        u += n;
-        i += n;
+// Every n-th symbol of a row, of m bits, from place `from` on before `to`, and where it goes: to every n-th of the words, from symbol t on.
+#[derive(Clone, Copy)]
+pub struct Lane {
+    pub from: usize,
+    pub to: usize,
+    pub n: usize,
+    pub m: usize,
+    pub t: usize,
+}
+
+// A way to add a symbol to words in which its bits are 0.
+pub trait PutSymbol {
+    // the widths that it is for
+    ghost fits: { ℕ → Type 0 };
+
+    fn put(words: &mut [u8], t: usize, m: usize, q: usize)
+        requires { Puts t m q words.old × fits m }
+        ensures { Put t m q words.old words.new };
+}
+
+// Where a symbol is in one byte, and where it may be in two.
+pub struct InByte;
+
+pub struct InTwo;
+
+impl PutSymbol for InByte {
+    ghost fits = { λ m. 8 % m ≡ 0 };
+
+    fn put(words: &mut [u8], t: usize, m: usize, q: usize) {
+        put_in_byte(words, t, m, q);
     }
 }
 
-// The same where they may be in two.
-fn scatter_in_two(
-    row: &[u8],
-    from: usize,
-    to: usize,
-    n: usize,
-    m: usize,
-    t: usize,
-    words: &mut [u8],
-)
-    requires { Scatters row.now from to n m t words.old }
-    ensures { Scattered row.now from (to - from) n m t words.old words.new }
+impl PutSymbol for InTwo {
+    ghost fits = { λ m. m ≤ 8 };
+
+    fn put(words: &mut [u8], t: usize, m: usize, q: usize) {
+        channel::put_symbol(words, t, m, q);
+    }
+}
+
+// The symbols of a lane to the words, one after the other.
+pub fn scatter_each<P: PutSymbol>(row: &[u8], lane: Lane, words: &mut [u8])
+    requires { Scatters row.now lane.from lane.to lane.n lane.m lane.t words.old × P.fits lane.m }
+    ensures { Scattered row.now lane.from (lane.to - lane.from) lane.n lane.m lane.t words.old words.new }
 {
-    let mut u = t;
-    let mut i = from;
-    while i < to {
-        channel::put_symbol(words, u, m, row[i] as usize);
-        u += n;
-        i += n;
+    for i in (lane.from..lane.to).step_by(lane.n) {
+        P::put(words, lane.t + (i - lane.from), lane.m, row[i] as usize);
     }
 }
 
@@ -86,50 +90,35 @@ fn steady(n: usize, m: usize, t: usize) -> bool
     requires { (n ≤ 128) × (m ≤ 8) × (t < 2 ^ 32) }
     ensures { result ≡ true → (m * n % 8 ≡ 0) × (m + m * t % 8 ≤ 8) }
 {
-    if m * n % 8 != 0 {
-        return false;
-    }
-    m + m * t % 8 <= 8
+    m * n % 8 == 0 && m + m * t % 8 <= 8
 }
 
 // The same there: byte after byte, without a product.
-fn scatter_steady(
-    row: &[u8],
-    from: usize,
-    to: usize,
-    n: usize,
-    m: usize,
-    t: usize,
-    words: &mut [u8],
-)
-    requires { Scatters row.now from to n m t words.old × (m * n % 8 ≡ 0) × (m + m * t % 8 ≤ 8) }
-    ensures { Scattered row.now from (to - from) n m t words.old words.new }
+fn scatter_steady(row: &[u8], lane: Lane, words: &mut [u8])
+    requires { Scatters row.now lane.from lane.to lane.n lane.m lane.t words.old × (lane.m * lane.n % 8 ≡ 0) × (lane.m + lane.m * lane.t % 8 ≤ 8) }
+    ensures { Scattered row.now lane.from (lane.to - lane.from) lane.n lane.m lane.t words.old words.new }
 {
-    let y = m * t;
-    let k = 8 - m - y % 8;
-    let turn = m * n / 8;
+    let y = lane.m * lane.t;
+    let k = 8 - lane.m - y % 8;
+    let turn = lane.m * lane.n / 8;
     let mut at = y / 8;
-    let mut i = from;
-    while i < to {
+    for i in (lane.from..lane.to).step_by(lane.n) {
         add_at(words, at, row[i] as usize, k);
         at += turn;
-        i += n;
     }
 }
 
-fn scatter(row: &[u8], from: usize, to: usize, n: usize, m: usize, t: usize, words: &mut [u8])
-    requires { Scatters row.now from to n m t words.old }
-    ensures { Scattered row.now from (to - from) n m t words.old words.new }
+fn scatter(row: &[u8], lane: Lane, words: &mut [u8])
+    requires { Scatters row.now lane.from lane.to lane.n lane.m lane.t words.old }
+    ensures { Scattered row.now lane.from (lane.to - lane.from) lane.n lane.m lane.t words.old words.new }
 {
-    if steady(n, m, t) {
-        scatter_steady(row, from, to, n, m, t, words);
-        return;
+    if steady(lane.n, lane.m, lane.t) {
+        scatter_steady(row, lane, words);
+    } else if 8 % lane.m == 0 {
+        scatter_each::<InByte>(row, lane, words);
+    } else {
+        scatter_each::<InTwo>(row, lane, words);
     }
-    if 8 % m == 0 {
-        scatter_in_bytes(row, from, to, n, m, t, words);
-        return;
-    }
-    scatter_in_two(row, from, to, n, m, t, words);
 }
 
 // Where N is 1, every eighth place is taken, as neighbours share a byte.
@@ -151,11 +140,16 @@ pub fn take_full(p: plan::Plan, row: &[u8], from: usize, to: usize, x: usize, wo
     let n = stride_of(rows);
     let c = x % n;
     let mut delay = 0usize;
-    let mut r = 0usize;
-    while r < n {
+    for r in 0..n {
         let first = channel::first_place(x, c, r, n);
-        scatter(row, from + (first - x), to, n, p.bits, first - delay, words);
+        let lane = Lane {
+            from: from + (first - x),
+            to,
+            n,
+            m: p.bits,
+            t: first - delay,
+        };
+        scatter(row, lane, words);
         delay = next_delay(delay, back, wrap);
-        r += 1;
     }
 }

@@ -13,6 +13,7 @@ ghost use Rattle.slots_units.specs.Inner.{per_forty};
 ghost use Rattle.slots_rows.specs.Inner.{RowTo};
 
 use plan::Plan;
+use slots_gather::Stride;
 
 // Step 9, the places of a line that are r modulo N: from the first that is hit, symbol after symbol.
 fn row_residue(p: Plan, words: &[u8], line: usize, c: usize, r: usize, row: &mut [u8])
@@ -21,14 +22,17 @@ fn row_residue(p: Plan, words: &[u8], line: usize, c: usize, r: usize, row: &mut
 {
     let rows = p.layout.rows;
     let symbols = p.layout.symbols;
-    let m = p.bits;
     let all = p.layout.words * symbols;
     let start = line * symbols;
     let delay = r * (p.layout.step * rows);
-    let end = bits::scan::least(start + symbols, delay + all);
-    let x = bits::scan::most(channel::first_place(start, c, r, rows), delay + r);
-    let count = slots_gather::places(x, end, rows);
-    slots_gather::gather(words, x - delay, m, row, x - start, rows, count);
+    let end = (start + symbols).min(delay + all);
+    let x = channel::first_place(start, c, r, rows).max(delay + r);
+    let to = Stride {
+        from: x - start,
+        n: rows,
+        count: slots_gather::places(x, end, rows),
+    };
+    slots_gather::gather(words, x - delay, p.bits, row, to);
 }
 
 // The residues from `from` on up to `to`.
@@ -37,10 +41,8 @@ fn row_residues(p: Plan, words: &[u8], line: usize, from: usize, to: usize, row:
     ensures { RowTo p (piece word_bytes words.now) line to row.new }
 {
     let c = line * p.layout.symbols % p.layout.rows;
-    let mut r = from;
-    while r < to {
+    for r in from..to {
         row_residue(p, words, line, c, r, row);
-        r += 1;
     }
 }
 
@@ -85,8 +87,7 @@ fn dense(p: Plan, from: usize, to: usize, full_from: usize, full_to: usize) -> b
     if slots_units::per_forty(copies * group) == 0 {
         return false;
     }
-    let full = bits::scan::most(full_to, full_from) - full_from;
-    to - from + full >= p.layout.rows
+    to - from + full_to.saturating_sub(full_from) >= p.layout.rows
 }
 
 // Whether a line is worth a row. Symbols of more than twenty slots are not; and where two of three places of all lines are not hit, no line has half of its own hit.
@@ -128,7 +129,7 @@ fn put_dense(p: Plan, words: &[u8], line: usize, slots: &mut [u8])
     }
     let to = slots_lines::residues_to(rows, step, start + symbols, rows);
     let from = slots_lines::residues_from(rows, step, p.layout.words * symbols, start);
-    put_row(p, words, line, bits::scan::least(from, to), to, slots);
+    put_row(p, words, line, from.min(to), to, slots);
 }
 
 // The slots of a line's symbols.

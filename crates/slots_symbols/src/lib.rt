@@ -3,7 +3,7 @@
 #![tactic(auto)]
 
 ghost use Rattle.std.specs.Prelude.{◌≡◌, ◌≤◌, ◌<◌, ◌+◌, ◌*◌, eqb, length};
-ghost use Rattle.bits.specs.Basics.{bool, up_to};
+ghost use Rattle.bits.specs.Basics.{up_to};
 ghost use Rattle.channel.specs.Channel.{layout_symbols, unit, mark_right};
 ghost use Rattle.slots.specs.Inner.{RunSlots, decided_in};
 ghost use Rattle.slots_symbols.specs.Inner.{Decided, Grouped, Row};
@@ -22,30 +22,23 @@ pub fn row_out(p: plan::Plan, b: &[u8], from: usize, to: usize, row: &mut [u8]) 
     pool_rows::row_out(b, p.copies, p.group, p.order, from, to, row)
 }
 
-// 1 if both are the same.
-pub fn same(q: usize, r: usize) -> u8
-    ensures { result ≡ bool (eqb q r) }
-{
-    if q == r { 1 } else { 0 }
-}
-
 // Whether symbol s is q. Of a symbol that is sent once, the slot of q tells.
-pub fn is_symbol(p: plan::Plan, b: &[u8], s: usize, q: usize) -> u8
+pub fn is_symbol(p: plan::Plan, b: &[u8], s: usize, q: usize) -> bool
     requires { Decided p b.now s × (q < p.group) }
-    ensures { result ≡ bool (eqb q (pooled_in p b.now s)) }
+    ensures { result ≡ eqb q (pooled_in p b.now s) }
 {
     if p.copies == 1 {
-        return bits::packing::bit_at(b, s * p.group + q);
+        return bits::packing::bit_at(b, s * p.group + q) == 1;
     }
-    same(q, pool::pooled(b, p.copies, p.group, p.order, s))
+    q == pool::pooled(b, p.copies, p.group, p.order, s)
 }
 
 // ---- question 11
 
-// Marker symbol w of a line.
-fn mark_right(p: plan::Plan, b: &[u8], line: usize, w: usize) -> u8
+// Whether marker symbol w of a line is right.
+fn mark_right(p: plan::Plan, b: &[u8], line: usize, w: usize) -> bool
     requires { Grouped p b.now × (line < p.layout.lines) × (w < p.layout.markers) }
-    ensures { result ≡ bool (mark_right p.layout p.marks (pooled_in p b.now) (line * unit p.layout + w)) }
+    ensures { result ≡ mark_right p.layout p.marks (pooled_in p b.now) (line * unit p.layout + w) }
 {
     let s = line * (p.layout.symbols + p.layout.markers) + w;
     let q = p.marks[w] as usize;
@@ -59,14 +52,12 @@ fn bad_mark_in(p: plan::Plan, b: &[u8], line: usize) -> usize
 {
     let first = line * (p.layout.symbols + p.layout.markers);
     let markers = p.layout.markers;
-    let mut w = 0;
-    while w < markers {
-        if mark_right(p, b, line, w) == 0 {
+    for w in 0..markers {
+        if !mark_right(p, b, line, w) {
             return first + w;
         }
-        w += 1;
     }
-    first + w
+    first + markers
 }
 
 // Question 11.
@@ -77,13 +68,11 @@ pub fn first_bad_mark(p: plan::Plan, b: &[u8]) -> usize
     let unit = p.layout.symbols + p.layout.markers;
     let markers = p.layout.markers;
     let lines = p.layout.lines;
-    let mut line = 0;
-    while line < lines {
+    for line in 0..lines {
         let s = bad_mark_in(p, b, line);
         if s < line * unit + markers {
             return s;
         }
-        line += 1;
     }
-    line * unit
+    lines * unit
 }

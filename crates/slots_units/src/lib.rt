@@ -14,19 +14,13 @@ use plan::Plan;
 pub fn per_forty(width: usize) -> usize
     ensures { result ≡ per_forty width }
 {
-    if width == 5 {
-        return 8;
+    match width {
+        5 => 8,
+        10 => 4,
+        20 => 2,
+        40 => 1,
+        _ => 0,
     }
-    if width == 10 {
-        return 4;
-    }
-    if width == 20 {
-        return 2;
-    }
-    if width == 40 {
-        return 1;
-    }
-    0
 }
 
 // The slots of a zero in all its copies, as a number.
@@ -35,24 +29,20 @@ fn zero_of(copies: usize, group: usize) -> u64
     ensures { Zero copies group (copies * group) result }
 {
     let mut v = 0u64;
-    let mut c = 0usize;
-    while c < copies {
+    for c in 0..copies {
         v = (v << group) | (1u64 << (group - 1));
-        c += 1;
     }
     v
 }
 
-// The slots of `per` symbols of the row from symbol i on, as a number.
-fn unit(per: usize, width: usize, zero: u64, row: &[u8], i: usize) -> u64
-    requires { (i + per ≤ length row.now) × (width ≤ 40) × Below 64 row.now }
-    ensures { (copies group : ℕ) → Zero copies group width zero → Below group row.now → per * width ≤ 40 → result ≡ val (row_slot group width row.now i) (per * width) }
+// The slots of PER symbols of the row from symbol i on, as a number.
+fn unit<const PER: usize, const WIDTH: usize>(zero: u64, row: &[u8], i: usize) -> u64
+    requires { (i + PER ≤ length row.now) × (WIDTH ≤ 40) × Below 64 row.now }
+    ensures { (copies group : ℕ) → Zero copies group WIDTH zero → Below group row.now → PER * WIDTH ≤ 40 → result ≡ val (row_slot group WIDTH row.now i) (PER * WIDTH) }
 {
     let mut v = 0u64;
-    let mut j = 0usize;
-    while j < per {
-        v = (v << width) | (zero >> row[i + j]);
-        j += 1;
+    for j in 0..PER {
+        v = (v << WIDTH) | (zero >> row[i + j]);
     }
     v
 }
@@ -62,17 +52,11 @@ fn put_forty(slots: &mut [u8], at: usize, v: u64)
     requires { at + 5 ≤ length slots.old }
     ensures { Laid slots.old at 5 (λ t. v / 2 ^ (39 - t) % 2) slots.new }
 {
-    let mut t = 0usize;
-    while t < 5 {
-        slots[at + t] = ((v >> (32 - 8 * t)) & 255) as u8;
-        t += 1;
-    }
+    slots[at..at + 5].copy_from_slice(&v.to_be_bytes()[3..]);
 }
 
-// Forty slots after forty: n times `per` symbols of the row from symbol `from` on, in the bytes from `at` on.
-fn lay(
-    per: usize,
-    width: usize,
+// Forty slots after forty: n times PER symbols of the row from symbol `from` on, in the bytes from `at` on.
+fn lay<const PER: usize, const WIDTH: usize>(
     zero: u64,
     row: &[u8],
     from: usize,
@@ -80,17 +64,15 @@ fn lay(
     slots: &mut [u8],
     at: usize,
 )
-    requires { (from + per * n ≤ length row.now) × (width ≤ 40) × Below 64 row.now × (at + 5 * n ≤ length slots.old) }
-    ensures { (copies group : ℕ) → Zero copies group width zero → Below group row.now → per * width ≡ 40 → Laid slots.old at (5 * n) (row_slot group width row.now from) slots.new }
+    requires { (from + PER * n ≤ length row.now) × (WIDTH ≤ 40) × Below 64 row.now × (at + 5 * n ≤ length slots.old) }
+    ensures { (copies group : ℕ) → Zero copies group WIDTH zero → Below group row.now → PER * WIDTH ≡ 40 → Laid slots.old at (5 * n) (row_slot group WIDTH row.now from) slots.new }
 {
-    let mut u = 0usize;
-    while u < n {
+    for u in 0..n {
         put_forty(
             slots,
             at + 5 * u,
-            unit(per, width, zero, row, from + per * u),
+            unit::<PER, WIDTH>(zero, row, from + PER * u),
         );
-        u += 1;
     }
 }
 
@@ -107,19 +89,12 @@ fn lay_units(
     requires { (from + per_forty width * n ≤ length row.now) × (1 ≤ per_forty width) × Below 64 row.now × (at + 5 * n ≤ length slots.old) }
     ensures { (copies group : ℕ) → Zero copies group width zero → Below group row.now → Laid slots.old at (5 * n) (row_slot group width row.now from) slots.new }
 {
-    if width == 5 {
-        lay(8, 5, zero, row, from, n, slots, at);
-        return;
+    match width {
+        5 => lay::<8, 5>(zero, row, from, n, slots, at),
+        10 => lay::<4, 10>(zero, row, from, n, slots, at),
+        20 => lay::<2, 20>(zero, row, from, n, slots, at),
+        _ => lay::<1, 40>(zero, row, from, n, slots, at),
     }
-    if width == 10 {
-        lay(4, 10, zero, row, from, n, slots, at);
-        return;
-    }
-    if width == 20 {
-        lay(2, 20, zero, row, from, n, slots, at);
-        return;
-    }
-    lay(1, 40, zero, row, from, n, slots, at);
 }
 
 // The pulses of the symbols of the row from `from` on up to `to`, one by one. The row begins with symbol `first`.
@@ -129,34 +104,39 @@ fn move_row(p: Plan, row: &[u8], from: usize, to: usize, first: usize, slots: &m
 {
     let copies = p.copies;
     let group = p.group;
-    let mut i = from;
-    while i < to {
+    for i in from..to {
         slots_moves::move_symbol(copies, group, first + i, row[i] as usize, slots);
-        i += 1;
     }
 }
 
-// The slots of n symbols in a row: those before `head` and from `last` on, which share forty slots with others, one by one.
-fn lay_split(
-    p: Plan,
-    row: &[u8],
-    n: usize,
-    first: usize,
+// How symbols in a row fall into forties: those from `head` up to `last` are `whole` forties, which begin after `units` others.
+#[derive(Clone, Copy)]
+struct Forties {
     units: usize,
     head: usize,
     whole: usize,
     last: usize,
-    slots: &mut [u8],
-)
-    requires { Row p first n row.now × Split p first n units head whole last × (length slots.old ≡ slot_bytes p) }
+}
+
+// The slots of n symbols in a row: those before `head` and from `last` on, which share forty slots with others, one by one.
+fn lay_split(p: Plan, row: &[u8], n: usize, first: usize, at: Forties, slots: &mut [u8])
+    requires { Row p first n row.now × Split p first n at.units at.head at.whole at.last × (length slots.old ≡ slot_bytes p) }
     ensures { (word : ℕ → List ℕ) (end : ℕ) → Symbols p word first n row.now → Holds p (front p word first) end slots.old → Holds p (front p word (first + n)) end slots.new }
 {
     let copies = p.copies;
     let group = p.group;
     let zero = zero_of(copies, group);
-    move_row(p, row, 0, head, first, slots);
-    lay_units(copies * group, zero, row, head, whole, slots, 5 * units);
-    move_row(p, row, last, n, first, slots);
+    move_row(p, row, 0, at.head, first, slots);
+    lay_units(
+        copies * group,
+        zero,
+        row,
+        at.head,
+        at.whole,
+        slots,
+        5 * at.units,
+    );
+    move_row(p, row, at.last, n, first, slots);
 }
 
 // The slots of n symbols in a row, of which the first is symbol `first` of the run.
@@ -170,15 +150,11 @@ pub fn lay_row(p: Plan, row: &[u8], n: usize, first: usize, slots: &mut [u8])
     let units = (first + per - 1) / per;
     let head = units * per - first;
     let whole = (n - head) / per;
-    lay_split(
-        p,
-        row,
-        n,
-        first,
+    let at = Forties {
         units,
         head,
         whole,
-        head + whole * per,
-        slots,
-    );
+        last: head + whole * per,
+    };
+    lay_split(p, row, n, first, at, slots);
 }

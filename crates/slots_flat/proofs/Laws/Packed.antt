@@ -4,7 +4,11 @@ use mathlib.Core.List.{List}
 use mathlib.Core.Logic.{⊎_elim}
 use Prim.Native.Nat.{ℕ, ◌+◌, ◌-◌, ◌*◌, ◌/◌, ◌%◌, ◌^◌, ◌≤◌, ◌<◌}
 use native.Mathlib.Omega.{arith}
-use native.Mathlib.Nat.{mod-one}
+use native.Mathlib.Nat.{le_refl, mod-one, mul-le-mul, mul-lt-mul_of_pos_right, mul-add, mul_assoc, mul_comm, div-add-mod', div-le_self}
+use Rattle.std.specs.Int.{div_ceil}
+use Rattle.std.proofs.lemmas.Grind.{div_ceil_times}
+use lib.Pow.{pow_mono, pow_pos}
+use Rattle.std.proofs.lemmas.Nat.{pow-add}
 use lib.Bits.{bit_xor}
 use lib.ListN.{length, get_or, set, length-set}
 use lib.Seq.{set-set, get_or-set_same}
@@ -38,103 +42,62 @@ joined row from c d m t words mid after f g =
           ∙ f.others y (λ i k w q. h i (omega arith) w q);
     }
 
--- ---- four to a byte
+-- ---- some to a byte
 
-module _ (row : List ℕ) (from at : ℕ) (words : List ℕ) (k : ℕ) (after : List ℕ) (room : at + k < length after)
-    (puts : (j : ℕ) → j < 4 → Puts (4 * at + (4 * k + j)) 2 (get_or row (from + (4 * k + j)) 0) after)
-    (so_far : Scattered row from (4 * k) 1 2 (4 * at) words after) where
-  abbrev q4 : ℕ → ℕ
-  q4 j = get_or row (from + (4 * k + j)) 0
+module _ (m : ℕ) (divides : 8 % m ≡ 0) where
+  whole : 8 / m * m ≡ 8
+  whole = let d = div-add-mod' 8 m in omega arith
 
-  put40 : Put (4 * at + (4 * k + 0)) 2 (q4 0) after (set after (at + k) (bit_xor (get_or after (at + k) 0) (q4 0 * 2 ^ 6)))
-  put40 =
-      let t : ℕ = 4 * at + (4 * k + 0) in
-      let byte : 2 * t / 8 ≡ at + k = omega arith in
-      let bit : 2 * t % 8 ≡ 0 = omega arith in
-      let within : 2 + 2 * t % 8 ≤ 8 = omega arith in
-      rw (byte, bit) at (put_one t 2 (q4 0) after (puts 0 (omega arith)) within)
+  pub per_least : 1 ≤ 8 / m
+  per_least = ⊎_elim (λ (l : 8 / m < 1). let z : 8 / m ≡ 0 = omega arith in let e : 8 / m * m ≡ 0 * m = ap (λ (v : ℕ). v * m) z in let w = whole in absurd (omega arith)) (λ (l : 1 ≤ 8 / m). l) (lt_or_le (8 / m) 1)
 
-  put41 : Put (4 * at + (4 * k + 1)) 2 (q4 1) (set after (at + k) (bit_xor (get_or after (at + k) 0) (q4 0 * 2 ^ 6))) (set after (at + k) (bit_xor (bit_xor (get_or after (at + k) 0) (q4 0 * 2 ^ 6)) (q4 1 * 2 ^ 4)))
-  put41 =
-      let t : ℕ = 4 * at + (4 * k + 1) in
-      let byte : 2 * t / 8 ≡ at + k = omega arith in
-      let bit : 2 * t % 8 ≡ 2 = omega arith in
-      let within : 2 + 2 * t % 8 ≤ 8 = omega arith in
-      let long : length (set after (at + k) (bit_xor (get_or after (at + k) 0) (q4 0 * 2 ^ 6))) ≡ length after = length-set after (at + k) (bit_xor (get_or after (at + k) 0) (q4 0 * 2 ^ 6)) in
-      let h : Puts t 2 (q4 1) (set after (at + k) (bit_xor (get_or after (at + k) 0) (q4 0 * 2 ^ 6))) = puts_long t 2 (q4 1) after (set after (at + k) (bit_xor (get_or after (at + k) 0) (q4 0 * 2 ^ 6))) long (puts 1 (omega arith)) in
-      rw (again after (at + k) (bit_xor (get_or after (at + k) 0) (q4 0 * 2 ^ 6)) (q4 1 * 2 ^ 4) room) at (rw (byte, bit) at (put_one t 2 (q4 1) (set after (at + k) (bit_xor (get_or after (at + k) 0) (q4 0 * 2 ^ 6))) h within))
+  pub per_most : 8 / m ≤ 8
+  per_most = div-le_self 8 m
 
-  put42 : Put (4 * at + (4 * k + 2)) 2 (q4 2) (set after (at + k) (bit_xor (bit_xor (get_or after (at + k) 0) (q4 0 * 2 ^ 6)) (q4 1 * 2 ^ 4))) (set after (at + k) (bit_xor (bit_xor (bit_xor (get_or after (at + k) 0) (q4 0 * 2 ^ 6)) (q4 1 * 2 ^ 4)) (q4 2 * 2 ^ 2)))
-  put42 =
-      let t : ℕ = 4 * at + (4 * k + 2) in
-      let byte : 2 * t / 8 ≡ at + k = omega arith in
-      let bit : 2 * t % 8 ≡ 4 = omega arith in
-      let within : 2 + 2 * t % 8 ≤ 8 = omega arith in
-      let long : length (set after (at + k) (bit_xor (bit_xor (get_or after (at + k) 0) (q4 0 * 2 ^ 6)) (q4 1 * 2 ^ 4))) ≡ length after = length-set after (at + k) (bit_xor (bit_xor (get_or after (at + k) 0) (q4 0 * 2 ^ 6)) (q4 1 * 2 ^ 4)) in
-      let h : Puts t 2 (q4 2) (set after (at + k) (bit_xor (bit_xor (get_or after (at + k) 0) (q4 0 * 2 ^ 6)) (q4 1 * 2 ^ 4))) = puts_long t 2 (q4 2) after (set after (at + k) (bit_xor (bit_xor (get_or after (at + k) 0) (q4 0 * 2 ^ 6)) (q4 1 * 2 ^ 4))) long (puts 2 (omega arith)) in
-      rw (again after (at + k) (bit_xor (bit_xor (get_or after (at + k) 0) (q4 0 * 2 ^ 6)) (q4 1 * 2 ^ 4)) (q4 2 * 2 ^ 2) room) at (rw (byte, bit) at (put_one t 2 (q4 2) (set after (at + k) (bit_xor (bit_xor (get_or after (at + k) 0) (q4 0 * 2 ^ 6)) (q4 1 * 2 ^ 4))) h within))
+  -- the bits of symbol q of a byte
+  pub within : (q : ℕ) → q < 8 / m → m + m * q ≤ 8
+  within q l =
+      let up : q + 1 ≤ 8 / m = omega arith in
+      let top : (q + 1) * m ≤ 8 / m * m = mul-le-mul up (le_refl m) in
+      omega (arith, whole, mul_comm m q)
 
-  put43 : Put (4 * at + (4 * k + 3)) 2 (q4 3) (set after (at + k) (bit_xor (bit_xor (bit_xor (get_or after (at + k) 0) (q4 0 * 2 ^ 6)) (q4 1 * 2 ^ 4)) (q4 2 * 2 ^ 2))) (set after (at + k) (bit_xor (bit_xor (bit_xor (bit_xor (get_or after (at + k) 0) (q4 0 * 2 ^ 6)) (q4 1 * 2 ^ 4)) (q4 2 * 2 ^ 2)) (q4 3 * 2 ^ 0)))
-  put43 =
-      let t : ℕ = 4 * at + (4 * k + 3) in
-      let byte : 2 * t / 8 ≡ at + k = omega arith in
-      let bit : 2 * t % 8 ≡ 6 = omega arith in
-      let within : 2 + 2 * t % 8 ≤ 8 = omega arith in
-      let long : length (set after (at + k) (bit_xor (bit_xor (bit_xor (get_or after (at + k) 0) (q4 0 * 2 ^ 6)) (q4 1 * 2 ^ 4)) (q4 2 * 2 ^ 2))) ≡ length after = length-set after (at + k) (bit_xor (bit_xor (bit_xor (get_or after (at + k) 0) (q4 0 * 2 ^ 6)) (q4 1 * 2 ^ 4)) (q4 2 * 2 ^ 2)) in
-      let h : Puts t 2 (q4 3) (set after (at + k) (bit_xor (bit_xor (bit_xor (get_or after (at + k) 0) (q4 0 * 2 ^ 6)) (q4 1 * 2 ^ 4)) (q4 2 * 2 ^ 2))) = puts_long t 2 (q4 3) after (set after (at + k) (bit_xor (bit_xor (bit_xor (get_or after (at + k) 0) (q4 0 * 2 ^ 6)) (q4 1 * 2 ^ 4)) (q4 2 * 2 ^ 2))) long (puts 3 (omega arith)) in
-      rw (again after (at + k) (bit_xor (bit_xor (bit_xor (get_or after (at + k) 0) (q4 0 * 2 ^ 6)) (q4 1 * 2 ^ 4)) (q4 2 * 2 ^ 2)) (q4 3 * 2 ^ 0) room) at (rw (byte, bit) at (put_one t 2 (q4 3) (set after (at + k) (bit_xor (bit_xor (bit_xor (get_or after (at + k) 0) (q4 0 * 2 ^ 6)) (q4 1 * 2 ^ 4)) (q4 2 * 2 ^ 2))) h within))
+  -- and where they are
+  pub place : (at k q : ℕ) → m * (8 / m * at + (8 / m * k + q)) ≡ 8 * (at + k) + m * q
+  place at k q =
+      let sum : 8 / m * at + (8 / m * k + q) ≡ 8 / m * (at + k) + q = omega arith in
+      ap (λ (v : ℕ). m * v) sum ∙ mul-add m (8 / m * (at + k)) q
+      ∙ ap (λ (v : ℕ). v + m * q) (sym (mul_assoc m (8 / m) (at + k)) ∙ ap (λ (v : ℕ). v * (at + k)) (mul_comm m (8 / m) ∙ whole))
 
-  pub packed4 : Scattered row from (4 * (k + 1)) 1 2 (4 * at) words (set after (at + k) (bit_xor (bit_xor (bit_xor (bit_xor (get_or after (at + k) 0) (q4 0 * 2 ^ 6)) (q4 1 * 2 ^ 4)) (q4 2 * 2 ^ 2)) (q4 3 * 2 ^ 0)))
-  packed4 =
-      let least : 1 ≤ 1 = omega arith in
-      let e0 : 4 * k ≡ 4 * k + 0 = omega arith in
-      let s0 : Scattered row from (4 * k + 0) 1 2 (4 * at) words after = rw e0 at so_far in
-      let e1 : 4 * k + 0 + 1 ≡ 4 * k + 1 = omega arith in
-      let s1 = rw e1 at (scattered_more row from 1 2 (4 * at) words least (4 * k + 0) (mod-one (4 * k + 0)) after s0 (set after (at + k) (bit_xor (get_or after (at + k) 0) (q4 0 * 2 ^ 6))) put40) in
-      let e2 : 4 * k + 1 + 1 ≡ 4 * k + 2 = omega arith in
-      let s2 = rw e2 at (scattered_more row from 1 2 (4 * at) words least (4 * k + 1) (mod-one (4 * k + 1)) (set after (at + k) (bit_xor (get_or after (at + k) 0) (q4 0 * 2 ^ 6))) s1 (set after (at + k) (bit_xor (bit_xor (get_or after (at + k) 0) (q4 0 * 2 ^ 6)) (q4 1 * 2 ^ 4))) put41) in
-      let e3 : 4 * k + 2 + 1 ≡ 4 * k + 3 = omega arith in
-      let s3 = rw e3 at (scattered_more row from 1 2 (4 * at) words least (4 * k + 2) (mod-one (4 * k + 2)) (set after (at + k) (bit_xor (bit_xor (get_or after (at + k) 0) (q4 0 * 2 ^ 6)) (q4 1 * 2 ^ 4))) s2 (set after (at + k) (bit_xor (bit_xor (bit_xor (get_or after (at + k) 0) (q4 0 * 2 ^ 6)) (q4 1 * 2 ^ 4)) (q4 2 * 2 ^ 2))) put42) in
-      let e4 : 4 * k + 3 + 1 ≡ 4 * (k + 1) = omega arith in
-      let s4 = rw e4 at (scattered_more row from 1 2 (4 * at) words least (4 * k + 3) (mod-one (4 * k + 3)) (set after (at + k) (bit_xor (bit_xor (bit_xor (get_or after (at + k) 0) (q4 0 * 2 ^ 6)) (q4 1 * 2 ^ 4)) (q4 2 * 2 ^ 2))) s3 (set after (at + k) (bit_xor (bit_xor (bit_xor (bit_xor (get_or after (at + k) 0) (q4 0 * 2 ^ 6)) (q4 1 * 2 ^ 4)) (q4 2 * 2 ^ 2)) (q4 3 * 2 ^ 0))) put43) in
-      s4
+  -- symbol q of byte k of the words, laid after those before it
+  pub packed_more : (row : List ℕ) (from at : ℕ) (words : List ℕ) (k q byte : ℕ) (after : List ℕ) → at + k < length after → q < 8 / m
+      → Puts (8 / m * at + (8 / m * k + q)) m (get_or row (from + (8 / m * k + q)) 0) after
+      → Scattered row from (8 / m * k + q) 1 m (8 / m * at) words (set after (at + k) byte)
+      → Scattered row from (8 / m * k + (q + 1)) 1 m (8 / m * at) words (set after (at + k) (bit_xor byte (get_or row (from + (8 / m * k + q)) 0 * 2 ^ (8 - m - m * q))))
+  packed_more row from at words k q byte after room l puts so_far =
+      let d : ℕ = 8 / m * k + q in
+      let t : ℕ = 8 / m * at + d in
+      let v : ℕ = get_or row (from + d) 0 in
+      let now : List ℕ = set after (at + k) byte in
+      let p = place at k q in
+      let w = within q l in
+      let pos = puts.bits_least in
+      let b : m * t / 8 ≡ at + k = omega arith in
+      let r : m * t % 8 ≡ m * q = omega arith in
+      let one : m + m * t % 8 ≤ 8 = omega arith in
+      let h : Puts t m v now = puts_long t m v after now (length-set after (at + k) byte) puts in
+      let put : Put t m v now (set after (at + k) (bit_xor byte (v * 2 ^ (8 - m - m * q)))) =
+      rw (again after (at + k) byte (v * 2 ^ (8 - m - m * q)) room) at (rw (b, r) at (put_one t m v now h one)) in
+      let next : d + 1 ≡ 8 / m * k + (q + 1) = omega arith in
+      rw next at (scattered_more row from 1 m (8 / m * at) words (le_refl 1) d (mod-one d) now so_far (set after (at + k) (bit_xor byte (v * 2 ^ (8 - m - m * q)))) put)
 
--- ---- two to a byte
-
-module _ (row : List ℕ) (from at : ℕ) (words : List ℕ) (k : ℕ) (after : List ℕ) (room : at + k < length after)
-    (puts : (j : ℕ) → j < 2 → Puts (2 * at + (2 * k + j)) 4 (get_or row (from + (2 * k + j)) 0) after)
-    (so_far : Scattered row from (2 * k) 1 4 (2 * at) words after) where
-  abbrev q2 : ℕ → ℕ
-  q2 j = get_or row (from + (2 * k + j)) 0
-
-  put20 : Put (2 * at + (2 * k + 0)) 4 (q2 0) after (set after (at + k) (bit_xor (get_or after (at + k) 0) (q2 0 * 2 ^ 4)))
-  put20 =
-      let t : ℕ = 2 * at + (2 * k + 0) in
-      let byte : 4 * t / 8 ≡ at + k = omega arith in
-      let bit : 4 * t % 8 ≡ 0 = omega arith in
-      let within : 4 + 4 * t % 8 ≤ 8 = omega arith in
-      rw (byte, bit) at (put_one t 4 (q2 0) after (puts 0 (omega arith)) within)
-
-  put21 : Put (2 * at + (2 * k + 1)) 4 (q2 1) (set after (at + k) (bit_xor (get_or after (at + k) 0) (q2 0 * 2 ^ 4))) (set after (at + k) (bit_xor (bit_xor (get_or after (at + k) 0) (q2 0 * 2 ^ 4)) (q2 1 * 2 ^ 0)))
-  put21 =
-      let t : ℕ = 2 * at + (2 * k + 1) in
-      let byte : 4 * t / 8 ≡ at + k = omega arith in
-      let bit : 4 * t % 8 ≡ 4 = omega arith in
-      let within : 4 + 4 * t % 8 ≤ 8 = omega arith in
-      let long : length (set after (at + k) (bit_xor (get_or after (at + k) 0) (q2 0 * 2 ^ 4))) ≡ length after = length-set after (at + k) (bit_xor (get_or after (at + k) 0) (q2 0 * 2 ^ 4)) in
-      let h : Puts t 4 (q2 1) (set after (at + k) (bit_xor (get_or after (at + k) 0) (q2 0 * 2 ^ 4))) = puts_long t 4 (q2 1) after (set after (at + k) (bit_xor (get_or after (at + k) 0) (q2 0 * 2 ^ 4))) long (puts 1 (omega arith)) in
-      rw (again after (at + k) (bit_xor (get_or after (at + k) 0) (q2 0 * 2 ^ 4)) (q2 1 * 2 ^ 0) room) at (rw (byte, bit) at (put_one t 4 (q2 1) (set after (at + k) (bit_xor (get_or after (at + k) 0) (q2 0 * 2 ^ 4))) h within))
-
-  pub packed2 : Scattered row from (2 * (k + 1)) 1 4 (2 * at) words (set after (at + k) (bit_xor (bit_xor (get_or after (at + k) 0) (q2 0 * 2 ^ 4)) (q2 1 * 2 ^ 0)))
-  packed2 =
-      let least : 1 ≤ 1 = omega arith in
-      let e0 : 2 * k ≡ 2 * k + 0 = omega arith in
-      let s0 : Scattered row from (2 * k + 0) 1 4 (2 * at) words after = rw e0 at so_far in
-      let e1 : 2 * k + 0 + 1 ≡ 2 * k + 1 = omega arith in
-      let s1 = rw e1 at (scattered_more row from 1 4 (2 * at) words least (2 * k + 0) (mod-one (2 * k + 0)) after s0 (set after (at + k) (bit_xor (get_or after (at + k) 0) (q2 0 * 2 ^ 4))) put20) in
-      let e2 : 2 * k + 1 + 1 ≡ 2 * (k + 1) = omega arith in
-      let s2 = rw e2 at (scattered_more row from 1 4 (2 * at) words least (2 * k + 1) (mod-one (2 * k + 1)) (set after (at + k) (bit_xor (get_or after (at + k) 0) (q2 0 * 2 ^ 4))) s1 (set after (at + k) (bit_xor (bit_xor (get_or after (at + k) 0) (q2 0 * 2 ^ 4)) (q2 1 * 2 ^ 0))) put21) in
-      s2
+  -- a symbol moved up is still in its byte
+  pub moved_up : (v q : ℕ) → v < 2 ^ m → q < 8 / m → v * 2 ^ (8 - m - m * q) < 256
+  moved_up v q small l =
+      let w = within q l in
+      let top : v * 2 ^ (8 - m - m * q) < 2 ^ m * 2 ^ (8 - m - m * q) = mul-lt-mul_of_pos_right small (pow_pos (8 - m - m * q)) in
+      let sum : m + (8 - m - m * q) ≤ 8 = omega arith in
+      let p : 2 ^ (m + (8 - m - m * q)) ≤ 2 ^ 8 = pow_mono sum in
+      omega (arith, pow-add 2 m (8 - m - m * q))
 
 -- ---- a row in three parts
 
@@ -160,20 +123,14 @@ pub joined_at : (row : List ℕ) (from c d m t : ℕ) (words mid after : List �
     → Scattered row from c 1 m t words mid → Scattered row first d 1 m u mid after → Scattered row from all 1 m t words after
 joined_at row from c d m t words mid after first u all a b e f g = rw e (joined row from c d m t words mid after f (rw (a, b) at g))
 
-pub cut4 : (from to t at head n : ℕ) → at ≡ (t + 3) / 4 → head ≡ from + (4 * at - t) → n ≡ (to - head) / 4 → from + 8 ≤ to
-    → (head ≡ from + (head - from)) × (4 * at ≡ t + (head - from)) × (head + 4 * n ≤ to) × (head + 4 * n ≡ from + (head - from + 4 * n)) × (4 * (at + n) ≡ t + (head - from + 4 * n)) × (head ≤ to)
-cut4 from to t at head n a h e far =
-    let low : t ≤ 4 * at = omega arith in
-    let near : 4 * at ≤ t + 3 = omega arith in
+-- the bytes between the ends, from byte `at` on, and the symbols that go into them
+pub cut : (per from to t at head n : ℕ) → 1 ≤ per → per ≤ 8 → at ≡ div_ceil t per → head ≡ from + (per * at - t) → n ≡ (to - head) / per → from + 8 ≤ to
+    → (head ≡ from + (head - from)) × (per * at ≡ t + (head - from)) × (head + per * n ≤ to) × (head + per * n ≡ from + (head - from + per * n)) × (per * (at + n) ≡ t + (head - from + per * n)) × (head ≤ to)
+cut per from to t at head n least most a h e far =
+    let ceil : (t ≤ at * per) × (at * per < t + per) = rw (sym a) at (div_ceil_times t per least) in
+    let low : t ≤ per * at = omega (arith, ceil.0) in
+    let near : per * at < t + per = omega (arith, ceil.1) in
     let up : head ≤ to = omega arith in
-    let some : 4 * n ≤ to - head = omega arith in
-    (omega arith, omega arith, omega arith, omega arith, omega arith, up)
-
-pub cut2 : (from to t at head n : ℕ) → at ≡ (t + 1) / 2 → head ≡ from + (2 * at - t) → n ≡ (to - head) / 2 → from + 8 ≤ to
-    → (head ≡ from + (head - from)) × (2 * at ≡ t + (head - from)) × (head + 2 * n ≤ to) × (head + 2 * n ≡ from + (head - from + 2 * n)) × (2 * (at + n) ≡ t + (head - from + 2 * n)) × (head ≤ to)
-cut2 from to t at head n a h e far =
-    let low : t ≤ 2 * at = omega arith in
-    let near : 2 * at ≤ t + 1 = omega arith in
-    let up : head ≤ to = omega arith in
-    let some : 2 * n ≤ to - head = omega arith in
+    let d = div-add-mod' (to - head) per in
+    let some : n * per ≤ to - head = rw (sym e) at (let z : (to - head) / per * per ≤ to - head = omega arith in z) in
     (omega arith, omega arith, omega arith, omega arith, omega arith, up)

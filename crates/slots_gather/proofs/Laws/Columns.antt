@@ -4,7 +4,9 @@ use mathlib.Core.List.{List}
 use mathlib.Core.Logic.{⊎_elim}
 use Prim.Native.Nat.{ℕ, ◌+◌, ◌-◌, ◌*◌, ◌/◌, ◌%◌, ◌≤◌, ◌<◌}
 use native.Mathlib.Omega.{arith}
-use native.Mathlib.Nat.{le_refl, mul-le-mul, add-mul, div-add-mod', le-div_iff_mul-le}
+use native.Mathlib.Nat.{le_refl, mul-le-mul, add-mul, div-add-mod'}
+use Rattle.std.specs.Int.{div_ceil}
+use Rattle.std.proofs.lemmas.Grind.{div_ceil_times}
 use lib.ListN.{length, get_or, set, length-set}
 use lib.Seq.{get_or-set_same, get_or-set_other}
 use Rattle.bits.proofs.Laws.Choice.{lt_or_le}
@@ -72,20 +74,19 @@ apart n x y pos e l =
 
 -- ---- places, n apart
 
-pub places_none : (x end n : ℕ) → end ≤ x → Places x end n 0
-places_none x end n l = record { before = λ j h. absurd (omega arith); all = λ j h. absurd (omega arith) }
-
-pub places_some : (x end n : ℕ) → 1 ≤ n → x < end → Places x end n ((end - x - 1) / n + 1)
-places_some x end n pos l =
+pub places_ceil : (x end n : ℕ) → 1 ≤ n → Places x end n (div_ceil (end - x) n)
+places_ceil x end n pos =
+    let q : ℕ = div_ceil (end - x) n in
+    let h = div_ceil_times (end - x) n pos in
     record {
-      before = λ j h.
-          let k : j ≤ (end - x - 1) / n = omega arith in
-          let m : j * n ≤ end - x - 1 = (le-div_iff_mul-le pos).0 k in
-          omega arith;
-      all = λ j h.
-          let m : j * n ≤ end - x - 1 = omega arith in
-          let k : j ≤ (end - x - 1) / n = (le-div_iff_mul-le pos).1 m in
-          omega arith;
+      before = λ j l.
+          let up : j + 1 ≤ q = omega arith in
+          let m : (j + 1) * n ≤ q * n = mul-le-mul up (le_refl n) in
+          omega (arith, h.1);
+      all = λ j l. ⊎_elim
+          (λ (k : j < q). k)
+          (λ (k : q ≤ j). let m : q * n ≤ j * n = mul-le-mul k (le_refl n) in absurd (omega (arith, h.0)))
+          (lt_or_le j q);
     }
 
 pub places_most : (x end n count : ℕ) → 1 ≤ n → Places x end n count → count ≤ end
@@ -118,4 +119,19 @@ strides_part at step shift mask words from n count row after j k s l e =
       from_most = omega (arith, add-mul j k n);
       inside = λ i h. let z = s.inside (j + i) (omega arith) in omega (arith, add-mul j i step);
       room = λ i h. let z = s.room (j + i) (omega arith) in omega (arith, add-mul j i n);
+    }
+
+pub strides_same : (at step shift mask : ℕ) (words : List ℕ) (from n count : ℕ) (row after : List ℕ) → Strides at step shift mask words from n count row
+    → length after ≡ length row → Strides at step shift mask words from n count after
+strides_same at step shift mask words from n count row after s e =
+    record {
+      shift_most = s.shift_most;
+      mask_most = s.mask_most;
+      step_most = s.step_most;
+      n_least = s.n_least;
+      n_most = s.n_most;
+      at_most = s.at_most;
+      from_most = s.from_most;
+      inside = s.inside;
+      room = λ j l. rw e (s.room j l);
     }

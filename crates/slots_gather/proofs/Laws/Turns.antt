@@ -4,7 +4,7 @@ use mathlib.Core.List.{List}
 use mathlib.Core.Logic.{⊎_elim}
 use Prim.Native.Nat.{ℕ, ◌+◌, ◌-◌, ◌*◌, ◌/◌, ◌%◌, ◌^◌, ◌≤◌, ◌<◌}
 use native.Mathlib.Omega.{arith}
-use native.Mathlib.Nat.{le_refl, mul-le-mul, mul_assoc, mul_comm, mul_left_comm, mul-add, add-mul, mod-lt, mul-mod_left, mul-div_cancel, div-add-mod'}
+use native.Mathlib.Nat.{le_refl, mul-le-mul, mul_assoc, mul_comm, mul_left_comm, mul-add, add-mul, mod-lt, mod-eq_of_lt, mul-mod_left, mul-div_cancel, div-add-mod'}
 use lib.Arith.{digits_mod, mod-mul}
 use lib.Bits.{bit_and, and_mask}
 use lib.ListN.{length, get_or}
@@ -60,6 +60,14 @@ module _ (m turn mask : ℕ) (w : Bytewise m turn mask) (pos : 1 ≤ m) (some : 
       ∙ and_mask (get_or words (y / 8 + i * n) 0 / 2 ^ (8 - m - y % 8)) m
       ∙ sym (in_byte words m (m * z) (stays z) ∙ ap₂ (λ (a c : ℕ). get_or words a 0 / 2 ^ (8 - m - c) % 2 ^ m) b r)
 
+-- a divisor of eight is at most eight
+divisor_most : (turn m : ℕ) → turn * m ≡ 8 → m ≤ 8
+divisor_most turn m e =
+    ⊎_elim
+    (λ (l : turn < 1). let z : turn ≡ 0 = omega arith in let p : turn * m ≡ 0 * m = ap (λ (x : ℕ). x * m) z in absurd (omega arith))
+    (λ (l : 1 ≤ turn). let a : 1 * m ≤ turn * m = mul-le-mul l (le_refl m) in omega arith)
+    (lt_or_le turn 1)
+
 -- the sizes of whole symbols in a byte
 pub record Whole (m turn mask : ℕ) : Type 0 where
   pub bits_least : 1 ≤ m
@@ -80,6 +88,17 @@ whole m turn mask w =
     let q = w.mask_is in
     let z : 0 < 2 ^ m = pow_pos m in
     record { bits_least = some; bits_most = most; turn_least = one; turn_most = omega arith; mask_most = omega arith }
+
+-- m bits that divide a byte, with the mask as the code computes it
+pub bytewise : (m : ℕ) → 8 % m ≡ 0 → Bytewise m (8 / m) (1 * 2 ^ m % 2 ^ 64 - 1)
+bytewise m h =
+    let d = div-add-mod' 8 m in
+    let whole : 8 / m * m ≡ 8 = omega arith in
+    let most : m ≤ 8 = divisor_most (8 / m) m whole in
+    let p : 2 ^ m ≤ 2 ^ 8 = pow_mono most in
+    let low : 1 * 2 ^ m < 2 ^ 64 = omega arith in
+    let e : 1 * 2 ^ m % 2 ^ 64 ≡ 1 * 2 ^ m = mod-eq_of_lt low in
+    record { whole = whole; mask_is = omega arith }
 
 -- symbol q of a byte
 pub unpacked_value : (m turn mask : ℕ) → Bytewise m turn mask → (words : List ℕ) (b q : ℕ) → q < turn

@@ -1,11 +1,6 @@
-use mathlib.Core.Path.{◌≡◌}
-use Prim.Native.Nat.{◌+◌, ◌-◌, ◌*◌, ◌≤◌}
+use Prim.Native.Nat.{◌*◌}
 use Rattle.slots_gather.specs.Inner.{cut_from, Column}
 use Rattle.slots_gather.proofs.gather_bytes.Given as goal
 
-abbrev pub invariant-loop-j : goal.invariant-loop-j
-invariant-loop-j l =
-    (l.j ≤ l.count) × (l.b ≡ l.at + (l.count - l.j) * l.step) × (l.i ≡ l.from + (l.count - l.j) * l.n) × Column l.initial.row l.from l.n (l.count - l.j) (cut_from l.words l.at l.step l.shift l.mask) l.row
-
-abbrev pub decreases-loop-j : goal.decreases-loop-j
-decreases-loop-j l = l.j
+abbrev pub invariant-loop-k : goal.invariant-loop-k
+invariant-loop-k l = Column l.initial.row l.to.from l.to.n (4 * l.k) (cut_from l.words l.cut.at l.cut.step l.cut.shift l.cut.mask) l.row

@@ -32,7 +32,7 @@ known at step shift mask words from n count row j h l =
     record { step = omega arith; far = omega arith; inside = h.inside j l; room = h.room j l; shift = h.shift_most; small = omega arith }
 
 pub loop-j-init : goal.loop-j-init
-loop-j-init c = (omega arith, column_none _ _ _ _)
+loop-j-init c = column_none _ _ _ _
 
 pub overflow_mul-row : goal.overflow_mul-row
 overflow_mul-row c = let k = (known _ _ _ _ _ _ _ _ _ c.loop-j.j c.requires (omega arith)).step in omega arith
@@ -40,11 +40,11 @@ overflow_mul-row c = let k = (known _ _ _ _ _ _ _ _ _ c.loop-j.j c.requires (ome
 pub overflow_add-row : goal.overflow_add-row
 overflow_add-row c = let k = known _ _ _ _ _ _ _ _ _ c.loop-j.j c.requires (omega arith) in let a = k.step in omega arith
 
-pub bounds-words-at : goal.bounds-words-at
-bounds-words-at c = (known _ _ _ _ _ _ _ _ _ c.loop-j.j c.requires (omega arith)).inside
+pub bounds-words-cut : goal.bounds-words-cut
+bounds-words-cut c = (known _ _ _ _ _ _ _ _ _ c.loop-j.j c.requires (omega arith)).inside
 
 pub overflow_cast-row : goal.overflow_cast-row
-overflow_cast-row c = omega (arith, c.type_inv.words (c.args.at + c.loop-j.j * c.args.step))
+overflow_cast-row c = omega (arith, c.type_inv.words (c.args.cut.at + c.loop-j.j * c.args.cut.step))
 
 pub overflow_shr-row : goal.overflow_shr-row
 overflow_shr-row c = let k = (known _ _ _ _ _ _ _ _ _ c.loop-j.j c.requires (omega arith)).shift in omega arith
@@ -58,10 +58,10 @@ overflow_mul-row-in-loop-j c = let k = (known _ _ _ _ _ _ _ _ _ c.loop-j.j c.req
 pub overflow_add-row-in-loop-j : goal.overflow_add-row-in-loop-j
 overflow_add-row-in-loop-j c = let k = known _ _ _ _ _ _ _ _ _ c.loop-j.j c.requires (omega arith) in let a = k.far in omega arith
 
-pub bounds-row-from : goal.bounds-row-from
-bounds-row-from c =
+pub bounds-row-to : goal.bounds-row-to
+bounds-row-to c =
     let k = (known _ _ _ _ _ _ _ _ _ c.loop-j.j c.requires (omega arith)).room in
-    let e = c.loop-j.invariant.1.long in
+    let e = c.loop-j.invariant.long in
     omega arith
 
 pub loop-j-preserved : goal.loop-j-preserved
@@ -69,20 +69,17 @@ loop-j-preserved c =
     let s = c in
     let a = c.args in
     let l = c.loop-j in
-    let e = c.loop-j.invariant.1.long in
+    let e = c.loop-j.invariant.long in
     let room = (known _ _ _ _ _ _ _ _ _ l.j c.requires (omega arith)).room in
-    let f : ℕ → ℕ = cut_from a.words.now a.at a.step a.shift a.mask in (
-      omega arith,
-      column_on a.row.now l.row _ a.from a.n l.j 1 f (λ i. f (l.j + i)) s.requires.n_least l.invariant.1
-          (column_one l.row (a.from + l.j * a.n) a.n _ (λ i. f (l.j + i)) (omega arith) (ap f (let z : l.j ≡ l.j + 0 = omega arith in z)))
-          (λ i h. refl),
-    )
+    let f : ℕ → ℕ = cut_from a.words.now a.cut.at a.cut.step a.cut.shift a.cut.mask in
+    column_on a.row.now l.row _ a.to.from a.to.n l.j 1 f (λ i. f (l.j + i)) s.requires.n_least l.invariant
+    (column_one l.row (a.to.from + l.j * a.to.n) a.to.n _ (λ i. f (l.j + i)) (omega arith) (ap f (let z : l.j ≡ l.j + 0 = omega arith in z)))
+    (λ i h. refl)
 
 pub shape_of-row : goal.shape_of-row
-shape_of-row c = c.loop-j.invariant.1.long
+shape_of-row c = c.loop-j.invariant.long
 
 pub returns : goal.returns
 returns c =
-    let l = c.loop-j in
-    let e : l.j ≡ c.args.count = let m = c.loop-j.invariant.0 in omega arith in
-    rw e at l.invariant.1
+    let e : c.loop-j.j ≡ c.args.to.count = omega arith in
+    rw e at c.loop-j.invariant

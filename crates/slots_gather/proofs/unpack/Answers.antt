@@ -1,6 +1,6 @@
 -- The symbols of one byte more at each turn.
 use mathlib.Core.Path.{◌≡◌, sym, ap}
-use Prim.Native.Nat.{ℕ, ◌+◌, ◌*◌, ◌≤◌, ◌<◌}
+use Prim.Native.Nat.{ℕ, ◌+◌, ◌*◌, ◌/◌, ◌≤◌, ◌<◌}
 use native.Mathlib.Omega.{arith}
 use native.Mathlib.Nat.{le_refl, mul-le-mul, mul_comm, add-mul}
 use Rattle.slots_gather.specs.Inner.{symbol_in}
@@ -15,54 +15,41 @@ within turn n i l =
     omega arith
 
 pub loop-i-init : goal.loop-i-init
-loop-i-init c =
-    let s = c in
-    let none : 0 ≡ s.args.turn * 0 = omega arith in
-    (omega arith, rw (sym none) (column_none _ _ _ _))
-
-pub overflow_mul-turn : goal.overflow_mul-turn
-overflow_mul-turn c =
-    let s = c in
-    let h = c.requires.2 in
-    let k = (within c.args.turn c.args.n) c.loop-i.i (omega arith) in
-    omega arith
+loop-i-init g c =
+    let none : 0 ≡ 8 / g.row.M * 0 = omega arith in
+    rw (sym none) (column_none _ _ _ _)
 
 pub overflow_add-at : goal.overflow_add-at
-overflow_add-at c =
-    let s = c in
+overflow_add-at g c =
     let h = c.requires.2 in
-    let k = (within c.args.turn c.args.n) c.loop-i.i (omega arith) in
+    let k = within (8 / g.row.M) c.args.n c.loop-i.i (omega arith) in
     omega arith
 
 pub unpack_byte-requires : goal.unpack_byte-requires
-unpack_byte-requires c =
-    let s = c in
-    let l = c.loop-i in
+unpack_byte-requires g c =
     let h = c.requires.2 in
     let w = c.requires.1 in
-    let e = c.loop-i.invariant.1.long in
-    let k = (within c.args.turn c.args.n) l.i (omega arith) in
-    (s.requires.0, omega arith, omega arith)
+    let e = c.loop-i.invariant.long in
+    let k = within (8 / g.row.M) c.args.n c.loop-i.i (omega arith) in
+    (c.requires.0, omega arith, omega arith)
 
 pub loop-i-preserved : goal.loop-i-preserved
-loop-i-preserved c =
-    let s = c in
+loop-i-preserved g c =
     let a = c.args in
     let l = c.loop-i in
-    let f : ℕ → ℕ = λ j. symbol_in a.m a.words.now (a.b * a.turn + j) in
-    let g : ℕ → ℕ = λ q. symbol_in a.m a.words.now ((a.b + l.i) * a.turn + q) in
-    let on : a.turn * l.i + a.turn ≡ a.turn * (l.i + 1) = omega arith in
-    let next = column_at_lem l.row _ (a.at + a.turn * l.i) (a.at + a.turn * l.i * 1) 1 a.turn g (omega arith) c.unpack_byte.ensures in (
-      omega arith,
-      rw (sym on) (column_on a.row.now l.row _ a.at 1 (a.turn * l.i) a.turn f g (omega arith) l.invariant.1 next
-          (λ q h. ap (symbol_in a.m a.words.now) (let z : (a.b + l.i) * a.turn + q ≡ a.b * a.turn + (a.turn * l.i + q) = omega (arith, add-mul a.b l.i a.turn, mul_comm l.i a.turn) in z))),
-    )
+    let m : ℕ = g.row.M in
+    let turn : ℕ = 8 / m in
+    let f : ℕ → ℕ = λ j. symbol_in m a.words.now (a.b * turn + j) in
+    let q : ℕ → ℕ = λ q. symbol_in m a.words.now ((a.b + l.i) * turn + q) in
+    let on : turn * l.i + turn ≡ turn * (l.i + 1) = omega arith in
+    let next = column_at_lem l.row _ (a.at + turn * l.i) (a.at + turn * l.i * 1) 1 turn q (omega arith) c.unpack_byte.ensures in
+    rw (sym on) (column_on a.row.now l.row _ a.at 1 (turn * l.i) turn f q (omega arith) l.invariant next
+    (λ j h. ap (symbol_in m a.words.now) (let z : (a.b + l.i) * turn + j ≡ a.b * turn + (turn * l.i + j) = omega (arith, add-mul a.b l.i turn, mul_comm l.i turn) in z)))
 
 pub shape_of-row : goal.shape_of-row
-shape_of-row c = c.loop-i.invariant.1.long
+shape_of-row g c = c.loop-i.invariant.long
 
 pub returns : goal.returns
-returns c =
-    let l = c.loop-i in
-    let e : l.i ≡ c.args.n = let m = c.loop-i.invariant.0 in omega arith in
-    rw e at l.invariant.1
+returns g c =
+    let e : c.loop-i.i ≡ c.args.n = omega arith in
+    rw e at c.loop-i.invariant

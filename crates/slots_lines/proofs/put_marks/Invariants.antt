@@ -1,6 +1,6 @@
 use mathlib.Core.Path.{◌≡◌}
 use mathlib.Core.List.{List}
-use Prim.Native.Nat.{ℕ, ◌+◌, ◌-◌, ◌*◌, ◌≤◌}
+use Prim.Native.Nat.{ℕ, ◌+◌, ◌*◌, ◌≤◌}
 use lib.ListN.{length}
 use Rattle.channel.specs.Channel.{unit}
 use Rattle.slots_moves.specs.Inner.{Holds, front}
@@ -9,6 +9,3 @@ use Rattle.slots_lines.proofs.put_marks.Given as goal
 abbrev pub invariant-loop-k : goal.invariant-loop-k
 invariant-loop-k l =
     (l.k ≤ l.markers) × (length l.slots ≡ length l.initial.slots) × ((word : ℕ → List ℕ) (end : ℕ) → Holds l.p (front l.p word (l.line * unit l.p.layout)) end l.initial.slots → Holds l.p (front l.p word (l.line * unit l.p.layout + l.k)) end l.slots)
-
-abbrev pub decreases-loop-k : goal.decreases-loop-k
-decreases-loop-k l = l.markers - l.k

@@ -4,12 +4,10 @@ use mathlib.Core.List.{List}
 use Prim.Native.Nat.{ℕ, ◌+◌, ◌-◌, ◌*◌, ◌%◌, ◌≤◌, ◌<◌}
 use native.Mathlib.Omega.{arith}
 use native.Mathlib.Nat.{add-mod_right}
-use Rattle.bits.proofs.Laws.Window.{lesser_min}
 use Rattle.bits.specs.Pack.{piece}
 use Rattle.sizes.specs.Sizes.{word_bytes}
 use Rattle.channel.specs.Inner.{delay}
 use Rattle.channel.proofs.Laws.Symbols.{data_inside}
-use Rattle.channel.specs.Channel.{total}
 use Rattle.slots.proofs.Laws.Slots.{placed_below}
 use Rattle.slots.specs.Writing.{data_symbol}
 use Rattle.slots_lines.specs.Inner.{stride}
@@ -91,16 +89,16 @@ overflow_add-last c =
     let z = sizes s.args.p s.requires.0.given.fine s.args.line s.args.r s.requires.1.inside in
     let p = c.args.p in
     let d : ℕ = delay p.layout (s.args.r % p.layout.rows) in
-    let e : c.least-end.result ≡ _ = c.least-end.ensures ∙ lesser_min (s.args.line * p.layout.symbols + p.layout.symbols) (d + total p.layout) in
+    let e : c.min-end.result ≡ _ = c.min-end.ensures in
     omega (arith, z)
 
-pub overflow_add-s : goal.overflow_add-s
-overflow_add-s c =
+pub overflow_add-first : goal.overflow_add-first
+overflow_add-first c =
     let s = c in
     let z = sizes s.args.p s.requires.0.given.fine s.args.line s.args.r s.requires.1.inside in
     let n = c.stride_of-n.ensures in
     let first = c.first_place.ensures in
-    let most = c.most.ensures in
+    let most = c.max.ensures in
     omega (arith, z, first, most)
 
 pub loop-s-init : goal.loop-s-init
@@ -114,15 +112,15 @@ loop-s-init c =
     let res : c.first_place.result % stride p.layout.rows ≡ s.args.r = ap (λ (m : ℕ). c.first_place.result % m) (sym n) ∙ first.0 in
     let near : c.first_place.result < s.args.line * p.layout.symbols + stride p.layout.rows = omega (arith, z, first) in
     let w : ℕ → List ℕ = piece word_bytes s.args.words.now in
-    let at = residue_first p w s.args.line f s.args.r s.requires.1.small c.most.result c.first_place.result res first.1 c.most.ensures in
+    let at = residue_first p w s.args.line f s.args.r s.requires.1.small c.max.result c.first_place.result res first.1 c.max.ensures in
     let k : ℕ = s.args.line * p.layout.markers + p.layout.markers in
-    let on : c.most.result ≡ k + c.most.result - k = omega (arith, z, first) in (
+    let on : c.max.result ≡ k + c.max.result - k = omega (arith, z, first) in (
       ap (λ (y : ℕ). y % stride p.layout.rows) (sym on) ∙ at.0,
       omega (arith, z, first),
       omega (arith, z, first),
       refl,
       λ e h. rw on at (holds_same p _ _ e _
-          (residue_begun p w s.args.line f s.args.r s.requires.1.small c.most.result c.first_place.result res near c.most.ensures) h),
+          (residue_begun p w s.args.line f s.args.r s.requires.1.small c.max.result c.first_place.result res near c.max.ensures) h),
       omega (arith, z, first),
     )
 
@@ -142,7 +140,7 @@ data_at-q-requires c =
     let x : ℕ = l.s - k in
     let above : k ≤ l.s = l.invariant.5 in
     let d : ℕ = delay p.layout (s.args.r % p.layout.rows) in
-    let e : c.least-end.result ≡ _ = c.least-end.ensures ∙ lesser_min (s.args.line * p.layout.symbols + p.layout.symbols) (d + total p.layout) in
+    let e : c.min-end.result ≡ _ = c.min-end.ensures in
     let f = c.requires.0.given.fine in
     let inside = data_inside p.bits p.layout f.symbols_are (l.s - (k + d)) (omega (arith, z)) in
     let least = c.requires.0.given.fine.bits_least in
@@ -163,40 +161,12 @@ move_symbol-requires c =
     let x : ℕ = l.s - k in
     let above : k ≤ l.s = l.invariant.5 in
     let d : ℕ = delay p.layout (s.args.r % p.layout.rows) in
-    let e : c.least-end.result ≡ _ = c.least-end.ensures ∙ lesser_min (s.args.line * p.layout.symbols + p.layout.symbols) (d + total p.layout) in
+    let e : c.min-end.result ≡ _ = c.min-end.ensures in
     let f = c.requires.0.given.fine in
     let w : ℕ → List ℕ = piece word_bytes s.args.words.now in
     let less : l.s - (k + d) ≡ x - d = omega (arith, z) in
     let q : c.data_at-q.result < p.group = rw (c.data_at-q.ensures p.layout f.symbols_are ∙ ap (data_symbol p w) less ∙ sym (placed_at p f w s.args.r x l.invariant.0 (omega (arith, z)) (omega (arith, z)))) (let b = placed_below p f w x in omega (arith, z)) in
     copied p f l.s c.data_at-q.result l.slots (l.invariant.3 ∙ s.requires.0.room) (omega (arith, z)) q
-
-pub overflow_add-s-in-loop-s : goal.overflow_add-s-in-loop-s
-overflow_add-s-in-loop-s c =
-    let s = c in
-    let z = sizes s.args.p s.requires.0.given.fine s.args.line s.args.r s.requires.1.inside in
-    let t = c.loop-s-test.true in
-    let i1 = c.loop-s.invariant.1 in
-    let i2 = c.loop-s.invariant.2 in
-    let l = c.loop-s in
-    let p = c.args.p in
-    let k : ℕ = s.args.line * p.layout.markers + p.layout.markers in
-    let x : ℕ = l.s - k in
-    let above : k ≤ l.s = l.invariant.5 in
-    let d : ℕ = delay p.layout (s.args.r % p.layout.rows) in
-    let e : c.least-end.result ≡ _ = c.least-end.ensures ∙ lesser_min (s.args.line * p.layout.symbols + p.layout.symbols) (d + total p.layout) in
-    let n = c.stride_of-n.ensures in
-    omega (arith, z)
-
-pub loop-s-smaller : goal.loop-s-smaller
-loop-s-smaller c =
-    let s = c in
-    let z = sizes s.args.p s.requires.0.given.fine s.args.line s.args.r s.requires.1.inside in
-    let t = c.loop-s-test.true in
-    let i1 = c.loop-s.invariant.1 in
-    let i2 = c.loop-s.invariant.2 in
-    let above = c.loop-s.invariant.5 in
-    let n = c.stride_of-n.ensures in
-    omega (arith, z)
 
 pub loop-s-preserved : goal.loop-s-preserved
 loop-s-preserved c =
@@ -211,7 +181,7 @@ loop-s-preserved c =
     let x : ℕ = l.s - k in
     let above : k ≤ l.s = l.invariant.5 in
     let d : ℕ = delay p.layout (s.args.r % p.layout.rows) in
-    let e : c.least-end.result ≡ _ = c.least-end.ensures ∙ lesser_min (s.args.line * p.layout.symbols + p.layout.symbols) (d + total p.layout) in
+    let e : c.min-end.result ≡ _ = c.min-end.ensures in
     let n : c.stride_of-n.result ≡ stride p.layout.rows = c.stride_of-n.ensures in
     let f = c.requires.0.given.fine in
     let w : ℕ → List ℕ = piece word_bytes s.args.words.now in
@@ -242,7 +212,32 @@ returns c =
     let x : ℕ = l.s - k in
     let above : k ≤ l.s = l.invariant.5 in
     let d : ℕ = delay p.layout (s.args.r % p.layout.rows) in
-    let e : c.least-end.result ≡ _ = c.least-end.ensures ∙ lesser_min (s.args.line * p.layout.symbols + p.layout.symbols) (d + total p.layout) in
+    let e : c.min-end.result ≡ _ = c.min-end.ensures in
     let f = c.requires.0.given.fine in
     let w : ℕ → List ℕ = piece word_bytes s.args.words.now in
-    λ v h. holds_same p _ _ v l.slots (residue_ended p w s.args.line f s.args.r s.requires.1.small x c.least-end.result e (omega (arith, z))) (l.invariant.4 v h)
+    λ v h. holds_same p _ _ v l.slots (residue_ended p w s.args.line f s.args.r s.requires.1.small x c.min-end.result e (omega (arith, z))) (l.invariant.4 v h)
+
+pub returns-2 : goal.returns-2
+returns-2 c =
+    let s = c in
+    let z = sizes s.args.p s.requires.0.given.fine s.args.line s.args.r s.requires.1.inside in
+    let t = c.loop-s-test.true in
+    let i1 = c.loop-s.invariant.1 in
+    let i2 = c.loop-s.invariant.2 in
+    let l = c.loop-s in
+    let p = c.args.p in
+    let k : ℕ = s.args.line * p.layout.markers + p.layout.markers in
+    let x : ℕ = l.s - k in
+    let above : k ≤ l.s = l.invariant.5 in
+    let d : ℕ = delay p.layout (s.args.r % p.layout.rows) in
+    let e : c.min-end.result ≡ _ = c.min-end.ensures in
+    let n : c.stride_of-n.result ≡ stride p.layout.rows = c.stride_of-n.ensures in
+    let f = c.requires.0.given.fine in
+    let w : ℕ → List ℕ = piece word_bytes s.args.words.now in
+    let o = c.move_symbol in
+    let less : l.s - (k + d) ≡ x - d = omega (arith, z) in
+    let q : c.data_at-q.result ≡ _ = c.data_at-q.ensures p.layout f.symbols_are ∙ ap (data_symbol p w) less ∙ sym (placed_at p f w s.args.r x l.invariant.0 (omega (arith, z)) (omega (arith, z))) in
+    let low : c.data_at-q.result < p.group = rw q (let b = placed_below p f w x in omega (arith, z)) in
+    let moved = o.ensures p (of p f l.s c.data_at-q.result (omega (arith, z)) low) in
+    λ v h. holds_same p _ _ v o.new.slots (residue_ended p w s.args.line f s.args.r s.requires.1.small (x + stride p.layout.rows) c.min-end.result e (omega (arith, z)))
+    (residue_more p w s.args.line f s.args.r s.requires.1.small x l.s c.data_at-q.result v l.slots o.new.slots l.invariant.0 l.invariant.1 (omega (arith, z)) (omega (arith, z)) q (l.invariant.4 v h) moved)

@@ -11,6 +11,3 @@ abbrev pub invariant-loop-s : goal.invariant-loop-s
 invariant-loop-s l =
     ((l.s - l.skip) % stride l.p.layout.rows ≡ l.r) × (l.line * l.p.layout.symbols ≤ l.s - l.skip) × (l.delay + l.r ≤ l.s - l.skip) × (length l.slots ≡ length l.initial.slots)
     × ((e : ℕ) → Holds l.p (so_far l.p (piece word_bytes l.words) l.line l.r 0) e l.initial.slots → Holds l.p (so_far l.p (piece word_bytes l.words) l.line l.r (l.s - l.skip)) e l.slots) × (l.skip ≤ l.s)
-
-abbrev pub decreases-loop-s : goal.decreases-loop-s
-decreases-loop-s l = l.last - l.s

@@ -2,7 +2,6 @@
 use mathlib.Core.Path.{◌≡◌, refl, sym, ap, ◌∙◌}
 use Prim.Native.Nat.{ℕ, ◌+◌, ◌*◌, ◌%◌, ◌≤◌, ◌<◌}
 use native.Mathlib.Omega.{arith}
-use Rattle.bits.proofs.Laws.Window.{lesser_min}
 use Rattle.bits.specs.Pack.{piece}
 use Rattle.channel.specs.Inner.{delay}
 use Rattle.slots_lines.specs.Inner.{stride}
@@ -56,8 +55,8 @@ loop-r-init c =
     let p = c.args.p in
     let word = piece word_bytes s.args.words.now in
     let from = c.residues_from-from in
-    let least = c.least-r in
-    let l = least.ensures ∙ lesser_min from.result c.residues_to-to.result in (
+    let least = c.min-r in
+    let l = least.ensures in (
       omega arith,
       refl,
       λ e h. holds_same p _ _ e _ (λ x. line_begun p word s.args.line x ∙ residues_late p word s.args.line s.requires.0.given.fine least.result x (λ r k. from.ensures r (omega arith))) h,

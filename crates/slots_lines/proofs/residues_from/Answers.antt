@@ -12,13 +12,13 @@ pub overflow_mul-step : goal.overflow_mul-step
 overflow_mul-step c = let h = c.requires in let m : c.args.step * c.args.rows ≤ 256 * 128 = mul-le-mul h.1 h.0 in omega arith
 
 pub nonzero_div-result : goal.nonzero_div-result
-nonzero_div-result c = let e = c.most.ensures in omega arith
+nonzero_div-result c = let e = c.max.ensures in omega arith
 
 pub overflow_add-result : goal.overflow_add-result
 overflow_add-result c =
     let a = c.args in
-    let m : ℕ = c.most.result in
-    let e : m ≡ max (a.step * a.rows) 1 = c.most.ensures in
+    let m : ℕ = c.max.result in
+    let e : m ≡ max (a.step * a.rows) 1 = c.max.ensures in
     let q : ℕ = (a.start - a.total) / m in
     let d = div-add-mod' (a.start - a.total) m in
     let one : 1 ≤ m = omega arith in
@@ -30,8 +30,8 @@ pub returns : goal.returns
 returns c r l =
     let s = c in
     let a = c.args in
-    let m : ℕ = c.most.result in
-    let e : m ≡ max (a.step * a.rows) 1 = c.most.ensures in
+    let m : ℕ = c.max.result in
+    let e : m ≡ max (a.step * a.rows) 1 = c.max.ensures in
     let q : ℕ = (a.start - a.total) / m in
     let d = div-add-mod' (a.start - a.total) m in
     let u = div-add-mod' r a.rows in

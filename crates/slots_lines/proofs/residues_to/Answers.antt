@@ -1,9 +1,8 @@
 -- A residue r below N comes r · B · N places late.
-use mathlib.Core.Path.{◌≡◌, ◌∙◌}
+use mathlib.Core.Path.{◌≡◌}
 use Prim.Native.Nat.{ℕ, ◌+◌, ◌-◌, ◌*◌, ◌/◌, ◌%◌, ◌≤◌, ◌<◌}
 use native.Mathlib.Omega.{arith}
 use native.Mathlib.Nat.{le_refl, mul-le-mul, mod-lt, mod-eq_of_lt, div-add-mod'}
-use Rattle.bits.proofs.Laws.Window.{lesser_min}
 use Rattle.slots_lines.proofs.residues_to.Goals as goal
 
 pub overflow_mul-back : goal.overflow_mul-back
@@ -11,9 +10,6 @@ overflow_mul-back c = let h = c.requires in let m : c.args.step * c.args.rows �
 
 pub returns-then-n-rows : goal.returns-then-n-rows
 returns-then-n-rows c = (omega arith, λ r a l. absurd (omega arith))
-
-pub returns-then-back-eq0 : goal.returns-then-back-eq0
-returns-then-back-eq0 c = (omega arith, λ r a l. absurd (omega arith))
 
 pub overflow_sub-end : goal.overflow_sub-end
 overflow_sub-end c = let h = c.requires.2 in omega arith
@@ -38,7 +34,7 @@ returns c =
     let a = c.args in
     let back : ℕ = a.step * a.rows in
     let q : ℕ = (a.end - 1) / back in
-    let e = c.least.ensures ∙ lesser_min a.n (q + 1) in
+    let e = c.min.ensures in
     let all : a.n ≡ a.rows = c.if-n-rows.false in
     let some : 0 < back = let z = c.if-back-eq0.false in omega arith in
     let one = c.requires.2 in (

@@ -9,7 +9,6 @@ use native.Mathlib.Nat.{le_refl, mul-le-mul, mod-lt, div-add-mod', div-lt_iff_lt
 use Rattle.bits.proofs.Laws.Choice.{lt_or_le}
 use Rattle.bits.specs.Basics.{up_to}
 use Rattle.bits.proofs.Laws.First.{found, part_fails, part_passes}
-use Rattle.bits.proofs.Laws.Window.{lesser_min}
 use Rattle.channel.proofs.Laws.Markers.{line_in}
 use Rattle.channel.specs.Channel.{unit, layout_symbols, rest_zero}
 use Rattle.slots.proofs.Laws.Bounds.{Bounds, bounds}
@@ -59,7 +58,7 @@ take_line-r-requires c =
     let some = c.requires.1 in
     let r = (known c.args.p c.args.row.now c.args.from c.args.to c.args.words.now c.requires) in
     let p = c.args.p in
-    let e = c.least-mid.ensures ∙ lesser_min s.args.to (s.args.from / unit p.layout * unit p.layout + unit p.layout) in
+    let e = c.min-mid.ensures in
     let most = c.requires.0.most in
     let near = c.requires.0.near in
     (record { fine = h.fine; start = le_refl s.args.from; order = omega arith; most = omega arith; near = omega arith; room = let room = c.requires.0.room in omega arith; small = λ k l. h.small k (omega arith) }, r.1, r.2, omega arith, s.requires.2)
@@ -70,17 +69,14 @@ returns-then-r-mid c =
     let a = c.args in
     let r = (known c.args.p c.args.row.now c.args.from c.args.to c.args.words.now c.requires) in
     let some = c.requires.1 in
-    let least = c.least-mid in
+    let least = c.min-mid in
     let first = c.take_line-r in
-    let e = least.ensures ∙ lesser_min a.to (a.from / unit a.p.layout * unit a.p.layout + unit a.p.layout) in
+    let e = least.ensures in
     let l : first.result < least.result = c.if-r-mid.true in
     record {
       first = λ b row took. part_fails (rest_zero a.p.layout (pooled_in a.p b)) a.from least.result a.to first.result (omega arith) (omega arith) (first.ensures.first b (part row (omega arith)) took) l;
       took = λ b row took q. absurd (omega arith);
     }
-
-pub overflow_add-line : goal.overflow_add-line
-overflow_add-line c = let r = (known c.args.p c.args.row.now c.args.from c.args.to c.args.words.now c.requires) in omega arith
 
 pub take_line-requires : goal.take_line-requires
 take_line-requires c =
@@ -90,8 +86,8 @@ take_line-requires c =
     let r = (known c.args.p c.args.row.now c.args.from c.args.to c.args.words.now c.requires) in
     let p = c.args.p in
     let line : ℕ = s.args.from / unit p.layout in
-    let least = c.least-mid in
-    let e = least.ensures ∙ lesser_min s.args.to (line * unit p.layout + unit p.layout) in
+    let least = c.min-mid in
+    let e = least.ensures in
     let most = c.requires.0.most in
     let near = c.requires.0.near in
     let left : least.result ≤ c.take_line-r.result = c.if-r-mid.false in
@@ -106,10 +102,10 @@ returns-then-mid-to c =
     let a = c.args in
     let r = (known c.args.p c.args.row.now c.args.from c.args.to c.args.words.now c.requires) in
     let some = c.requires.1 in
-    let least = c.least-mid in
+    let least = c.min-mid in
     let first = c.take_line-r in
     let second = c.take_line in
-    let e = least.ensures ∙ lesser_min a.to (a.from / unit a.p.layout * unit a.p.layout + unit a.p.layout) in
+    let e = least.ensures in
     let left : least.result ≤ first.result = c.if-r-mid.false in
     let half : (b : List ℕ) → Row a.p b a.from a.to a.row.now → Took a.p b a.from a.words.now → Took a.p b least.result _ = λ b row took. first.ensures.took b (part row (omega arith)) took left in
     record {
@@ -124,9 +120,9 @@ returns c =
     let a = c.args in
     let r = (known c.args.p c.args.row.now c.args.from c.args.to c.args.words.now c.requires) in
     let some = c.requires.1 in
-    let least = c.least-mid in
+    let least = c.min-mid in
     let first = c.take_line-r in
-    let e = least.ensures ∙ lesser_min a.to (a.from / unit a.p.layout * unit a.p.layout + unit a.p.layout) in
+    let e = least.ensures in
     let same : least.result ≡ a.to = let l = c.if-mid-to.false in omega arith in
     let left : least.result ≤ first.result = c.if-r-mid.false in
     record {

@@ -53,34 +53,28 @@ one p row' base line from' to words' asked words after at delay r b row from fir
     took_at p h.0.fine b words line at delay _ r after first (omega arith) e same placed (rw m at took)
 
 pub overflow_mul-total : goal.overflow_mul-total
-overflow_mul-total c = let r = (known c.args.p c.args.row.now c.args.base c.args.line c.args.from c.args.to c.args.words.now c.requires) in omega arith
+overflow_mul-total c = let r = (known c.args.p c.args.row.now c.args.part.base c.args.part.line c.args.part.from c.args.part.to c.args.words.now c.requires) in omega arith
 
 pub overflow_mul-back : goal.overflow_mul-back
-overflow_mul-back c = let r = (known c.args.p c.args.row.now c.args.base c.args.line c.args.from c.args.to c.args.words.now c.requires) in omega arith
+overflow_mul-back c = let r = (known c.args.p c.args.row.now c.args.part.base c.args.part.line c.args.part.from c.args.part.to c.args.words.now c.requires) in omega arith
 
 pub overflow_mul-wrap : goal.overflow_mul-wrap
-overflow_mul-wrap c = let r = (known c.args.p c.args.row.now c.args.base c.args.line c.args.from c.args.to c.args.words.now c.requires) in omega arith
+overflow_mul-wrap c = let r = (known c.args.p c.args.row.now c.args.part.base c.args.part.line c.args.part.from c.args.part.to c.args.words.now c.requires) in omega arith
 
 pub overflow_mul-skip : goal.overflow_mul-skip
-overflow_mul-skip c = let r = (known c.args.p c.args.row.now c.args.base c.args.line c.args.from c.args.to c.args.words.now c.requires) in omega arith
+overflow_mul-skip c = let r = (known c.args.p c.args.row.now c.args.part.base c.args.part.line c.args.part.from c.args.part.to c.args.words.now c.requires) in omega arith
 
 pub overflow_add-skip : goal.overflow_add-skip
-overflow_add-skip c = let r = (known c.args.p c.args.row.now c.args.base c.args.line c.args.from c.args.to c.args.words.now c.requires) in omega arith
-
-pub overflow_mul-line : goal.overflow_mul-line
-overflow_mul-line c = let r = (known c.args.p c.args.row.now c.args.base c.args.line c.args.from c.args.to c.args.words.now c.requires) in omega arith
-
-pub overflow_add-line : goal.overflow_add-line
-overflow_add-line c = let r = (known c.args.p c.args.row.now c.args.base c.args.line c.args.from c.args.to c.args.words.now c.requires) in omega arith
+overflow_add-skip c = let r = (known c.args.p c.args.row.now c.args.part.base c.args.part.line c.args.part.from c.args.part.to c.args.words.now c.requires) in omega arith
 
 pub overflow_sub-delay : goal.overflow_sub-delay
-overflow_sub-delay c = let e = c.most-s.ensures in omega arith
+overflow_sub-delay c = let e = c.max-first.ensures in omega arith
 
 pub nonzero_rem-delay : goal.nonzero_rem-delay
 nonzero_rem-delay c = c.requires.0.fine.rows_least
 
 pub overflow_mul-delay : goal.overflow_mul-delay
-overflow_mul-delay c = let s = c in let d = (late c.args.p c.args.row.now c.args.base c.args.line c.args.from c.args.to c.args.words.now c.requires) (c.most-s.result - (s.args.line * s.args.p.layout.markers + s.args.p.layout.markers)) in omega arith
+overflow_mul-delay c = let s = c in let d = (late c.args.p c.args.row.now c.args.part.base c.args.part.line c.args.part.from c.args.part.to c.args.words.now c.requires) (c.max-first.result - (s.args.part.line * s.args.p.layout.markers + s.args.p.layout.markers)) in omega arith
 
 pub loop-s-init : goal.loop-s-init
 loop-s-init c =
@@ -90,14 +84,14 @@ loop-s-init c =
     let h = c.requires in
     let low = c.requires.2 in
     let order = c.requires.0.order in
-    let e = c.most-s.ensures in (
+    let e = c.max-first.ensures in (
       omega arith,
       omega arith,
       refl,
       refl,
       λ b row took. (
-        λ k g l m. rest_else p.layout a.line (pooled_in p b) k (omega arith) (omega arith),
-        took_marks p h.0.fine b a.words.now a.line a.from _ (omega arith) low (λ q. omega arith) took,
+        λ k g l m. rest_else p.layout a.part.line (pooled_in p b) k (omega arith) (omega arith),
+        took_marks p h.0.fine b a.words.now a.part.line a.part.from _ (omega arith) low (λ q. omega arith) took,
       ),
     )
 
@@ -113,8 +107,8 @@ overflow_cast-q c =
     let l = c.loop-s in
     let from = c.loop-s.invariant.0 in
     let start = c.requires.0.start in
-    let small = s.requires.0.small (l.s - s.args.base) (let t = c.loop-s-test.true in omega arith) in
-    let r = (known c.args.p c.args.row.now c.args.base c.args.line c.args.from c.args.to c.args.words.now c.requires) in
+    let small = s.requires.0.small (l.s - s.args.part.base) (let t = c.loop-s-test.true in omega arith) in
+    let r = (known c.args.p c.args.row.now c.args.part.base c.args.part.line c.args.part.from c.args.part.to c.args.words.now c.requires) in
     record { fits = omega arith }
 
 pub overflow_sub-s : goal.overflow_sub-s
@@ -130,10 +124,10 @@ take_place-requires c =
     let from = c.loop-s.invariant.0 in
     let start = c.requires.0.start in
     let long = c.loop-s.invariant.3 in
-    λ t hit. puts p h.0.fine l.words t _ hit (h.0.small (l.s - s.args.base) (omega arith)) (let room = c.requires.4 in omega arith)
+    λ t hit. puts p h.0.fine l.words t _ hit (h.0.small (l.s - s.args.part.base) (omega arith)) (let room = c.requires.4 in omega arith)
 
-pub returns-then-take_place-eq0 : goal.returns-then-take_place-eq0
-returns-then-take_place-eq0 c =
+pub returns-then-not-take_place : goal.returns-then-not-take_place
+returns-then-not-take_place c =
     let s = c in
     let a = c.args in
     let p = c.args.p in
@@ -145,17 +139,17 @@ returns-then-take_place-eq0 c =
       first = λ b row took.
           let i = l.invariant.4 b row took in
           let t : ℕ → Bool = rest_zero p.layout (pooled_in p b) in
-          let here : t l.s ≡ false = bool_no (t l.s) (sym ((one c.args.p c.args.row.now c.args.base c.args.line c.args.from c.args.to c.args.words.now c.requires) l.words _ l.s l.delay _ b row l.invariant.0 first g l.invariant.2 c.take_place.ensures i.1).0 ∙ c.if-take_place-eq0.true) in
-          sym (found_at t a.from a.to l.s l.invariant.0 g (λ k f m. i.0 k f m (omega arith)) here);
+          let here : t l.s ≡ false = bool_no (t l.s) (sym ((one c.args.p c.args.row.now c.args.part.base c.args.part.line c.args.part.from c.args.part.to c.args.words.now c.requires) l.words _ l.s l.delay _ b row l.invariant.0 first g l.invariant.2 c.take_place.ensures i.1).0 ∙ ap bool c.if-not-take_place.true) in
+          sym (found_at t a.part.from a.part.to l.s l.invariant.0 g (λ k f m. i.0 k f m (omega arith)) here);
       took = λ b row took q. absurd (omega arith);
     }
 
 pub next_delay-delay-requires : goal.next_delay-delay-requires
 next_delay-delay-requires c =
     let s = c in
-    let r = (known c.args.p c.args.row.now c.args.base c.args.line c.args.from c.args.to c.args.words.now c.requires) in
+    let r = (known c.args.p c.args.row.now c.args.part.base c.args.part.line c.args.part.from c.args.part.to c.args.words.now c.requires) in
     let e = c.loop-s.invariant.2 in
-    let d = (late c.args.p c.args.row.now c.args.base c.args.line c.args.from c.args.to c.args.words.now c.requires) (c.loop-s.s - (s.args.line * s.args.p.layout.markers + s.args.p.layout.markers)) in
+    let d = (late c.args.p c.args.row.now c.args.part.base c.args.part.line c.args.part.from c.args.part.to c.args.words.now c.requires) (c.loop-s.s - (s.args.part.line * s.args.p.layout.markers + s.args.p.layout.markers)) in
     (omega arith, omega arith)
 
 pub loop-s-preserved : goal.loop-s-preserved
@@ -168,7 +162,7 @@ loop-s-preserved c =
     let o = c.take_place in
     let first = c.loop-s.invariant.1 in
     let from = c.loop-s.invariant.0 in
-    let skip : ℕ = a.line * p.layout.markers + p.layout.markers in
+    let skip : ℕ = a.part.line * p.layout.markers + p.layout.markers in
     let next : l.s - skip + 1 ≡ l.s + 1 - skip = omega arith in (
       omega arith,
       omega arith,
@@ -177,9 +171,9 @@ loop-s-preserved c =
       λ b row took.
           let i = l.invariant.4 b row took in
           let t : ℕ → Bool = rest_zero p.layout (pooled_in p b) in
-          let z = (one c.args.p c.args.row.now c.args.base c.args.line c.args.from c.args.to c.args.words.now c.requires) l.words _ l.s l.delay _ b row from first g l.invariant.2 o.ensures i.1 in
-          let here : t l.s ≡ true = bool_yes (t l.s) (λ q. c.if-take_place-eq0.false (z.0 ∙ q)) in
-          let m : l.s + 1 ≡ min (l.s + 1) a.to = omega arith in
+          let z = (one c.args.p c.args.row.now c.args.part.base c.args.part.line c.args.part.from c.args.part.to c.args.words.now c.requires) l.words _ l.s l.delay _ b row from first g l.invariant.2 o.ensures i.1 in
+          let here : t l.s ≡ true = bool_yes (t l.s) (λ q. absurd (let one : 1 ≡ 0 = ap bool (sym c.if-not-take_place.false) ∙ z.0 ∙ q in omega arith)) in
+          let m : l.s + 1 ≡ min (l.s + 1) a.part.to = omega arith in
           (λ k f u n. ⊎_elim (λ (q : k ≡ l.s). ap t q ∙ here) (λ (q : k ≡ l.s → ⊥). i.0 k f (omega arith) n) (eq_or_ne k l.s), rw m at z.1),
     )
 
@@ -190,8 +184,8 @@ returns c =
     let h = c.requires in
     let l = c.loop-s in
     let g = c.loop-s-test.false in
-    let m : min l.s a.to ≡ a.to = omega arith in
+    let m : min l.s a.part.to ≡ a.part.to = omega arith in
     record {
-      first = λ b row took. sym (found_none (rest_zero a.p.layout (pooled_in a.p b)) a.from a.to h.0.order (λ k f q. (l.invariant.4 b row took).0 k f (omega arith) q));
+      first = λ b row took. sym (found_none (rest_zero a.p.layout (pooled_in a.p b)) a.part.from a.part.to h.0.order (λ k f q. (l.invariant.4 b row took).0 k f (omega arith) q));
       took = λ b row took q. rw m at (l.invariant.4 b row took).1;
     }

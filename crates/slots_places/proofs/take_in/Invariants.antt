@@ -12,8 +12,5 @@ use Rattle.slots_places.proofs.take_in.Given as goal
 
 abbrev pub invariant-loop-s : goal.invariant-loop-s
 invariant-loop-s l =
-    (l.from ≤ l.s) × (l.line * unit l.p.layout + l.p.layout.markers ≤ l.s) × (l.delay ≡ places.delay l.p.layout ((l.s - l.skip) % l.p.layout.rows)) × (length l.words ≡ length l.initial.words)
-    × ((b : List ℕ) → Row l.p b l.base l.to l.row → Took l.p b l.from l.initial.words → ((k : ℕ) → l.from ≤ k → k < l.s → k < l.to → rest_zero l.p.layout (pooled_in l.p b) k ≡ true) × Took l.p b (min l.s l.to) l.words)
-
-abbrev pub decreases-loop-s : goal.decreases-loop-s
-decreases-loop-s l = l.to - l.s
+    (l.part.from ≤ l.s) × (l.part.line * unit l.p.layout + l.p.layout.markers ≤ l.s) × (l.delay ≡ places.delay l.p.layout ((l.s - l.skip) % l.p.layout.rows)) × (length l.words ≡ length l.initial.words)
+    × ((b : List ℕ) → Row l.p b l.part.base l.part.to l.row → Took l.p b l.part.from l.initial.words → ((k : ℕ) → l.part.from ≤ k → k < l.s → k < l.part.to → rest_zero l.p.layout (pooled_in l.p b) k ≡ true) × Took l.p b (min l.s l.part.to) l.words)

@@ -34,21 +34,21 @@ take_full-requires c =
     let s = c in
     let a = c.args in
     let h = c.requires in
-    let r = (known c.args.p c.args.row.now c.args.base c.args.line c.args.from c.args.to c.args.words.now c.requires) c.most-s.result c.most-end.result c.most-s.ensures c.most-end.ensures in
+    let r = (known c.args.p c.args.row.now c.args.part.base c.args.part.line c.args.part.from c.args.part.to c.args.words.now c.requires) c.max-s.result c.max-end.result c.max-s.ensures c.max-end.ensures in
     let hit = c.full.ensures c.if-full.true in
     let start = c.requires.0.start in
     let low = r.1 in
     let some = hit.0 in
-    let all : c.most-end.result ≡ a.to = r.3 (omega arith) in
-    let last : ℕ = c.most-end.result in
-    let first : ℕ = c.most-s.result in (
+    let all : c.max-end.result ≡ a.part.to = r.3 (omega arith) in
+    let last : ℕ = c.max-end.result in
+    let first : ℕ = c.max-s.result in (
       record {
         fine = h.0.fine;
         order = omega arith;
         room = let room = c.requires.0.room in omega arith;
         bound = let most = c.requires.0.most in let k = r.0 in omega arith;
         begun = hit.1;
-        end = rw (along first last a.base (a.line * a.p.layout.markers + a.p.layout.markers) (omega arith) (omega arith) (omega arith)) hit.2;
+        end = rw (along first last a.part.base (a.part.line * a.p.layout.markers + a.p.layout.markers) (omega arith) (omega arith) (omega arith)) hit.2;
         small = λ i f l. h.0.small i (omega arith);
       },
       h.4,
@@ -60,29 +60,29 @@ returns-then-full c =
     let a = c.args in
     let p = c.args.p in
     let h = c.requires in
-    let first : ℕ = c.most-s.result in
-    let last : ℕ = c.most-end.result in
-    let r = (known c.args.p c.args.row.now c.args.base c.args.line c.args.from c.args.to c.args.words.now c.requires) first last c.most-s.ensures c.most-end.ensures in
+    let first : ℕ = c.max-s.result in
+    let last : ℕ = c.max-end.result in
+    let r = (known c.args.p c.args.row.now c.args.part.base c.args.part.line c.args.part.from c.args.part.to c.args.words.now c.requires) first last c.max-s.ensures c.max-end.ensures in
     let hit = c.full.ensures c.if-full.true in
     let o = c.take_full in
-    let skip : ℕ = a.line * p.layout.markers + p.layout.markers in
+    let skip : ℕ = a.part.line * p.layout.markers + p.layout.markers in
     let start = c.requires.0.start in
     let low = r.1 in
     let some = hit.0 in
     let order : first < last = omega arith in
-    let all : last ≡ a.to = r.3 order in
+    let all : last ≡ a.part.to = r.3 order in
     let end = hit.2 in
     let high = c.requires.3 in
     let down = c.requires.2 in
-    let on : first - skip + (last - a.base - (first - a.base)) ≡ a.to - skip = along first last a.base skip (omega arith) (omega arith) (omega arith) ∙ ap (λ (v : ℕ). v - skip) all in
+    let on : first - skip + (last - a.part.base - (first - a.part.base)) ≡ a.part.to - skip = along first last a.part.base skip (omega arith) (omega arith) (omega arith) ∙ ap (λ (v : ℕ). v - skip) all in
     record {
-      first = λ b row took. sym (found_none (rest_zero p.layout (pooled_in p b)) a.from a.to h.0.order (λ k f l. ⊎_elim
-          (λ (m : k < first). rest_else p.layout a.line (pooled_in p b) k (omega arith) (front k first (a.line * unit p.layout + p.layout.markers) m (r.4 k f m)))
-          (λ (m : first ≤ k). full_right p h.0.fine (pooled_in p b) a.line first a.to low high hit.1 (omega arith) k m l)
+      first = λ b row took. sym (found_none (rest_zero p.layout (pooled_in p b)) a.part.from a.part.to h.0.order (λ k f l. ⊎_elim
+          (λ (m : k < first). rest_else p.layout a.part.line (pooled_in p b) k (omega arith) (front k first (a.part.line * unit p.layout + p.layout.markers) m (r.4 k f m)))
+          (λ (m : first ≤ k). full_right p h.0.fine (pooled_in p b) a.part.line first a.part.to low high hit.1 (omega arith) k m l)
           (lt_or_le k first)));
       took = λ b row took q.
-          let at : Took p b first a.words.now = took_marks p h.0.fine b a.words.now a.line a.from first r.2 down (λ m. r.4 a.from (le_refl a.from) m) took in
-          let shown = rw (sym all) at (shown_row p b a.row.now a.line a.base first a.to row (omega arith) low (omega arith) high) in
-          laid_took p h.0.fine b a.line a.to (omega arith) high _ (let room = c.requires.4 in let long = c.take_full.auto.words in omega arith)
-          (rw on at (o.ensures (at_place p b) shown (took_laid p h.0.fine b a.line first low (omega arith) a.words.now at)));
+          let at : Took p b first a.words.now = took_marks p h.0.fine b a.words.now a.part.line a.part.from first r.2 down (λ m. r.4 a.part.from (le_refl a.part.from) m) took in
+          let shown = rw (sym all) at (shown_row p b a.row.now a.part.line a.part.base first a.part.to row (omega arith) low (omega arith) high) in
+          laid_took p h.0.fine b a.part.line a.part.to (omega arith) high _ (let room = c.requires.4 in let long = c.take_full.auto.words in omega arith)
+          (rw on at (o.ensures (at_place p b) shown (took_laid p h.0.fine b a.part.line first low (omega arith) a.words.now at)));
     }

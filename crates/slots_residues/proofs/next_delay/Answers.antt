@@ -35,8 +35,8 @@ module _ (x n back : ℕ) (least : 1 ≤ n) where
 pub returns-then-next-wrap : goal.returns-then-next-wrap
 returns-then-next-wrap c x n least wrap late = let e = c.if-next-wrap.true in around x n c.args.back least (omega arith)
 
-pub returns : goal.returns
-returns c x n least wrap late =
+pub returns-else-next-wrap : goal.returns-else-next-wrap
+returns-else-next-wrap c x n least wrap late =
     let e = c.if-next-wrap.false in
     let d = further x n c.args.back least (λ q. e (omega arith)) in
     omega arith

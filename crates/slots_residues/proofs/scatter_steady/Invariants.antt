@@ -6,7 +6,4 @@ use Rattle.slots_residues.proofs.scatter_steady.Given as goal
 
 abbrev pub invariant-loop-i : goal.invariant-loop-i
 invariant-loop-i l =
-    (l.from ≤ l.i) × ((l.i - l.from) % l.n ≡ 0) × (l.at ≡ l.m * (l.t + (l.i - l.from)) / 8) × (l.m * (l.t + (l.i - l.from)) % 8 ≡ l.m * l.t % 8) × (l.i - l.from < l.to - l.from + l.n) × (length l.words ≡ length l.initial.words) × Scattered l.row l.from (l.i - l.from) l.n l.m l.t l.initial.words l.words
-
-abbrev pub decreases-loop-i : goal.decreases-loop-i
-decreases-loop-i l = l.to - l.i
+    (l.fn.lane.from ≤ l.i) × ((l.i - l.fn.lane.from) % l.fn.lane.n ≡ 0) × (l.at ≡ l.fn.lane.m * (l.fn.lane.t + (l.i - l.fn.lane.from)) / 8) × (l.fn.lane.m * (l.fn.lane.t + (l.i - l.fn.lane.from)) % 8 ≡ l.fn.lane.m * l.fn.lane.t % 8) × (l.i - l.fn.lane.from < l.fn.lane.to - l.fn.lane.from + l.fn.lane.n) × (length l.words ≡ length l.initial.words) × Scattered l.row l.fn.lane.from (l.i - l.fn.lane.from) l.fn.lane.n l.fn.lane.m l.fn.lane.t l.initial.words l.words

@@ -49,11 +49,11 @@ first_place-first-requires c =
     let end = c.requires.0.end in
     (refl, omega arith, c.stride_of-n.ensures.1, omega arith)
 
-pub overflow_sub-first : goal.overflow_sub-first
-overflow_sub-first c = c.first_place-first.ensures.1
+pub overflow_sub-lane : goal.overflow_sub-lane
+overflow_sub-lane c = c.first_place-first.ensures.1
 
-pub overflow_add-from : goal.overflow_add-from
-overflow_add-from c =
+pub overflow_add-lane : goal.overflow_add-lane
+overflow_add-lane c =
     let s = c in
     let h = c.requires.0 in
     let near = c.first_place-first.ensures.2 in
@@ -62,8 +62,8 @@ overflow_add-from c =
     let bound = c.requires.0.bound in
     omega arith
 
-pub overflow_sub-first-in-loop-r : goal.overflow_sub-first-in-loop-r
-overflow_sub-first-in-loop-r c =
+pub overflow_sub-lane-in-loop-r : goal.overflow_sub-lane-in-loop-r
+overflow_sub-lane-in-loop-r c =
     let s = c in
     let n = c.stride_of-n in
     early s.args.p s.requires.0.fine n.result n.ensures.0 n.ensures.2 s.args.x c.loop-r.r c.first_place-first.result c.loop-r.delay s.requires.0.begun c.first_place-first.ensures.1 c.loop-r.invariant.1
@@ -103,15 +103,6 @@ next_delay-delay-requires c =
     let m : l.r % g.rows < g.rows = mod-lt l.r s.requires.0.fine.rows_least in
     let k : places.delay g (l.r % g.rows) ≤ g.rows * (g.step * g.rows) = mul-le-mul (let q : l.r % g.rows ≤ g.rows = omega arith in q) (le_refl (g.step * g.rows)) in
     (omega arith, omega arith)
-
-pub overflow_add-r : goal.overflow_add-r
-overflow_add-r c =
-    let few = c.stride_of-n.ensures.1 in
-    let more = c.loop-r-test.true in
-    omega arith
-
-pub loop-r-smaller : goal.loop-r-smaller
-loop-r-smaller c = let t = c.loop-r-test.true in omega arith
 
 pub loop-r-preserved : goal.loop-r-preserved
 loop-r-preserved c =

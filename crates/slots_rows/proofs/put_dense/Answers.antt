@@ -1,7 +1,5 @@
 -- Where N is 1, the only residue has all its places in every line.
-use mathlib.Core.Path.{◌∙◌}
 use native.Mathlib.Omega.{arith}
-use Rattle.bits.proofs.Laws.Window.{lesser_min}
 use Rattle.slots_lines.proofs.Laws.Lines as lines
 use Rattle.slots_rows.proofs.put_dense.Goals as goal
 
@@ -30,5 +28,5 @@ put_row-requires-2 c =
     let s = c in
     let to = c.residues_to-to in
     let from = c.residues_from-from in
-    let l = c.least.ensures ∙ lesser_min from.result to.result in
+    let l = c.min.ensures in
     (s.requires.0, s.requires.1, omega arith, to.ensures.0, λ r k. from.ensures r (omega arith), to.ensures.1, s.requires.2)

@@ -1,9 +1,8 @@
 -- The places of the residue that are hit are N apart, and so are their symbols.
-use mathlib.Core.Path.{◌≡◌, ◌∙◌}
+use mathlib.Core.Path.{◌≡◌}
 use Prim.Native.Nat.{ℕ, ◌+◌, ◌-◌, ◌*◌, ◌^◌, ◌≤◌, ◌<◌, min}
 use native.Mathlib.Omega.{arith}
 use native.Mathlib.Nat.{mul-le-mul}
-use Rattle.bits.proofs.Laws.Window.{lesser_min}
 use Rattle.channel.specs.Channel.{total}
 use Rattle.channel.proofs.Laws.Symbols.{data_inside}
 use Rattle.plan.specs.declared.Plan.{Plan}
@@ -65,11 +64,11 @@ gather-requires c =
     let f = c.requires.0.fine in
     let d : ℕ = s.args.r * (p.layout.step * p.layout.rows) in
     let start : ℕ = s.args.line * p.layout.symbols in
-    let x = c.most-x.result in
-    let end = c.least-end.result in
-    let is : end ≡ min (start + p.layout.symbols) (d + total p.layout) = c.least-end.ensures ∙ lesser_min (start + p.layout.symbols) (d + total p.layout) in
+    let x = c.max-x.result in
+    let end = c.min-end.result in
+    let is : end ≡ min (start + p.layout.symbols) (d + total p.layout) = c.min-end.ensures in
     let place = c.first_place.ensures in
-    let first : First p.layout.rows d start s.args.r x = first_hit p.layout.rows p.layout.step start s.args.r c.first_place.result x s.requires.3 place.0 place.1 place.2 c.most-x.ensures in
+    let first : First p.layout.rows d start s.args.r x = first_hit p.layout.rows p.layout.step start s.args.r c.first_place.result x s.requires.3 place.0 place.1 place.2 c.max-x.ensures in
     let late = first.late in
     let here = first.here in
     let all = k.all in
@@ -77,15 +76,15 @@ gather-requires c =
     let long = c.requires.0.long in
     let row = c.requires.4.long in
     let most = k.of_plan.symbols_most in
-    let some = c.places-count.ensures.before in
+    let some = c.places.ensures.before in
     let near = c.first_place.ensures.2 in
-    let top = c.most-x.ensures in
+    let top = c.max-x.ensures in
     let delay = k.late in
     let places = k.places in
     let small = k.small in
     let rows = c.requires.0.fine.rows_most in
-    let many : c.places-count.result ≤ 2 ^ 16 = places_few x end p.layout.rows c.places-count.result start f.rows_least here c.places-count.ensures (omega arith) in
-    let below : (j : ℕ) → j < c.places-count.result → x - d + j * p.layout.rows < total p.layout = λ j l. let b = some j l in omega arith in
+    let many : c.places.result ≤ 2 ^ 16 = places_few x end p.layout.rows c.places.result start f.rows_least here c.places.ensures (omega arith) in
+    let below : (j : ℕ) → j < c.places.result → x - d + j * p.layout.rows < total p.layout = λ j l. let b = some j l in omega arith in
     record {
       bits_least = omega arith;
       bits_most = f.bits_most;
@@ -106,9 +105,9 @@ returns c =
     let f = c.requires.0.fine in
     let d : ℕ = s.args.r * (p.layout.step * p.layout.rows) in
     let start : ℕ = s.args.line * p.layout.symbols in
-    let x = c.most-x.result in
-    let end = c.least-end.result in
-    let is : end ≡ min (start + p.layout.symbols) (d + total p.layout) = c.least-end.ensures ∙ lesser_min (start + p.layout.symbols) (d + total p.layout) in
+    let x = c.max-x.result in
+    let end = c.min-end.result in
+    let is : end ≡ min (start + p.layout.symbols) (d + total p.layout) = c.min-end.ensures in
     let place = c.first_place.ensures in
-    let first : First p.layout.rows d start s.args.r x = first_hit p.layout.rows p.layout.step start s.args.r c.first_place.result x s.requires.3 place.0 place.1 place.2 c.most-x.ensures in
-    row_more p f s.args.words.now s.args.line s.args.r s.requires.3 x end c.places-count.result s.args.row.now c.gather.new.row first is c.places-count.ensures c.gather.ensures s.requires.4
+    let first : First p.layout.rows d start s.args.r x = first_hit p.layout.rows p.layout.step start s.args.r c.first_place.result x s.requires.3 place.0 place.1 place.2 c.max-x.ensures in
+    row_more p f s.args.words.now s.args.line s.args.r s.requires.3 x end c.places.result s.args.row.now c.gather.new.row first is c.places.ensures c.gather.ensures s.requires.4

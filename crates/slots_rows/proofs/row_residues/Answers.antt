@@ -1,5 +1,5 @@
 -- The residues below r are done.
-use mathlib.Core.Path.{◌≡◌, refl, ◌∙◌}
+use mathlib.Core.Path.{◌≡◌, refl}
 use native.Mathlib.Omega.{arith}
 use Rattle.slots_lines.proofs.Laws.Lines as lines
 use Rattle.slots_rows.proofs.row_residues.Goals as goal
@@ -14,25 +14,22 @@ pub nonzero_rem-c : goal.nonzero_rem-c
 nonzero_rem-c c = c.requires.0.fine.rows_least
 
 pub loop-r-init : goal.loop-r-init
-loop-r-init c = let s = c in (omega arith, s.requires.2, refl, s.requires.4)
+loop-r-init c = c.requires.4
 
 pub row_residue-requires : goal.row_residue-requires
 row_residue-requires c =
     let s = c in
     let most = c.requires.3 in
-    (s.requires.0, s.requires.1, refl, omega arith, c.loop-r.invariant.3)
+    (s.requires.0, s.requires.1, refl, omega arith, c.loop-r.invariant)
 
 pub loop-r-preserved : goal.loop-r-preserved
 loop-r-preserved c =
-    let l = c.loop-r in
-    let o = c.row_residue in
-    (omega arith, omega arith, o.auto.row ∙ l.invariant.2, o.ensures)
+    c.row_residue.ensures
 
 pub shape_of-row : goal.shape_of-row
-shape_of-row c = c.loop-r.invariant.2
+shape_of-row c = c.loop-r.auto.row
 
 pub returns : goal.returns
 returns c =
-    let l = c.loop-r in
-    let e : l.r ≡ c.args.to = let m = c.loop-r.invariant.1 in omega arith in
-    rw e at l.invariant.3
+    let e : c.loop-r.r ≡ c.args.to = let m = c.requires.2 in omega arith in
+    rw e at c.loop-r.invariant

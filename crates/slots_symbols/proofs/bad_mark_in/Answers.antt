@@ -3,10 +3,8 @@ use mathlib.Core.Path.{◌≡◌, sym, ap, ◌∙◌}
 use mathlib.Core.Bool.{Bool}
 use Prim.Native.Nat.{ℕ, ◌+◌, ◌*◌, ◌≤◌}
 use native.Mathlib.Omega.{arith}
-use borrow.Author.Rules.{rules}
 use Rattle.bits.specs.Basics.{up_to}
 use Rattle.bits.proofs.Laws.First.{first_on, first_here, first_end}
-use Rattle.bits.proofs.Laws.Choice.{bool_no, bool_yes}
 use Rattle.slots.proofs.Laws.Bounds.{bounds, Bounds}
 use Rattle.slots.specs.Reading.{pooled_in}
 use Rattle.channel.proofs.Laws.Markers.{line_in}
@@ -33,7 +31,7 @@ loop-w-init c =
     let r = (known c.args.p c.args.b.now c.args.line c.requires) in
     let first : ℕ = a.line * unit a.p.layout in
     let e : first + 0 ≡ first = omega arith in
-    (search rules, ap (λ (x : ℕ). up_to (mark_right a.p.layout a.p.marks (pooled_in a.p a.b.now)) x (first + a.p.layout.markers)) e)
+    ap (λ (x : ℕ). up_to (mark_right a.p.layout a.p.marks (pooled_in a.p a.b.now)) x (first + a.p.layout.markers)) e
 
 pub mark_right-requires : goal.mark_right-requires
 mark_right-requires c =
@@ -44,15 +42,15 @@ mark_right-requires c =
 pub overflow_add-result : goal.overflow_add-result
 overflow_add-result c = let r = (known c.args.p c.args.b.now c.args.line c.requires) in omega arith
 
-pub returns-then-mark_right-eq0 : goal.returns-then-mark_right-eq0
-returns-then-mark_right-eq0 c =
+pub returns-then-not-mark_right : goal.returns-then-not-mark_right
+returns-then-not-mark_right c =
     let a = c.args in
     let r = (known c.args.p c.args.b.now c.args.line c.requires) in
     let l = c.loop-w in
     let t : ℕ → Bool = mark_right a.p.layout a.p.marks (pooled_in a.p a.b.now) in
     let first : ℕ = a.line * unit a.p.layout in
     let end : ℕ = first + a.p.layout.markers in
-    sym (first_here t end (first + l.w) (omega arith) (bool_no (t (first + l.w)) (sym c.mark_right.ensures ∙ c.if-mark_right-eq0.true))) ∙ l.invariant.1
+    sym (first_here t end (first + l.w) (omega arith) (sym c.mark_right.ensures ∙ c.if-not-mark_right.true)) ∙ l.invariant
 
 pub loop-w-preserved : goal.loop-w-preserved
 loop-w-preserved c =
@@ -62,12 +60,10 @@ loop-w-preserved c =
     let t : ℕ → Bool = mark_right a.p.layout a.p.marks (pooled_in a.p a.b.now) in
     let first : ℕ = a.line * unit a.p.layout in
     let end : ℕ = first + a.p.layout.markers in
-    let e : first + (l.w + 1) ≡ first + l.w + 1 = omega arith in (
-      search rules,
-      ap (λ (x : ℕ). up_to t x end) e
-          ∙ first_on t end (first + l.w) (omega arith) (bool_yes (t (first + l.w)) (λ z. c.if-mark_right-eq0.false (c.mark_right.ensures ∙ z)))
-          ∙ l.invariant.1,
-    )
+    let e : first + (l.w + 1) ≡ first + l.w + 1 = omega arith in
+    ap (λ (x : ℕ). up_to t x end) e
+    ∙ first_on t end (first + l.w) (omega arith) (sym c.mark_right.ensures ∙ c.if-not-mark_right.false)
+    ∙ l.invariant
 
 pub overflow_add-result-2 : goal.overflow_add-result-2
 overflow_add-result-2 c = let r = (known c.args.p c.args.b.now c.args.line c.requires) in omega arith
@@ -81,4 +77,4 @@ returns c =
     let first : ℕ = a.line * unit a.p.layout in
     let end : ℕ = first + a.p.layout.markers in
     let e : first + l.w ≡ end = omega arith in
-    e ∙ sym (first_end t end (first + l.w) (omega arith) (omega arith)) ∙ l.invariant.1
+    sym (first_end t end (first + l.w) (omega arith) (omega arith)) ∙ l.invariant

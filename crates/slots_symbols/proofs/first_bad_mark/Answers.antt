@@ -1,5 +1,5 @@
 -- The first row with a failure has the first failure, and rows without one are passed.
-use mathlib.Core.Path.{◌≡◌, ap}
+use mathlib.Core.Path.{◌≡◌, sym, ap, ◌∙◌}
 use Prim.Native.Nat.{ℕ, ◌+◌, ◌*◌, ◌≤◌, ◌<◌}
 use native.Mathlib.Omega.{arith}
 use native.Mathlib.Nat.{le_refl, mul-le-mul}
@@ -62,4 +62,4 @@ returns c =
     let l = c.loop-line in
     let p = c.args.p in
     let e : l.line ≡ p.layout.lines = let t = c.loop-line.invariant.turn in omega arith in
-    sought_end _ _ _ _ l.line l.invariant (ap (λ (i : ℕ). i * unit p.layout) e)
+    sym (ap (λ (i : ℕ). i * unit p.layout) e) ∙ sought_end _ _ _ _ l.line l.invariant (ap (λ (i : ℕ). i * unit p.layout) e)

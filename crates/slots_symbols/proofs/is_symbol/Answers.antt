@@ -1,5 +1,7 @@
 -- Sent once, the group holds just that pulse.
-use mathlib.Core.Path.{◌≡◌, sym, ap, ◌∙◌}
+use mathlib.Core.Path.{◌≡◌, refl, sym, ap, ◌∙◌}
+use mathlib.Core.Bool.{Bool, true, false}
+use Rattle.slots.specs.Reading.{pooled_in}
 use Prim.Native.Nat.{ℕ, ◌+◌, ◌≤◌, ◌<◌}
 use native.Mathlib.Omega.{arith}
 use lib.Dec.{eqb}
@@ -14,6 +16,10 @@ use Rattle.slots_symbols.specs.Inner.{Decided}
 use mathlib.Core.List.{List}
 use Rattle.plan.specs.declared.Plan.{Plan}
 use Rattle.slots_symbols.proofs.is_symbol.Goals as goal
+
+is_one : (t : Bool) → eqb (bool t) 1 ≡ t
+is_one true = refl
+is_one false = refl
 
 -- its group lies in the slots
 known : (p : Plan) (b : List ℕ) (s q : ℕ) → (Decided p b s × (q < p.group)) → p.copies ≡ 1 → Held p.order p.group b s
@@ -37,9 +43,9 @@ returns-then-p-eq1 c =
     let one = c.if-p-eq1.true in
     let same = once a.p a.b.now s.requires.0.slots one a.s in
     let small : symbol_in a.p.order a.p.group a.b.now a.s < a.p.order = rw (sym same) s.requires.0.small in
-    c.bit_at.ensures
+    ap (λ (v : ℕ). eqb v 1) (c.bit_at.ensures
     ∙ (group_got a.p.order a.p.group ((known c.args.p c.args.b.now c.args.s c.args.q c.requires) one).of_group.group_least a.b.now a.s small).slot a.q s.requires.1
-    ∙ ap (λ (v : ℕ). bool (eqb a.q v)) (sym same)
+    ∙ ap (λ (v : ℕ). bool (eqb a.q v)) (sym same)) ∙ is_one (eqb a.q (pooled_in a.p a.b.now a.s))
 
 pub pooled-requires : goal.pooled-requires
 pooled-requires c =
@@ -48,4 +54,4 @@ pooled-requires c =
     sent_in s.args.p s.args.b.now s.requires.0.slots (s.args.s + 1) next
 
 pub returns : goal.returns
-returns c = c.same.ensures ∙ ap (λ (v : ℕ). bool (eqb c.args.q v)) c.pooled.ensures
+returns c = ap (eqb c.args.q) c.pooled.ensures

@@ -1,10 +1,9 @@
 -- The pooled symbol is compared with the marker's.
-use mathlib.Core.Path.{sym, ap, ◌∙◌}
+use mathlib.Core.Path.{sym, ◌∙◌}
 use mathlib.Core.List.{List}
 use Prim.Native.Nat.{ℕ, ◌+◌, ◌*◌, ◌≤◌, ◌<◌}
 use native.Mathlib.Omega.{arith}
 use lib.ListN.{get_or}
-use Rattle.bits.specs.Basics.{bool}
 use Rattle.slots.proofs.Laws.Bounds.{Bounds, bounds}
 use Rattle.slots.specs.Reading.{pooled_in}
 use Rattle.channel.proofs.Laws.Markers.{line_in, mark_here}
@@ -40,4 +39,4 @@ returns c =
     let a = c.args in
     let h = c.requires in
     c.is_symbol.ensures
-    ∙ ap bool (sym (mark_here a.p.layout a.line a.p.marks (pooled_in a.p a.b.now) a.w h.2))
+    ∙ sym (mark_here a.p.layout a.line a.p.marks (pooled_in a.p a.b.now) a.w h.2)

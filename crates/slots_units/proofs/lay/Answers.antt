@@ -16,64 +16,56 @@ within per n u l =
     omega arith
 
 pub loop-u-init : goal.loop-u-init
-loop-u-init c = (omega arith, refl, λ copies group z b all. laid_none _ _ _)
+loop-u-init g c = (refl, λ copies group z b all. laid_none _ _ _)
 
 pub overflow_mul-u : goal.overflow_mul-u
-overflow_mul-u c = let h = c.requires.3 in omega arith
+overflow_mul-u g c = let h = c.requires.3 in omega arith
 
 pub overflow_add-at : goal.overflow_add-at
-overflow_add-at c = let h = c.requires.3 in omega arith
-
-pub overflow_mul-per : goal.overflow_mul-per
-overflow_mul-per c =
-    let s = c in
-    let h = c.requires.0 in
-    let k = (within c.args.per c.args.n) c.loop-u.u (omega arith) in
-    omega arith
+overflow_add-at g c = let h = c.requires.3 in omega arith
 
 pub overflow_add-from : goal.overflow_add-from
-overflow_add-from c =
+overflow_add-from g c =
     let s = c in
     let h = c.requires.0 in
-    let k = (within c.args.per c.args.n) c.loop-u.u (omega arith) in
+    let k = (within g.row.PER c.args.n) c.loop-u.u (omega arith) in
     omega arith
 
 pub unit-requires : goal.unit-requires
-unit-requires c =
+unit-requires g c =
     let s = c in
     let h = c.requires.0 in
-    let k = (within c.args.per c.args.n) c.loop-u.u (omega arith) in
+    let k = (within g.row.PER c.args.n) c.loop-u.u (omega arith) in
     (omega arith, s.requires.1, s.requires.2)
 
 pub put_forty-requires : goal.put_forty-requires
-put_forty-requires c =
+put_forty-requires g c =
     let s = c in
     let h = c.requires.3 in
-    let e = c.loop-u.invariant.1 in
+    let e = c.loop-u.invariant.0 in
     omega arith
 
 pub loop-u-preserved : goal.loop-u-preserved
-loop-u-preserved c =
+loop-u-preserved g c =
     let a = c.args in
     let l = c.loop-u in
     let f = c.put_forty in
     let v = c.unit in (
-      omega arith,
-      f.ensures.long ∙ l.invariant.1,
+      f.ensures.long ∙ l.invariant.0,
       λ copies group z b all.
-          let fit : a.per * a.width ≤ 40 = omega arith in
+          let fit : g.row.PER * g.row.WIDTH ≤ 40 = omega arith in
           let on : 5 * l.u + 5 ≡ 5 * (l.u + 1) = omega arith in
-          rw (sym on) (laid_on a.slots.now l.slots f.new.slots a.at (5 * l.u) 5 (row_slot group a.width a.row.now a.from) (λ t. v.result / 2 ^ (39 - t) % 2)
-          (l.invariant.2 copies group z b all) f.ensures
-          (λ t h. unit_bit copies group a.width a.per a.row.now a.from l.u v.result t z.whole (width_some copies group a.width a.zero z) all (v.ensures copies group z b fit) h)),
+          rw (sym on) (laid_on a.slots.now l.slots f.new.slots a.at (5 * l.u) 5 (row_slot group g.row.WIDTH a.row.now a.from) (λ t. v.result / 2 ^ (39 - t) % 2)
+          (l.invariant.1 copies group z b all) f.ensures
+          (λ t h. unit_bit copies group g.row.WIDTH g.row.PER a.row.now a.from l.u v.result t z.whole (width_some copies group g.row.WIDTH a.zero z) all (v.ensures copies group z b fit) h)),
     )
 
 pub shape_of-slots : goal.shape_of-slots
-shape_of-slots c = c.loop-u.invariant.1
+shape_of-slots g c = c.loop-u.invariant.0
 
 pub returns : goal.returns
-returns c copies group z b all =
+returns g c copies group z b all =
     let s = c in
     let l = c.loop-u in
-    let e : l.u ≡ s.args.n = let m = c.loop-u.invariant.0 in omega arith in
-    rw e at (l.invariant.2 copies group z b all)
+    let e : l.u ≡ c.args.n = omega arith in
+    rw e at (l.invariant.1 copies group z b all)

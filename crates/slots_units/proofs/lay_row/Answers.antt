@@ -67,20 +67,6 @@ overflow_sub-whole c =
 pub nonzero_div-whole : goal.nonzero_div-whole
 nonzero_div-whole c = let s = c in let some = c.requires.2 in let e = c.per_forty-per.ensures in omega arith
 
-pub overflow_mul-whole : goal.overflow_mul-whole
-overflow_mul-whole c =
-    let s = c in
-    let k = (few c.args.p c.args.row.now c.args.n c.args.first c.args.slots.now c.requires) in
-    let z = ((sizes c.args.p c.args.row.now c.args.n c.args.first c.args.slots.now c.requires) c.per_forty-per.result c.per_forty-per.ensures).last in
-    omega arith
-
-pub overflow_add-head : goal.overflow_add-head
-overflow_add-head c =
-    let s = c in
-    let k = (few c.args.p c.args.row.now c.args.n c.args.first c.args.slots.now c.requires) in
-    let z = ((sizes c.args.p c.args.row.now c.args.n c.args.first c.args.slots.now c.requires) c.per_forty-per.result c.per_forty-per.ensures).last in
-    omega arith
-
 pub lay_split-requires : goal.lay_split-requires
 lay_split-requires c =
     let s = c in

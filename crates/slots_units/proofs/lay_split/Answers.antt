@@ -50,30 +50,23 @@ part p row first m n r l =
     record { fine = r.fine; inside = omega arith; long = omega arith; small = r.small }
 
 pub zero_of-zero-requires : goal.zero_of-zero-requires
-zero_of-zero-requires c = let k = known c.args.p c.args.row.now c.args.first c.args.n c.args.units c.args.head c.args.whole c.args.last c.requires.0 c.requires.1 in (k.copies_least, k.group_least, k.width_most)
+zero_of-zero-requires c = let k = known c.args.p c.args.row.now c.args.first c.args.n c.args.at.units c.args.at.head c.args.at.whole c.args.at.last c.requires.0 c.requires.1 in (k.copies_least, k.group_least, k.width_most)
 
 pub move_row-requires : goal.move_row-requires
 move_row-requires c =
     let s = c in
-    let k = known c.args.p c.args.row.now c.args.first c.args.n c.args.units c.args.head c.args.whole c.args.last c.requires.0 c.requires.1 in
+    let k = known c.args.p c.args.row.now c.args.first c.args.n c.args.at.units c.args.at.head c.args.at.whole c.args.at.last c.requires.0 c.requires.1 in
     let h = k.head_most in
     let l = k.last_most in
-    (part c.args.p c.args.row.now c.args.first c.args.head c.args.n c.requires.0 (omega arith), omega arith, s.requires.2)
+    (part c.args.p c.args.row.now c.args.first c.args.at.head c.args.n c.requires.0 (omega arith), omega arith, s.requires.2)
 
 pub overflow_mul-copies : goal.overflow_mul-copies
-overflow_mul-copies c = let k = (known c.args.p c.args.row.now c.args.first c.args.n c.args.units c.args.head c.args.whole c.args.last c.requires.0 c.requires.1).width_most in omega arith
-
-pub overflow_mul-units : goal.overflow_mul-units
-overflow_mul-units c =
-    let s = c in
-    let k = (known c.args.p c.args.row.now c.args.first c.args.n c.args.units c.args.head c.args.whole c.args.last c.requires.0 c.requires.1).room in
-    let e = c.requires.2 in
-    omega arith
+overflow_mul-copies c = let k = (known c.args.p c.args.row.now c.args.first c.args.n c.args.at.units c.args.at.head c.args.at.whole c.args.at.last c.requires.0 c.requires.1).width_most in omega arith
 
 pub lay_units-requires : goal.lay_units-requires
 lay_units-requires c =
     let s = c in
-    let k = known c.args.p c.args.row.now c.args.first c.args.n c.args.units c.args.head c.args.whole c.args.last c.requires.0 c.requires.1 in
+    let k = known c.args.p c.args.row.now c.args.first c.args.n c.args.at.units c.args.at.head c.args.at.whole c.args.at.last c.requires.0 c.requires.1 in
     let last = c.requires.1.last_is in
     let most = k.last_most in
     let long = c.requires.0.long in
@@ -84,14 +77,14 @@ lay_units-requires c =
 pub move_row-requires-2 : goal.move_row-requires-2
 move_row-requires-2 c =
     let s = c in
-    (s.requires.0, (known c.args.p c.args.row.now c.args.first c.args.n c.args.units c.args.head c.args.whole c.args.last c.requires.0 c.requires.1).last_most, c.lay_units.auto.slots ∙ (c.move_row.auto.slots ∙ s.requires.2))
+    (s.requires.0, (known c.args.p c.args.row.now c.args.first c.args.n c.args.at.units c.args.at.head c.args.at.whole c.args.at.last c.requires.0 c.requires.1).last_most, c.lay_units.auto.slots ∙ (c.move_row.auto.slots ∙ s.requires.2))
 
 pub returns : goal.returns
 returns c word end same h =
     let s = c in
     let a = c.args in
     let p = c.args.p in
-    let k = known c.args.p c.args.row.now c.args.first c.args.n c.args.units c.args.head c.args.whole c.args.last c.requires.0 c.requires.1 in
+    let k = known c.args.p c.args.row.now c.args.first c.args.n c.args.at.units c.args.at.head c.args.at.whole c.args.at.last c.requires.0 c.requires.1 in
     let head = k.head_most in
     let last = k.last_most in
     let one = c.move_row in
@@ -99,9 +92,9 @@ returns c word end same h =
     let zero = c.zero_of-zero in
     let mid = c.move_row.new.slots in
     let late = c.lay_units.new.slots in
-    let first : Holds p (front p word (a.first + a.head)) end mid =
+    let first : Holds p (front p word (a.first + a.at.head)) end mid =
     one.ensures word end (λ i l. same i (omega arith)) (holds_is p word a.first (a.first + 0) end a.slots.now (omega arith) h) in
-    let whole : Holds p (front p word (a.first + a.head + (a.last - a.head))) end late =
-    units_held p s.requires.0.fine word a.row.now a.first a.n a.head (a.last - a.head) (5 * a.units) (5 * a.whole) end mid late same (omega arith) s.requires.1.begin s.requires.1.size
+    let whole : Holds p (front p word (a.first + a.at.head + (a.at.last - a.at.head))) end late =
+    units_held p s.requires.0.fine word a.row.now a.first a.n a.at.head (a.at.last - a.at.head) (5 * a.at.units) (5 * a.at.whole) end mid late same (omega arith) s.requires.1.begin s.requires.1.size
     (two.ensures p.copies p.group zero.ensures s.requires.0.small) (λ i. (c.slice_known-3-1.given i).fits) first in
-    c.move_row-2.ensures word end same (holds_is p word (a.first + a.head + (a.last - a.head)) (a.first + a.last) end late (omega arith) whole)
+    c.move_row-2.ensures word end same (holds_is p word (a.first + a.at.head + (a.at.last - a.at.head)) (a.first + a.at.last) end late (omega arith) whole)

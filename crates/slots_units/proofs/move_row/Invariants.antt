@@ -1,6 +1,6 @@
 use mathlib.Core.Path.{◌≡◌}
 use mathlib.Core.List.{List}
-use Prim.Native.Nat.{ℕ, ◌+◌, ◌-◌, ◌≤◌}
+use Prim.Native.Nat.{ℕ, ◌+◌, ◌≤◌}
 use lib.ListN.{length}
 use Rattle.plan.specs.declared.Plan.{Plan}
 use Rattle.slots_moves.specs.Inner.{Holds, front}
@@ -12,6 +12,3 @@ invariant-loop-i l =
     (l.from ≤ l.i) × (l.i ≤ l.to) × (length l.slots ≡ length l.initial.slots)
     × ((p : Plan) → p.copies ≡ l.copies → p.group ≡ l.group → Row p l.first l.to l.row → (word : ℕ → List ℕ) (end : ℕ) → Symbols p word l.first l.to l.row
     → Holds p (front p word (l.first + l.from)) end l.initial.slots → Holds p (front p word (l.first + l.i)) end l.slots)
-
-abbrev pub decreases-loop-i : goal.decreases-loop-i
-decreases-loop-i l = l.to - l.i

@@ -1,18 +1,19 @@
 -- Each width by its test.
+use native.Mathlib.Omega.{arith}
 use Rattle.slots_units.proofs.Laws.Units.{per_five, per_ten, per_twenty, per_all, per_none}
 use Rattle.slots_units.proofs.per_forty.Goals as goal
 
-pub returns-then-width-eq5 : goal.returns-then-width-eq5
-returns-then-width-eq5 c = per_five _ c.if-width-eq5.true
+pub returns-in-5 : goal.returns-in-5
+returns-in-5 c = per_five _ c.in-5.is
 
-pub returns-then-width-eq10 : goal.returns-then-width-eq10
-returns-then-width-eq10 c = per_ten _ c.if-width-eq10.true
+pub returns-in-10 : goal.returns-in-10
+returns-in-10 c = per_ten _ c.in-10.is
 
-pub returns-then-width-eq20 : goal.returns-then-width-eq20
-returns-then-width-eq20 c = per_twenty _ c.if-width-eq20.true
+pub returns-in-20 : goal.returns-in-20
+returns-in-20 c = per_twenty _ c.in-20.is
 
-pub returns-then-width-eq40 : goal.returns-then-width-eq40
-returns-then-width-eq40 c = per_all _ c.if-width-eq40.true
+pub returns-in-40 : goal.returns-in-40
+returns-in-40 c = per_all _ c.in-40.is
 
-pub returns : goal.returns
-returns c = per_none _ c.if-width-eq5.false c.if-width-eq10.false c.if-width-eq20.false c.if-width-eq40.false
+pub returns-in_default : goal.returns-in_default
+returns-in_default c = per_none _ (λ e. omega arith) (λ e. omega arith) (λ e. omega arith) (λ e. omega arith)

@@ -1,40 +1,40 @@
--- One byte of the number more is laid at each turn.
-use mathlib.Core.Path.{◌≡◌, refl, sym, ◌∙◌}
-use Prim.Native.Nat.{ℕ, ◌+◌, ◌-◌, ◌*◌, ◌/◌, ◌%◌, ◌^◌}
+-- The lowest five bytes of the number, highest first.
+use mathlib.Core.Path.{◌≡◌, refl, sym, ap, ◌∙◌}
+use mathlib.Core.List.{List}
+use Prim.Native.Nat.{ℕ, zero, suc, ◌+◌, ◌-◌, ◌*◌, ◌/◌, ◌%◌, ◌^◌, ◌≤◌, ◌<◌}
 use native.Mathlib.Omega.{arith}
+use lib.ListN.{length, get_or, take, drop}
 use borrow.Author.Rules.{rules}
-use lib.Bits.{and_mask, mask_lt}
+use borrow.Rule.Slice.PartMut.{put_mid}
+use Rattle.std.proofs.lemmas.List.{places}
+use Rattle.std.specs.Int.{w64, to_be_bytes}
+use Rattle.bits.specs.Pack.{val}
+use Rattle.bits.specs.Inner.{Laid}
 use Rattle.bits.proofs.Laws.Field.{cut_out}
-use Rattle.bits.proofs.Laws.Stretch.{laid_none, laid_one, laid_on}
 use Rattle.slots_units.proofs.put_forty.Goals as goal
 
-pub loop-t-init : goal.loop-t-init
-loop-t-init c = (search rules, laid_none _ _ _)
+byte : (v t : ℕ) → t < 5 → get_or (take 5 (drop 3 (to_be_bytes w64 v))) t 0 ≡ v / 2 ^ (32 - 8 * t) % 2 ^ 8
+byte v zero h = refl
+byte v (suc zero) h = refl
+byte v (suc (suc zero)) h = refl
+byte v (suc (suc (suc zero))) h = refl
+byte v (suc (suc (suc (suc zero)))) h = omega arith
+byte v (suc (suc (suc (suc (suc t))))) h = absurd (omega arith)
 
-pub overflow_cast-slots : goal.overflow_cast-slots
-overflow_cast-slots c = omega (arith, mask_lt (c.args.v / 2 ^ (32 - 8 * c.loop-t.t)) 8)
-
-pub bounds-slots-at : goal.bounds-slots-at
-bounds-slots-at c = let e = c.loop-t.invariant.1.long in omega arith
-
-pub loop-t-preserved : goal.loop-t-preserved
-loop-t-preserved c =
-    let l = c.loop-t in
-    let a = c.args in
-    let v = c.args.v in
-    let g : ℕ → ℕ = λ u. v / 2 ^ (39 - (8 * l.t + u)) % 2 in (
-      search rules,
-      laid_on _ _ _ _ _ _ _ g l.invariant.1
-          (laid_one l.slots (a.at + l.t) _ g (let e = c.loop-t.invariant.1.long in omega arith)
-          (and_mask (v / 2 ^ (32 - 8 * l.t)) 8 ∙ sym (cut_out v 40 (8 * l.t) 8 (omega arith))))
-          (λ u h. refl),
-    )
-
-pub shape_of-slots : goal.shape_of-slots
-shape_of-slots c = c.loop-t.invariant.1.long
+-- all of them at once, copied over a part
+laid_part : (before part : List ℕ) (at n : ℕ) (f : ℕ → ℕ) → at + n ≤ length before → length part ≡ n → ((t : ℕ) → t < n → get_or part t 0 ≡ val (λ u. f (8 * t + u)) 8)
+    → Laid before at n f (put_mid at (at + n - at) before part)
+laid_part before part at n f room long same =
+    record {
+      long = search (rules, places);
+      earlier = λ k l. search (rules, places);
+      here = λ t l. let here : get_or (put_mid at (at + n - at) before part) (at + t) 0 ≡ get_or part t 0 = search (rules, places) in here ∙ same t l;
+      later = λ k l. search (rules, places);
+    }
 
 pub returns : goal.returns
 returns c =
-    let l = c.loop-t in
-    let e : l.t ≡ 5 = omega arith in
-    rw e at l.invariant.1
+    let v : ℕ = c.args.v in
+    let bytes : c.copy_from_slice.new.self ≡ take 5 (drop 3 (to_be_bytes w64 v)) = c.copy_from_slice.ensures.after ∙ ap (λ (xs : List ℕ). take 5 (drop 3 xs)) c.to_be_bytes.ensures in
+    laid_part c.args.slots.now _ c.args.at 5 (λ t. v / 2 ^ (39 - t) % 2) c.requires (ap (λ (xs : List ℕ). length xs) bytes)
+    (λ t l. ap (λ (xs : List ℕ). get_or xs t 0) bytes ∙ byte v t l ∙ sym (cut_out v 40 (8 * t) 8 (omega arith)))

@@ -2,7 +2,6 @@
 use mathlib.Core.Path.{◌≡◌, refl, sym, ap, ◌∙◌}
 use Prim.Native.Nat.{ℕ, ◌+◌, ◌*◌, ◌%◌, ◌≤◌}
 use native.Mathlib.Omega.{arith}
-use borrow.Author.Rules.{rules}
 use lib.Dec.{eqb}
 use native.Mathlib.Nat.{le_refl, mul-le-mul}
 use Rattle.bits.specs.Basics.{bool}
@@ -19,7 +18,7 @@ fits copies group asked =
 
 pub loop-c-init : goal.loop-c-init
 unfolding val
-loop-c-init c = (omega arith, let e : 0 * c.args.group ≡ 0 = omega arith in sym (ap (val (λ t. bool (eqb (t % c.args.group) 0))) e))
+loop-c-init c = let e : 0 * c.args.group ≡ 0 = omega arith in sym (ap (val (λ t. bool (eqb (t % c.args.group) 0))) e)
 
 pub overflow_shl-v : goal.overflow_shl-v
 overflow_shl-v c = let k = (fits c.args.copies c.args.group c.requires) in omega arith
@@ -33,7 +32,7 @@ loop-c-preserved c =
     let l = c.loop-c in
     let next : l.c + 1 ≤ a.copies = omega arith in
     let room : (l.c + 1) * a.group ≤ a.copies * a.group = mul-le-mul next (le_refl a.group) in
-    (search rules, zero_more a.group l.c l.v c.requires.1 (let h = c.requires.2 in omega arith) l.invariant.1)
+    zero_more a.group l.c l.v c.requires.1 (let h = c.requires.2 in omega arith) l.invariant
 
 pub returns : goal.returns
 returns c =
@@ -44,5 +43,5 @@ returns c =
       whole = refl;
       copies_least = s.requires.0;
       group_least = s.requires.1;
-      number = l.invariant.1 ∙ ap (λ (n : ℕ). val (λ t. bool (eqb (t % s.args.group) 0)) (n * s.args.group)) e;
+      number = l.invariant ∙ ap (λ (n : ℕ). val (λ t. bool (eqb (t % s.args.group) 0)) (n * s.args.group)) e;
     }
