@@ -1,44 +1,18 @@
--- Packed bytes changed in place, a byte at a time: the bit that is turned over, one byte more copied, and the spare bits shifted out.
+-- The spare bits of packed bytes, shifted out.
 use mathlib.Core.Path.{◌≡◌, refl, sym, ap, ◌∙◌}
 use mathlib.Core.List.{List}
 use mathlib.Core.Logic.{⊎_elim}
 use Prim.Native.Nat.{ℕ, ◌+◌, ◌-◌, ◌*◌, ◌/◌, ◌%◌, ◌^◌, ◌≤◌, ◌<◌}
 use native.Mathlib.Omega.{arith}
 use native.Mathlib.Nat.{mod-eq_of_lt}
-use lib.Bits.{bit_and, and_mask}
 use lib.Pow.{high}
-use lib.Dec.{eqb, eqb→eq}
 use lib.ListN.{length, get_or, set, length-set}
 use lib.Seq.{get_or-set_same, get_or-set_other}
 use Rattle.bits.proofs.Laws.Choice.{lt_or_le, eq_or_ne}
-use Rattle.bits.proofs.Laws.Table.{below_all}
 use Rattle.bits.specs.Pack.{val, bit_at, Bytes, cut}
 use Rattle.bits.proofs.Laws.Pack.{val_lt, bit_val, bit_lt, cut_in, cut_past, cut_bits}
 use Rattle.bits.proofs.Laws.Parts.{val_split, val_cut, byte_val}
-use Rattle.bits.specs.Inner.{Copied, Ends}
-
--- the byte 128 shifted down fits a byte
-pub one_byte : (r : ℕ) → r < 8 → bit_and (128 / 2 ^ r) 255 ≡ 128 / 2 ^ r
-one_byte r h =
-    and_mask (128 / 2 ^ r) 8
-    ∙ eqb→eq (128 / 2 ^ r % 256) (128 / 2 ^ r) (below_all 8 (λ r. eqb (128 / 2 ^ r % 256) (128 / 2 ^ r)) tt r h)
-
-pub copied_none : (from : List ℕ) (at : ℕ) (before : List ℕ) (to : ℕ) → Copied from at before to 0 before
-copied_none from at before to = record { long = refl; earlier = λ k l. refl; here = λ t l. absurd (omega arith); later = λ k l. refl }
-
-pub copied_more : (from : List ℕ) (at : ℕ) (before after : List ℕ) (to t : ℕ) → to + t < length after → Copied from at before to t after
-    → Copied from at before to (t + 1) (set after (to + t) (get_or from (at + t) 0))
-copied_more from at before after to t l c =
-    let v : ℕ = get_or from (at + t) 0 in
-    record {
-      long = length-set after (to + t) v ∙ c.long;
-      earlier = λ k m. get_or-set_other after (to + t) k v 0 (λ q. omega arith) ∙ c.earlier k m;
-      here = λ u m. ⊎_elim
-          (λ (q : u ≡ t). rw q (get_or-set_same after (to + t) v 0 l))
-          (λ (q : u ≡ t → ⊥). get_or-set_other after (to + t) (to + u) v 0 (λ r. q (omega arith)) ∙ c.here u (omega arith))
-          (eq_or_ne u t);
-      later = λ k m. get_or-set_other after (to + t) k v 0 (λ q. omega arith) ∙ c.later k (omega arith);
-    }
+use Rattle.bits.specs.Inner.{Ends}
 
 -- none is spare
 pub ends_whole : (xs : List ℕ) (end : ℕ) → 8 * length xs ≤ end → Ends xs end xs

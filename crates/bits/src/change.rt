@@ -8,7 +8,7 @@ pub fn flip(packed: &mut [u8], x: usize)
     requires { x < 8 * length packed.old }
     ensures { packed.new ≡ flip_bit packed.old x }
 {
-    packed[x / 8] = packed[x / 8] ^ (((128usize >> (x % 8)) & 255) as u8);
+    packed[x / 8] ^= 128u8 >> (x % 8);
 }
 
 // Copies the n bytes from byte `at` on to byte `to`.
@@ -16,11 +16,7 @@ pub fn copy_part(from: &[u8], at: usize, out: &mut [u8], to: usize, n: usize)
     requires { (at + n ≤ length from.now) × (to + n ≤ length out.old) }
     ensures { Copied from.now at out.old to n out.new }
 {
-    let mut t = 0;
-    while t < n {
-        out[to + t] = from[at + t];
-        t += 1;
-    }
+    out[to..to + n].copy_from_slice(&from[at..at + n]);
 }
 
 // Clears the spare bits of the last byte, those from bit `end` on.

@@ -7,14 +7,14 @@ ghost use Rattle.bits.specs.Pack.{val, cut, first_set};
 pub fn least(x: usize, y: usize) -> usize
     ensures { result ≡ lesser x y }
 {
-    if x < y { x } else { y }
+    x.min(y)
 }
 
 // The greater of two numbers.
 pub fn most(x: usize, y: usize) -> usize
     ensures { result ≡ max x y }
 {
-    if x < y { y } else { x }
+    x.max(y)
 }
 
 // How many zeros come before the first one of 64 bits.
@@ -22,7 +22,7 @@ pub fn leading(v: u64) -> usize
     requires { 1 ≤ v }
     ensures { Leads 64 v result }
 {
-    u64::leading_zeros(v) as usize
+    v.leading_zeros() as usize
 }
 
 // The bits from byte i on as the first bits of a number: those of eight bytes, or of a single byte near the end.
@@ -65,9 +65,9 @@ pub fn first_one(b: &[u8], x: usize, end: usize) -> usize
     while at < end {
         let v = ahead(b, at);
         if v != 0 {
-            return at + least(leading(v), end - at);
+            return at + leading(v).min(end - at);
         }
-        at += least(reach_of(b, at), end - at);
+        at += reach_of(b, at).min(end - at);
     }
     at
 }

@@ -28,9 +28,7 @@ pub fn bytes_from(packed: &[u8], y: usize, n: usize, out: &mut [u8], at: usize)
 {
     let i = y / 8;
     let r = y % 8;
-    let mut t = 0usize;
-    while t < n {
+    for t in 0..n {
         out[at + t] = eight_of(packed[i + t], packed[i + t + 1], r);
-        t += 1;
     }
 }

@@ -36,10 +36,7 @@ pub fn hit_by(rows: usize, step: usize, total: usize, x: usize, r: usize) -> usi
     if x < delay {
         return total;
     }
-    if x - delay < total {
-        return x - delay;
-    }
-    total
+    (x - delay).min(total)
 }
 
 // Step 8: symbol t, of m bits, of words that lie back to back.
@@ -59,8 +56,8 @@ pub fn put_symbol(words: &mut [u8], t: usize, m: usize, q: usize)
     let y = m * t;
     let i = y / 8;
     let v = q << (16 - m - y % 8);
-    words[i] = words[i] ^ ((v >> 8) as u8);
-    words[i + 1] = words[i + 1] ^ ((v & 255) as u8);
+    words[i] ^= (v >> 8) as u8;
+    words[i + 1] ^= (v & 255) as u8;
 }
 
 // The remainder modulo N one place further on.
@@ -69,10 +66,7 @@ pub fn next(r: usize, rows: usize) -> usize
     ensures { result ≡ (r + 1) % rows }
 {
     let n = r + 1;
-    if n < rows {
-        return n;
-    }
-    0
+    if n < rows { n } else { 0 }
 }
 
 // The first place from `start` on that is r modulo n, where `start` is c.

@@ -26,10 +26,8 @@ pub fn check(block: &[u8], k: usize) -> u32
 {
     let n = k / 8;
     let mut r = whole_bytes(block, n);
-    let mut j = 8 * n;
-    while j < k {
+    for j in 8 * n..k {
         r = advance_bit(r, packing::bit_at(block, j) as u32);
-        j += 1;
     }
     r
 }

@@ -23,10 +23,8 @@ fn eleven(table: &[u32], v: u64) -> u32
     ensures { result ≡ advances 0 (bit_of v) 64 }
 {
     let mut r: u32 = 0;
-    let mut k = 0usize;
-    while k < 11 {
-        r = r ^ table[64 * k + ((v >> (6 * k)) & 63) as usize];
-        k += 1;
+    for k in 0..11 {
+        r ^= table[64 * k + ((v >> (6 * k)) & 63) as usize];
     }
     r
 }
@@ -45,10 +43,8 @@ fn by_eights(block: &[u8], table: &[u32], n: usize) -> u32
     ensures { result ≡ register (bit_at block.now) (64 * n) }
 {
     let mut r: u32 = 0xFFFF_FFFF;
-    let mut j = 0;
-    while j < n {
+    for j in 0..n {
         r = eleven(table, ((r as u64) << 32) ^ packing::eight(block, 8 * j));
-        j += 1;
     }
     r
 }
@@ -60,10 +56,8 @@ pub fn by_tables(block: &[u8], table: &[u32], n: usize) -> u32
 {
     let eights = n / 8;
     let mut r = by_eights(block, table, eights);
-    let mut i = 8 * eights;
-    while i < n {
-        r = (r << 8) ^ two(table, (r >> 24) ^ block[i] as u32);
-        i += 1;
+    for byte in &block[8 * eights..n] {
+        r = (r << 8) ^ two(table, (r >> 24) ^ u32::from(*byte));
     }
     r
 }

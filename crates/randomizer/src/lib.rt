@@ -16,11 +16,8 @@ fn add_period(bytes: &mut [u8], start: usize, n: usize)
     ensures { Added bytes.old bytes.new start (start + n) }
 {
     let table = PERIOD;
-    let mut i = 0;
-    while i < n {
-        let j = start + i;
-        bytes[j] = bytes[j] ^ table[i];
-        i += 1;
+    for i in 0..n {
+        bytes[start + i] ^= table[i];
     }
 }
 
@@ -29,10 +26,7 @@ pub fn randomize(bytes: &mut [u8])
     ensures { bytes.new ≡ bytes_of (length bytes.old) (randomize (bit_at bytes.old)) }
 {
     let n = bytes.len();
-    let mut start = 0;
-    while 255 <= n - start {
-        add_period(bytes, start, 255);
-        start += 255;
+    for start in (0..n).step_by(PERIOD.len()) {
+        add_period(bytes, start, (n - start).min(PERIOD.len()));
     }
-    add_period(bytes, start, n - start);
 }

@@ -57,5 +57,5 @@ pub fn block_bytes(rate: u64) -> usize
     requires { rate < 3 }
     ensures { result ≡ block_bytes rate }
 {
-    (info_bits(rate) + 7) / 8
+    info_bits(rate).div_ceil(8)
 }

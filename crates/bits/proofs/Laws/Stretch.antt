@@ -6,6 +6,9 @@ use Prim.Native.Nat.{ℕ, ◌+◌, ◌-◌, ◌*◌, ◌≤◌, ◌<◌}
 use native.Mathlib.Omega.{arith}
 use lib.ListN.{length, get_or, set, length-set}
 use lib.Seq.{get_or-set_same, get_or-set_other}
+use borrow.Author.Rules.{rules}
+use borrow.Rule.Slice.PartMut.{put_mid}
+use Rattle.std.proofs.lemmas.List.{places}
 use Rattle.bits.proofs.Laws.Choice.{lt_or_le}
 use Rattle.bits.specs.Pack.{val, bytes_of}
 use Rattle.bits.proofs.Laws.Pack.{val_same, bytes_by_byte}
@@ -57,3 +60,14 @@ laid_one before at v f l e =
 pub laid_all : (before after : List ℕ) (n : ℕ) (f : ℕ → ℕ) → length before ≡ n → Laid before 0 n f after → after ≡ bytes_of n f
 laid_all before after n f e l =
     bytes_by_byte n f after (l.long ∙ e) (λ i h. let z : i ≡ 0 + i = omega arith in ap (λ (k : ℕ). get_or after k 0) z ∙ l.here i h)
+
+-- all of them at once, copied over a part
+pub laid_part : (before part : List ℕ) (at n : ℕ) (f : ℕ → ℕ) → at + n ≤ length before → length part ≡ n → ((t : ℕ) → t < n → get_or part t 0 ≡ val (λ u. f (8 * t + u)) 8)
+    → Laid before at n f (put_mid at (at + n - at) before part)
+laid_part before part at n f room long same =
+    record {
+      long = search (rules, places);
+      earlier = λ k l. search (rules, places);
+      here = λ t l. let here : get_or (put_mid at (at + n - at) before part) (at + t) 0 ≡ get_or part t 0 = search (rules, places) in here ∙ same t l;
+      later = λ k l. search (rules, places);
+    }

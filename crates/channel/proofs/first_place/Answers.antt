@@ -9,9 +9,6 @@ use Rattle.channel.proofs.first_place.Goals as goal
 below : (start n r c : ℕ) → c ≡ start % n → r < n → c < n
 below start n r c e h = let l : 0 < n = omega arith in let m = mod-lt start l in omega arith
 
-pub overflow_sub-result : goal.overflow_sub-result
-overflow_sub-result c = let l = below _ _ _ _ c.requires.0 c.requires.1 in omega arith
-
 pub returns-then-r-c : goal.returns-then-r-c
 returns-then-r-c c =
     let a = c.args in

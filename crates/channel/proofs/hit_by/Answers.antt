@@ -1,24 +1,13 @@
 -- A place tells its symbol's delay, so the symbol is a difference: `hit_is`.
 use mathlib.Core.Path.{sym, refl, ◌∙◌}
-use Prim.Native.Nat.{◌≤◌}
+use mathlib.Core.Path.{◌≡◌}
+use mathlib.Core.Logic.{⊎_elim}
+use Prim.Native.Nat.{ℕ, ◌*◌, ◌-◌, ◌≤◌, ◌<◌}
+use Rattle.bits.proofs.Laws.Choice.{lt_or_le}
 use native.Mathlib.Omega.{arith}
-use native.Mathlib.Nat.{mul-le-mul, mod-lt}
 use borrow.Author.Tests.{lt-ltb, le-ltb}
 use Rattle.channel.proofs.Laws.Places.{source, hit_is}
 use Rattle.channel.proofs.hit_by.Goals as goal
-
-pub overflow_mul-delay : goal.overflow_mul-delay
-overflow_mul-delay c = omega (arith, mul-le-mul c.requires.step_most c.requires.rows_most)
-
-pub overflow_mul-delay-2 : goal.overflow_mul-delay-2
-overflow_mul-delay-2 c =
-    let a = c.args in
-    let h = c.requires in
-    let m = c.requires.remainder in
-    let l = mod-lt a.x h.rows_least in
-    let w = c.requires.rows_most in
-    let few : a.r ≤ 128 = omega arith in
-    omega (arith, mul-le-mul few (mul-le-mul h.step_most h.rows_most))
 
 pub returns-then-x-delay : goal.returns-then-x-delay
 unfolding source
@@ -27,16 +16,13 @@ returns-then-x-delay c g o =
     let a = c.args in
     sym (hit_is g a.x ∙ rw (o.rows_are, o.step_is, o.total_is, ← s.requires.remainder, lt-ltb _ _ c.if-x-delay.true) refl)
 
-pub returns-then-x-delay-2 : goal.returns-then-x-delay-2
-unfolding source
-returns-then-x-delay-2 c g o =
-    let s = c in
-    let a = c.args in
-    sym (hit_is g a.x ∙ rw (o.rows_are, o.step_is, o.total_is, ← s.requires.remainder, le-ltb _ _ c.if-x-delay.false, lt-ltb _ _ c.if-x-delay-2.true) refl)
-
 pub returns : goal.returns
 unfolding source
 returns c g o =
     let s = c in
     let a = c.args in
-    sym (hit_is g a.x ∙ rw (o.rows_are, o.step_is, o.total_is, ← s.requires.remainder, le-ltb _ _ c.if-x-delay.false, le-ltb _ _ c.if-x-delay-2.false) refl)
+    let d : ℕ = a.x - a.r * (a.step * a.rows) in
+    sym (hit_is g a.x ∙ rw (o.rows_are, o.step_is, o.total_is, ← s.requires.remainder, le-ltb _ _ c.if-x-delay.false) (⊎_elim
+    (λ (l : d < a.total). let e = c.min.ensures in let m : c.min.result ≡ d = omega arith in rw (lt-ltb _ _ l) (sym m))
+    (λ (l : a.total ≤ d). let e = c.min.ensures in let m : c.min.result ≡ a.total = omega arith in rw (le-ltb _ _ l) (sym m))
+    (lt_or_le d a.total)))

@@ -1,5 +1,5 @@
 -- The whole bytes' register, and then one bit a turn, which is the definition's own step.
-use mathlib.Core.Path.{◌≡◌, sym, ap, ap₂, ◌∙◌}
+use mathlib.Core.Path.{sym, ap, ap₂, ◌∙◌}
 use native.Mathlib.Omega.{arith}
 use native.Mathlib.Numerals.{add-one}
 use Rattle.bits.specs.Pack.{bit_at}
@@ -16,16 +16,7 @@ pub loop-j-preserved : goal.loop-j-preserved
 unfolding register
 loop-j-preserved c =
     let l = c.loop-j in
-    let block = c.args.block.now in (
-      omega arith,
-      c.advance_bit-r.ensures
-          ∙ ap₂ advance l.invariant.1 c.bit_at.ensures
-          ∙ ap (register (bit_at block)) (sym (add-one l.j)),
-    )
-
-pub returns : goal.returns
-returns c =
-    let l = c.loop-j in
-    let a = c.args in
-    let done : l.j ≡ a.k = omega arith in
-    l.invariant.1 ∙ ap (register (bit_at a.block.now)) done
+    let block = c.args.block.now in
+    c.advance_bit-r.ensures
+    ∙ ap₂ advance l.invariant c.bit_at.ensures
+    ∙ ap (register (bit_at block)) (sym (add-one l.j))

@@ -5,12 +5,6 @@ use Rattle.crc.specs.Inner.{advances}
 use Rattle.crc_check.proofs.Entries.{tables_right}
 use Rattle.crc_check.proofs.whole_bytes.Goals as goal
 
-pub slice_bounds-by_tables-end : goal.slice_bounds-by_tables-end
-slice_bounds-by_tables-end c = refl
-
 pub by_tables-requires : goal.by_tables-requires
 unfolding advance advances
 by_tables-requires c = (tables_right _ refl tt, c.requires)
-
-pub returns : goal.returns
-returns c = c.by_tables.ensures

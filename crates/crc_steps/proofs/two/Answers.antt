@@ -2,20 +2,11 @@
 use mathlib.Core.Path.{◌≡◌, ap, ap₂, ◌∙◌}
 use Prim.Native.Nat.{ℕ, ◌+◌, ◌*◌, ◌/◌, ◌%◌, ◌<◌}
 use native.Mathlib.Omega.{arith}
-use lib.Bits.{bit_xor, bit_and, and_mask, mask_lt}
+use lib.Bits.{bit_xor, bit_and, and_mask}
 use lib.ListN.{get_or}
 use Rattle.crc_steps.specs.Inner.{change_of}
 use Rattle.crc_steps.proofs.Sixes.{two_sixes}
 use Rattle.crc_steps.proofs.two.Goals as goal
-
-pub overflow_cast-result : goal.overflow_cast-result
-overflow_cast-result c = omega (arith, mask_lt c.args.b 6)
-
-pub offset_bounds-table-b : goal.offset_bounds-table-b
-offset_bounds-table-b c = omega (arith, mask_lt c.args.b 6)
-
-pub bounds-table-b : goal.bounds-table-b
-bounds-table-b c = omega (arith, c.requires.0.size, mask_lt c.args.b 6)
 
 pub returns : goal.returns
 returns c =

@@ -1,10 +1,7 @@
-use Prim.Native.Nat.{◌+◌, ◌-◌, ◌≤◌}
+use Prim.Native.Nat.{◌+◌}
 use Rattle.randomizer.specs.Inner.{Added}
 use Rattle.randomizer.proofs.Period.{Period}
 use Rattle.randomizer.proofs.add_period.Given as goal
 
 abbrev pub invariant-loop-i : goal.invariant-loop-i
-invariant-loop-i l = (l.i ≤ l.n) × Period l.table × Added l.initial.bytes l.bytes l.start (l.start + l.i)
-
-abbrev pub decreases-loop-i : goal.decreases-loop-i
-decreases-loop-i l = l.n - l.i
+invariant-loop-i l = Period l.table × Added l.initial.bytes l.bytes l.start (l.start + l.i)

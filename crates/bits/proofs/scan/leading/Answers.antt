@@ -2,7 +2,7 @@
 use mathlib.Core.Path.{◌≡◌}
 use Prim.Native.Nat.{ℕ, suc, ◌+◌, ◌-◌, ◌^◌, ◌≤◌, ◌<◌}
 use native.Mathlib.Omega.{arith}
-use lib.Count.{count_leading_zeros, leading_top, leading_le}
+use lib.Count.{count_leading_zeros, leading_top}
 use Rattle.bits.specs.Inner.{Leads}
 use Rattle.bits.proofs.scan.leading.Goals as goal
 
@@ -11,9 +11,6 @@ leads v j r e lo hi =
     let a : 64 - r ≡ suc j = omega arith in
     let b : 64 - 1 - r ≡ j = omega arith in
     record { small = omega arith; pass = rw a hi; stop = rw b lo }
-
-pub overflow_cast-result : goal.overflow_cast-result
-overflow_cast-result c = let l = leading_le 64 c.args.v in record { fits = omega arith }
 
 pub returns : goal.returns
 returns c =

@@ -14,9 +14,6 @@ returns-then-b-i-ge8 c =
     let a = c.args in
     rw (le-leb (a.i + 8) (length a.b.now) (omega arith)) (c.eight.ensures ∙ eight_bytes a.b.now a.i)
 
-pub overflow_cast-result : goal.overflow_cast-result
-overflow_cast-result c = omega (arith, c.type_inv.b c.args.i)
-
 pub returns : goal.returns
 unfolding shown
 returns c =
