@@ -35,10 +35,8 @@ fn deal(from: &[u8], x: usize, step: usize, n: usize, out: &mut [u8], at: usize)
     requires { ((g : ℕ) → g < n → x + step * g < length from.now) × (at + n ≤ length out.old) }
     ensures { Dealt from.now x step n at out.old out.new }
 {
-    let mut g = 0;
-    while g < n {
+    for g in 0..n {
         out[at + g] = from[x + step * g];
-        g += 1;
     }
 }
 
@@ -47,8 +45,7 @@ fn stack(a: &[u8], b: &[u8], t: Turns, room: &mut [u8])
     requires { Takes a.now b.now t.x t.y t.step t.groups × (length room.old ≡ room_bytes) }
     ensures { Stacked a.now b.now t.x t.y t.step t.groups 8 room.new }
 {
-    let mut j = 0;
-    while j < 4 {
+    for j in 0..4 {
         deal(
             a,
             t.x + t.step * j,
@@ -65,7 +62,6 @@ fn stack(a: &[u8], b: &[u8], t: Turns, room: &mut [u8])
             room,
             t.groups * (6 - 2 * j),
         );
-        j += 1;
     }
 }
 

@@ -15,9 +15,6 @@ pub loop-k-init : goal.loop-k-init
 unfolding val
 loop-k-init c = (search rules, refl)
 
-pub bounds-coded-x : goal.bounds-coded-x
-bounds-coded-x c = omega (arith, c.requires.coded.size)
-
 pub loop-k-preserved : goal.loop-k-preserved
 loop-k-preserved c =
     let l = c.loop-k in
