@@ -9,18 +9,10 @@ ghost use Rattle.pass.specs.Pass.{pass_lengths_right};
 const MOST: usize = 211;
 
 // Question 8: 1 to 211, whole blocks of `size` bytes, and as many whole words.
+#[tactic(auto, unfolding(crate::specs::Pass::pass_lengths_right))]
 pub fn pass_lengths_right(n: usize, size: usize, blocks_length: usize, words_length: usize) -> bool
     requires { size ≤ 1256 }
     ensures { result ≡ pass_lengths_right n size blocks_length words_length }
 {
-    if n < 1 {
-        return false;
-    }
-    if MOST < n {
-        return false;
-    }
-    if blocks_length != n * size {
-        return false;
-    }
-    words_length == n * sizes::WORD_BYTES
+    1 <= n && n <= MOST && blocks_length == n * size && words_length == n * sizes::WORD_BYTES
 }

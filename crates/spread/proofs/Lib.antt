@@ -1,4 +1,3 @@
 -- What the proofs of this crate share; Laws are for other crates too.
 pub mod Changed
-pub mod Said
 pub mod Laws

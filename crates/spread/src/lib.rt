@@ -9,29 +9,24 @@ ghost use Rattle.sizes.specs.Inner.{input_bits};
 ghost use Rattle.sizes.specs.Sizes.{word_bits};
 ghost use Rattle.convolution.specs.Code as code;
 ghost use Rattle.answers.specs.Answer.{after};
+ghost use Rattle.answers.specs.Inner.{answer_of};
 ghost use Rattle.spread.specs.Spread.{spread_of, spread_says};
 ghost use Rattle.spread.specs.Inner.{input_change, Marks, Changes, Codes};
 
-use answers::Answer;
+use answers::{Fault, Refusal, ask};
 
 // Questions 2, 8 and 27.
-fn spread_says(rate: u64, bit: u64, places_length: usize) -> Answer
-    ensures { result ≡ spread_says rate bit places_length }
+#[tactic(auto, unfolding(crate::specs::Spread::spread_says))]
+fn spread_says(rate: u64, bit: u64, places_length: usize) -> Result<(), Refusal>
+    ensures { answer_of result ≡ spread_says rate bit places_length }
 {
-    if 2 < rate {
-        return Answer::No(2, 0);
-    }
-    if places_length != sizes::WORD_BYTES {
-        return Answer::No(8, 0);
-    }
-    let k = sizes::info_bits(rate) as u64;
-    if k <= bit {
-        return Answer::No(27, 0);
-    }
-    Answer::Done
+    ask(rate < 3, Fault::BadRate)?;
+    ask(places_length == sizes::WORD_BYTES, Fault::BadLength)?;
+    ask(bit < sizes::info_bits(rate) as u64, Fault::BadBit)
 }
 
 // The input bits that change: the bit itself, and what changes in the check. Any block shows which.
+#[tactic(auto, using(sizes::proofs::Laws::Rate::info_le, sizes::proofs::Laws::Rate::info_ge), unfolding(sizes::specs::Inner::input_bits))]
 fn change_input(rate: u64, bit: usize, block: &mut [u8], input: &mut [u8])
     requires { Changes rate bit block.old input.old }
     ensures { (i : ℕ) → i < input_bits rate → bit_at input.new i ≡ input_change rate bit i }
@@ -67,14 +62,12 @@ fn fill(rate: u64, bit: usize, places: &mut [u8])
 }
 
 // Marks the coded bits that change with a block bit.
-pub fn mark(rate: u64, bit: u64, places: &mut [u8]) -> Answer
-    ensures value { result ≡ spread_says rate bit (length places.old) }
-    ensures places_after { places.new ≡ after result (spread_of rate bit) places.old }
+#[tactic(auto, unfolding(crate::specs::Spread::spread_says))]
+pub fn mark(rate: u64, bit: u64, places: &mut [u8]) -> Result<(), Refusal>
+    ensures value { answer_of result ≡ spread_says rate bit (length places.old) }
+    ensures places_after { places.new ≡ after (answer_of result) (spread_of rate bit) places.old }
 {
-    let answer = spread_says(rate, bit, places.len());
-    let Answer::Done = answer else {
-        return answer;
-    };
+    spread_says(rate, bit, places.len())?;
     fill(rate, bit as usize, places);
-    answer
+    Ok(())
 }

@@ -8,10 +8,11 @@ ghost use Rattle.sizes.specs.Sizes.{word_bits};
 ghost use Rattle.convolution.specs.Code as code;
 ghost use Rattle.randomizer.specs.Randomizer.{randomize};
 ghost use Rattle.answers.specs.Answer.{after};
+ghost use Rattle.answers.specs.Inner.{answer_of};
 ghost use Rattle.word.specs.Word.{coded_in, input_in, block_in, packed_block, judged, word_read_says};
 ghost use Rattle.word_reader.specs.Inner.{Undoes, Reads, Gives, Words};
 
-use answers::Answer;
+use answers::{Fault, Refusal, ask};
 
 // The coded bits taken back out: steps 6 and 5 undone.
 fn take_out(word: &[u8], work: &mut [u8], coded: &mut [u8])
@@ -33,24 +34,22 @@ fn give_out(rate: u64, input: &[u8], block: &mut [u8])
 }
 
 // The block, if the questions are answered yes. Nothing is written before they are. `input` is a buffer for the input bits.
-fn read_coded(rate: u64, coded: &[u8], input: &mut [u8], block: &mut [u8]) -> Answer
+#[tactic(auto, using(word::proofs::Laws::Lists::undone_read))]
+fn read_coded(rate: u64, coded: &[u8], input: &mut [u8], block: &mut [u8]) -> Result<(), Refusal>
     requires { Reads rate coded.now input.old block.old }
-    ensures value { result ≡ judged rate (λ j. get_or coded.now j 0) (code.decode rate (λ j. get_or coded.now j 0)) }
-    ensures block_after { block.new ≡ after result (packed_block rate (randomize (code.decode rate (λ j. get_or coded.now j 0)))) block.old }
+    ensures value { answer_of result ≡ judged rate (λ j. get_or coded.now j 0) (code.decode rate (λ j. get_or coded.now j 0)) }
+    ensures block_after { block.new ≡ after (answer_of result) (packed_block rate (randomize (code.decode rate (λ j. get_or coded.now j 0)))) block.old }
 {
-    let answer = word_judge::judge(rate, coded, input);
-    let Answer::Done = answer else {
-        return answer;
-    };
+    word_judge::judge(rate, coded, input)?;
     give_out(rate, input, block);
-    answer
+    Ok(())
 }
 
 // The block of a word whose rate and lengths are right.
-fn decode(rate: u64, word: &[u8], block: &mut [u8]) -> Answer
+fn decode(rate: u64, word: &[u8], block: &mut [u8]) -> Result<(), Refusal>
     requires { Words rate word.now block.old }
-    ensures value { result ≡ judged rate (coded_in word.now) (input_in rate word.now) }
-    ensures block_after { block.new ≡ after result (block_in rate word.now) block.old }
+    ensures value { answer_of result ≡ judged rate (coded_in word.now) (input_in rate word.now) }
+    ensures block_after { block.new ≡ after (answer_of result) (block_in rate word.now) block.old }
 {
     let mut work = [0u8; 1890];
     let mut coded = [0u8; 15120];
@@ -61,19 +60,15 @@ fn decode(rate: u64, word: &[u8], block: &mut [u8]) -> Answer
 }
 
 // Reads the block of a word.
-pub fn read(rate: u64, word: &[u8], block: &mut [u8]) -> Answer
-    ensures value { result ≡ word_read_says rate word.now (length block.old) }
-    ensures block_after { block.new ≡ after result (block_in rate word.now) block.old }
+#[tactic(auto, using(word::proofs::Laws::Answers::read_judges))]
+pub fn read(rate: u64, word: &[u8], block: &mut [u8]) -> Result<(), Refusal>
+    ensures value { answer_of result ≡ word_read_says rate word.now (length block.old) }
+    ensures block_after { block.new ≡ after (answer_of result) (block_in rate word.now) block.old }
 {
-    if 2 < rate {
-        return Answer::No(2, 0);
-    }
-    if word.len() != sizes::WORD_BYTES {
-        return Answer::No(8, 0);
-    }
-    let size = sizes::block_bytes(rate);
-    if block.len() != size {
-        return Answer::No(8, 0);
-    }
+    ask(rate < 3, Fault::BadRate)?;
+    ask(
+        word.len() == sizes::WORD_BYTES && block.len() == sizes::block_bytes(rate),
+        Fault::BadLength,
+    )?;
     decode(rate, word, block)
 }

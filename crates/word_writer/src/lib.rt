@@ -10,26 +10,22 @@ ghost use Rattle.crc.specs.Check.{checked};
 ghost use Rattle.convolution.specs.Code.{terminated};
 ghost use Rattle.word.specs.Word.{input_of, coded_of, shuffled, word_of, word_write_says};
 ghost use Rattle.answers.specs.Answer.{after};
+ghost use Rattle.answers.specs.Inner.{answer_of};
 ghost use Rattle.word.specs.Inner.{WriteAccepted};
 ghost use Rattle.word_writer.specs.Inner.{Checks, Inputs, Codes, Shuffles};
 
-use answers::Answer;
+use answers::{Fault, Refusal, ask};
 
 // Questions 2 and 8.
-fn write_says(rate: u64, block: &[u8], word_length: usize) -> Answer
-    ensures { result ≡ word_write_says rate block.now word_length }
+#[tactic(auto, using(word::proofs::Laws::Answers::write_asks))]
+fn write_says(rate: u64, block: &[u8], word_length: usize) -> Result<(), Refusal>
+    ensures { answer_of result ≡ word_write_says rate block.now word_length }
 {
-    if 2 < rate {
-        return Answer::No(2, 0);
-    }
-    let size = sizes::block_bytes(rate);
-    if block.len() != size {
-        return Answer::No(8, 0);
-    }
-    if word_length != sizes::WORD_BYTES {
-        return Answer::No(8, 0);
-    }
-    Answer::Done
+    ask(rate < 3, Fault::BadRate)?;
+    ask(
+        block.len() == sizes::block_bytes(rate) && word_length == sizes::WORD_BYTES,
+        Fault::BadLength,
+    )
 }
 
 // Steps 2 and 3: the check of the first k bits after them, and two zeros.
@@ -83,14 +79,12 @@ fn code(rate: u64, block: &[u8], word: &mut [u8])
 }
 
 // Writes the word of a packed block.
-pub fn write(rate: u64, block: &[u8], word: &mut [u8]) -> Answer
-    ensures value { result ≡ word_write_says rate block.now (length word.old) }
-    ensures word_after { word.new ≡ after result (word_of rate block.now) word.old }
+#[tactic(auto, using(word::proofs::Laws::Answers::write_accepted))]
+pub fn write(rate: u64, block: &[u8], word: &mut [u8]) -> Result<(), Refusal>
+    ensures value { answer_of result ≡ word_write_says rate block.now (length word.old) }
+    ensures word_after { word.new ≡ after (answer_of result) (word_of rate block.now) word.old }
 {
-    let answer = write_says(rate, block, word.len());
-    let Answer::Done = answer else {
-        return answer;
-    };
+    write_says(rate, block, word.len())?;
     code(rate, block, word);
-    answer
+    Ok(())
 }

@@ -10,13 +10,21 @@ use mathlib.Core.List.{List}
 use Rattle.bits.specs.Basics.{up_to}
 use Rattle.bits.proofs.Laws.First.{up_to_le, first_here, first_end, all_pass, none_fails}
 use Rattle.answers.specs.Answer.{Answer, Done, No, number_of, place_of, code_of, code_with, ask, then, is_done, first_refused, put_in_order, among}
-use Rattle.answers.specs.Inner.{Fits}
+use Rattle.answers.specs.declared.Refusal.{Refusal}
+use Rattle.answers.specs.Inner.{answer_of, Fits}
+use Rattle.std.specs.Prelude.{Result, Ok, Err, IsOk}
+use borrow.Author.Rules.{rules}
 
 -- ---- laws
 
 -- a refusal is not acceptance
 pub no_done : {number place : ℕ} → No number place ≡ Done → ⊥
 no_done e = let z : ◌≡◌ {A = ℕ} 0 1 = cc in omega arith
+
+-- what accepts is an Ok
+pub ok_of : {A : Type 0} (r : Result A Refusal) → answer_of r ≡ Done → IsOk r
+ok_of (Ok value) e = search rules
+ok_of (Err refusal) e = absurd (no_done e)
 
 pub then_done : (a b : Answer) → then a b ≡ Done → (a ≡ Done) × (b ≡ Done)
 then_done Done b e = (refl, e)

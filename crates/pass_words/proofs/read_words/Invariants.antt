@@ -1,7 +1,7 @@
 use mathlib.Core.Path.{◌≡◌}
 use mathlib.Core.Bool.{Bool}
 use mathlib.Core.List.{List}
-use Prim.Native.Nat.{ℕ, ◌-◌, ◌≤◌, ◌<◌}
+use Prim.Native.Nat.{ℕ, ◌<◌}
 use lib.ListN.{length}
 use Rattle.bits.specs.Basics.{up_to}
 use Rattle.bits.specs.Pack.{piece}
@@ -17,8 +17,5 @@ gives rate words j = is_done (pass_word_says rate words j)
 
 abbrev pub invariant-loop-j : goal.invariant-loop-j
 invariant-loop-j l =
-    (l.j ≤ l.n) × (length l.blocks ≡ length l.initial.blocks) × ((i : ℕ) → i < l.j → piece l.size l.blocks i ≡ block_in l.rate (piece word_bytes l.words i))
-    × (up_to (gives l.rate l.words) l.j l.n ≡ up_to (gives l.rate l.words) 0 l.n)
-
-abbrev pub decreases-loop-j : goal.decreases-loop-j
-decreases-loop-j l = l.n - l.j
+    (length l.blocks ≡ length l.initial.blocks) × ((i : ℕ) → i < l.j-counter → piece l.size l.blocks i ≡ block_in l.rate (piece word_bytes l.words i))
+    × (up_to (gives l.rate l.words) l.j-counter l.n ≡ up_to (gives l.rate l.words) 0 l.n)

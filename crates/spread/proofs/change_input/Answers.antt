@@ -1,30 +1,6 @@
 -- The input bits are zeros, the bit itself, and the sum of the two checks, as `input_change` has them.
-use native.Mathlib.Omega.{arith}
-use Rattle.sizes.specs.Inner.{input_bits}
-use Rattle.sizes.proofs.Laws.Rate.{info_le, info_ge}
 use Rattle.spread.proofs.Changed.{changed}
 use Rattle.spread.proofs.change_input.Goals as goal
-
-pub check-before-requires : goal.check-before-requires
-check-before-requires c = let s = c in omega (arith, info_le s.args.rate, s.requires.block_is)
-
-pub flip-requires : goal.flip-requires
-flip-requires c = let s = c in omega (arith, info_le s.args.rate, s.requires.block_is, s.requires.bit_is)
-
-pub check-after-requires : goal.check-after-requires
-check-after-requires c =
-    let s = c in
-    omega (arith, info_le s.args.rate, s.requires.block_is, c.flip.auto.packed)
-
-pub flip-requires-2 : goal.flip-requires-2
-unfolding input_bits
-flip-requires-2 c = let s = c in omega (arith, s.requires.input_is, s.requires.bit_is)
-
-pub put_end-requires : goal.put_end-requires
-unfolding input_bits
-put_end-requires c =
-    let s = c in
-    omega (arith, info_ge s.args.rate, s.requires.input_is, c.flip-2.auto.packed)
 
 pub returns : goal.returns
 returns c =

@@ -1,7 +1,7 @@
 -- The coded bits that change, packed.
 use mathlib.Core.Path.{◌≡◌, sym, ap, ◌∙◌}
 use mathlib.Core.List.{List}
-use Prim.Native.Nat.{ℕ, ◌+◌, ◌*◌, ◌≤◌}
+use Prim.Native.Nat.{ℕ, ◌+◌, ◌*◌, ◌≤◌, ◌<◌}
 use native.Mathlib.Omega.{arith}
 use lib.ListN.{get_or, length-replicate}
 use lib.Seq.{length-take-le}
@@ -18,17 +18,24 @@ use Rattle.spread.proofs.Laws.Spread.{change_input_bits}
 use Rattle.spread.proofs.Changed.{front_zeros, spread_made}
 use Rattle.spread.proofs.fill.Goals as goal
 
+-- the buffer holds the input bits of any rate
+fits : (rate n : ℕ) → rate < 3 → n ≡ block_bytes rate → n + 4 ≤ 1260
+fits rate n h e = omega (arith, block_room rate h)
+
+size : (rate n : ℕ) → rate < 3 → n ≡ block_bytes rate → 8 * (n + 4) ≡ input_bits rate
+unfolding input_bits
+size rate n h e = omega (arith, block_size rate h)
+
 pub overflow_add-n : goal.overflow_add-n
-overflow_add-n c = omega (arith, (let fits : (n : ℕ) → n ≡ block_bytes c.args.rate → n + 4 ≤ 1260 = λ n e. omega (arith, block_room c.args.rate c.requires.rate_is) in fits) _ c.block_bytes-n.ensures)
+overflow_add-n c = omega (arith, fits c.args.rate _ c.requires.rate_is c.block_bytes-n.ensures)
 
 pub slice_bounds-room-end : goal.slice_bounds-room-end
-slice_bounds-room-end c = (let fits : (n : ℕ) → n ≡ block_bytes c.args.rate → n + 4 ≤ 1260 = λ n e. omega (arith, block_room c.args.rate c.requires.rate_is) in fits) _ c.block_bytes-n.ensures
+slice_bounds-room-end c = fits c.args.rate _ c.requires.rate_is c.block_bytes-n.ensures
 
 pub slice_bounds-change_coded-end-2 : goal.slice_bounds-change_coded-end-2
-slice_bounds-change_coded-end-2 c = sym (length-take-le _ _ ((let fits : (n : ℕ) → n ≡ block_bytes c.args.rate → n + 4 ≤ 1260 = λ n e. omega (arith, block_room c.args.rate c.requires.rate_is) in fits) _ c.block_bytes-n.ensures))
+slice_bounds-change_coded-end-2 c = sym (length-take-le _ _ (fits c.args.rate _ c.requires.rate_is c.block_bytes-n.ensures))
 
 pub change_coded-requires : goal.change_coded-requires
-unfolding input_bits
 change_coded-requires c =
     let s = c in
     let e = c.block_bytes-n.ensures in
@@ -37,7 +44,7 @@ change_coded-requires c =
         rate_is = s.requires.rate_is;
         bit_is = s.requires.bit_is;
         block_is = length-replicate {A = ℕ} 1256 0;
-        input_is = ap (λ (n : ℕ). 8 * n) (length-take-le _ _ ((let fits : (n : ℕ) → n ≡ block_bytes c.args.rate → n + 4 ≤ 1260 = λ n e. omega (arith, block_room c.args.rate c.requires.rate_is) in fits) _ e)) ∙ (let size : (n : ℕ) → n ≡ block_bytes c.args.rate → 8 * (n + 4) ≡ input_bits c.args.rate = λ n e. omega (arith, block_size c.args.rate c.requires.rate_is) in size) _ e;
+        input_is = ap (λ (n : ℕ). 8 * n) (length-take-le _ _ (fits c.args.rate _ c.requires.rate_is e)) ∙ size c.args.rate _ c.requires.rate_is e;
         zeros_are = front_zeros (c.block_bytes-n.result + 4) 1260;
       };
       coded_is = length-replicate {A = ℕ} 15120 0;

@@ -182,6 +182,15 @@ pub read_asks : (rate : ℕ) (word : List ℕ) (n : ℕ)
 unfolding word_read_says judged
 read_asks rate word n = refl
 
+-- the same with 13 to 15 together, as the code asks them
+pub read_judges : (rate : ℕ) (word : List ℕ) (n : ℕ)
+    → word_read_says rate word n
+    ≡ then (ask (ltb rate 3) 2 0)
+    (then (ask (both (eqb (length word) word_bytes) (eqb n (block_bytes rate))) 8 0)
+    (judged rate (coded_in word) (input_in rate word)))
+unfolding word_read_says
+read_judges rate word n = refl
+
 -- and what 13, 14 and 15 ask of the coded bits and of the input bits that are read from them
 pub questions_opened : (rate : ℕ) (word : List ℕ) (x : ℕ → ℕ) → x ≡ decode rate (coded_in word)
     → (first_wrong rate (coded_in word) (input_in rate word) ≡ up_to (λ j. eqb (coded_in word j) (encode rate x j)) 0 word_bits)

@@ -1,6 +1,5 @@
 -- Questions 13 to 15 as the reader's code puts them: to the place that the code's reader found, to the number of the last 34 input bits, and to a check.
 use mathlib.Core.Path.{◌≡◌, refl, sym, ap, ◌∙◌}
-use mathlib.Core.Bool.{true}
 use mathlib.Core.List.{List}
 use mathlib.Core.Logic.{⊎_elim}
 use Prim.Native.Nat.{ℕ, ◌+◌, ◌-◌, ◌*◌, ◌/◌, ◌%◌, ◌^◌, ◌<◌}
@@ -8,7 +7,7 @@ use native.Mathlib.Omega.{arith}
 use lib.Bits.{bit_and, and_mask}
 use lib.Dec.{eqb}
 use lib.ListN.{length}
-use borrow.Author.Tests.{eq-eqb, ne_eqb}
+use borrow.Author.Tests.{eq-eqb}
 use Rattle.bits.proofs.Laws.Choice.{bit_cases}
 use Rattle.bits.specs.Basics.{up_to}
 use Rattle.bits.specs.Pack.{Bits, val, bit_at}
@@ -20,7 +19,7 @@ use Rattle.sizes.proofs.Laws.Rate.{info_ge}
 use Rattle.crc.specs.Check.{register}
 use Rattle.crc.proofs.Laws.Check.{register_same}
 use Rattle.convolution.specs.Code.{encode}
-use Rattle.answers.specs.Answer.{Done, No}
+use Rattle.answers.specs.Answer.{No, ask, then}
 use Rattle.word.specs.Word.{agrees, first_wrong, ends_in_zeros, check_right, judged}
 use Rattle.word.proofs.Laws.Answers as Answers
 
@@ -59,39 +58,22 @@ module _ (rate : ℕ) (c x : ℕ → ℕ) (at : ℕ) (found : at ≡ up_to (λ j
     unfolding k tail
     field = ap (λ (v : ℕ). v / 2 ^ 2) parts ∙ (let a = bits (k + 32) in let b = bits (k + 33) in omega arith)
 
-    pub says_14 : (bit_and end 3 ≡ 0 → ⊥) → No 14 0 ≡ judged rate c x
+    ends : ends_in_zeros rate x ≡ eqb (bit_and end 3) 0
     unfolding k ends_in_zeros
-    says_14 ne =
-        sym (Answers.judged_unterminated rate c x (sym wrong ∙ all)
+    ends =
+        rw zeros
         (⊎_elim
-        (λ (a : x (k + 32) ≡ 0). ⊎_elim
-        (λ (b : x (k + 33) ≡ 0). absurd (ne (zeros ∙ omega arith)))
-        (λ (b : x (k + 33) ≡ 1). rw (a, b) refl)
-        (bit_cases (x (k + 33)) (bits (k + 33))))
-        (λ (a : x (k + 32) ≡ 1). rw a refl)
-        (bit_cases (x (k + 32)) (bits (k + 32)))))
+        (λ (a : x (k + 32) ≡ 0). ⊎_elim (λ (b : x (k + 33) ≡ 0). rw (a, b) refl) (λ (b : x (k + 33) ≡ 1). rw (a, b) refl) (bit_cases (x (k + 33)) (bits (k + 33))))
+        (λ (a : x (k + 32) ≡ 1). ⊎_elim (λ (b : x (k + 33) ≡ 0). rw (a, b) refl) (λ (b : x (k + 33) ≡ 1). rw (a, b) refl) (bit_cases (x (k + 33)) (bits (k + 33))))
+        (bit_cases (x (k + 32)) (bits (k + 32))))
 
-    module _ (none : bit_and end 3 ≡ 0) (check m : ℕ) (em : m ≡ info_bits rate) (ec : check ≡ register (bit_at input) m) where
-      ends : ends_in_zeros rate x ≡ true
-      unfolding k ends_in_zeros
-      ends =
-          let z = zeros in
-          let a : x (k + 32) ≡ 0 = omega arith in
-          let b : x (k + 33) ≡ 0 = omega arith in
-          rw (a, b) refl
+    -- what is left of the questions once 13 is answered yes
+    pub says_rest : judged rate c x ≡ then (ask (eqb (bit_and end 3) 0) 14 0) (ask (check_right rate x) 15 0)
+    unfolding judged
+    says_rest = rw (eq-eqb (first_wrong rate c x) word_bits (sym wrong ∙ all), ends) refl
 
-      register_is : check ≡ register x (info_bits rate)
-      unfolding input_bits
-      register_is = ec ∙ ap (register (bit_at input)) em ∙ register_same (bit_at input) x (info_bits rate) (λ i l. same i (omega arith))
-
-      pub says_15 : (end / 2 ^ 2 ≡ check → ⊥) → No 15 0 ≡ judged rate c x
-      unfolding check_right
-      says_15 ne =
-          sym (Answers.judged_check rate c x (sym wrong ∙ all) ends
-          (ne_eqb (val (λ t. x (info_bits rate + t)) 32) (register x (info_bits rate)) (λ e. ne (field ∙ e ∙ sym register_is))))
-
-      pub says_0 : end / 2 ^ 2 ≡ check → Done ≡ judged rate c x
-      unfolding check_right
-      says_0 e =
-          sym (Answers.judged_done rate c x (sym wrong ∙ all) ends
-          (eq-eqb (val (λ t. x (info_bits rate + t)) 32) (register x (info_bits rate)) (sym field ∙ e ∙ register_is)))
+    pub says_check : (check m : ℕ) → m ≡ info_bits rate → check ≡ register (bit_at input) m → check_right rate x ≡ eqb (end / 2 ^ 2) check
+    unfolding check_right input_bits
+    says_check check m em ec =
+        let e : check ≡ register x (info_bits rate) = ec ∙ ap (register (bit_at input)) em ∙ register_same (bit_at input) x (info_bits rate) (λ i l. same i (omega arith)) in
+        rw (field, e) refl

@@ -7,6 +7,7 @@ use lib.Seq.{length-take-le}
 use Rattle.bits.proofs.Laws.Table.{length_tab, tab_bits}
 use Rattle.sizes.specs.Sizes.{word_bits}
 use Rattle.answers.specs.Answer.{after}
+use Rattle.answers.specs.Inner.{answer_of}
 use Rattle.word.specs.Word.{coded_in}
 use Rattle.word.proofs.Laws.Word.{coded_in_bits}
 use Rattle.word.proofs.Laws.Lists.{judged_coded, block_coded}
@@ -44,5 +45,5 @@ returns c =
     let e = c.take_out in
     let t = c.read_coded in record {
       value = t.ensures.value ∙ judged_coded s.args.rate s.args.word.now e.new.coded s.requires.rate_is e.ensures;
-      block_after = t.ensures.block_after ∙ ap (λ (b : List ℕ). after t.result b s.args.block.now) (block_coded s.args.rate s.args.word.now e.new.coded s.requires.rate_is e.ensures);
+      block_after = t.ensures.block_after ∙ ap (λ (b : List ℕ). after (answer_of t.result) b s.args.block.now) (block_coded s.args.rate s.args.word.now e.new.coded s.requires.rate_is e.ensures);
     }
