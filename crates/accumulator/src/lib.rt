@@ -9,19 +9,8 @@ ghost use Rattle.accumulator.specs.Inner.{bit_of, accumulate_from, differentiate
 
 use bits::packing;
 
-// The eight outputs for the inputs in `b`, where `last` is the output before them: the running sums of the bits, by doubling, all flipped if that
+// The 64 outputs for the inputs in `b`, where `last` is the output before them: the running sums of the bits, by doubling, all flipped if that
 // output is 1.
-fn summed(b: u8, last: u8) -> u8
-    requires { last < 2 }
-    ensures { result ≡ val (accumulate_from last (bit_of b)) 8 }
-{
-    let x = b ^ (b >> 1);
-    let y = x ^ (x >> 2);
-    let z = y ^ (y >> 4);
-    z ^ (last * 255)
-}
-
-// The 64 outputs for the inputs in `b`, likewise.
 fn summed_64(b: u64, last: u64) -> u64
     requires { last < 2 }
     ensures { result ≡ val (accumulate_from last (packed.bit_of b)) 64 }
@@ -33,6 +22,14 @@ fn summed_64(b: u64, last: u64) -> u64
     let half = sixteen ^ (sixteen >> 16);
     let whole = half ^ (half >> 32);
     whole ^ (last * 0xFFFF_FFFF_FFFF_FFFF)
+}
+
+// The eight outputs for the inputs in `b`: the first eight of 64.
+fn summed(b: u8, last: u8) -> u8
+    requires { last < 2 }
+    ensures { result ≡ val (accumulate_from last (bit_of b)) 8 }
+{
+    (summed_64(u64::from(b) << 56, u64::from(last)) >> 56) as u8
 }
 
 // The first 8 n bytes, and the last output among them.

@@ -16,8 +16,7 @@ pub fn taken_columns(off: &[u16], column: &mut [u16], start: &mut [u16], up: &mu
     ensures filled_2 { Filled (λ c. start_in (taken_by c)) start.new columns }
     ensures filled_3 { Filled (λ c. up_in (taken_by c)) up.new columns }
 {
-    let mut c = 0usize;
-    while c < COLUMNS {
+    for c in 0..COLUMNS {
         let p = off[c];
         let a = short::WORD_LINES - p / short::COLUMNS;
         column[c] = p % short::COLUMNS;
@@ -25,7 +24,6 @@ pub fn taken_columns(off: &[u16], column: &mut [u16], start: &mut [u16], up: &mu
             + short::LINE_BYTES * (a % short::LINES)
             + (c / 8) as u16;
         up[c] = a / short::LINES % short::ROWS;
-        c += 1;
     }
 }
 
@@ -34,9 +32,7 @@ pub fn put_starts(column: &[u16], start: &[u16], at: &mut [usize])
     requires { Each taken_by column.now × Each (λ c. start_in (taken_by c)) start.now × (length at.old ≡ columns) }
     ensures { Filled start_in at.new columns }
 {
-    let mut c = 0;
-    while c < COLUMNS {
+    for c in 0..COLUMNS {
         at[column[c] as usize] = start[c] as usize;
-        c += 1;
     }
 }

@@ -11,9 +11,7 @@ pub fn put_masks(column: &[u16], up: &[u16], mask: &mut [u8])
     requires { Each taken_by column.now × (length up.now ≡ columns) × ((c : ℕ) → c < columns → get_or up.now c 0 < 7) × (length mask.old ≡ mask_bytes) }
     ensures { First (λ b. get_or up.now (column_of b) 0) mask.new }
 {
-    let mut c = 0;
-    while c < COLUMNS {
+    for c in 0..COLUMNS {
         masks::put(mask, column[c] as usize, up[c] as usize);
-        c += 1;
     }
 }

@@ -14,12 +14,10 @@ pub fn taken_columns(off: &[u16], column: &mut [u16], up: &mut [u16])
     ensures filled { Filled taken_by column.new columns }
     ensures filled_2 { Filled (λ c. up_out (taken_by c)) up.new columns }
 {
-    let mut c = 0;
-    while c < COLUMNS {
+    for c in 0..COLUMNS {
         let p = off[c];
         column[c] = p % short::COLUMNS;
         up[c] = (short::ROWS - p / short::ROW) % short::ROWS;
-        c += 1;
     }
 }
 
@@ -28,10 +26,8 @@ pub fn begins(off: &[u16], start: &mut [u16])
     requires { Each source_bit off.now × (length start.old ≡ columns) }
     ensures { Filled (λ c. source_bit c % row_bits) start.new columns }
 {
-    let mut c = 0;
-    while c < COLUMNS {
-        start[c] = off[c] % short::ROW;
-        c += 1;
+    for (c, begin) in start.iter_mut().enumerate() {
+        *begin = off[c] % short::ROW;
     }
 }
 
@@ -40,9 +36,7 @@ pub fn by_plane(start: &[u16], from: &mut [usize])
     requires { Each (λ c. source_bit c % row_bits) start.now × (length from.old ≡ columns) }
     ensures { Filled from_out from.new columns }
 {
-    let mut c = 0;
-    while c < COLUMNS {
+    for c in 0..COLUMNS {
         from[LINE_BYTES * (7 - c % 8) + c / 8] = start[c] as usize;
-        c += 1;
     }
 }

@@ -9,7 +9,6 @@ ghost use Rattle.interleaver.specs.Interleaver.{source_bit, Squares};
 mod table;
 
 use table::SQUARES;
-use word_columns::COLUMNS;
 
 // The first coefficient of step 5: a place on is so many coded bits on, except for the square, and a line on so many lines.
 pub const FACTOR: usize = 11;
@@ -36,9 +35,7 @@ pub fn first_line(off: &mut [u16])
     ensures { off.new ≡ tab columns source_bit }
 {
     let squares = SQUARES;
-    let mut c = 0;
-    while c < COLUMNS {
-        off[c] = source_bit(&squares, c) as u16;
-        c += 1;
+    for (c, bit) in off.iter_mut().enumerate() {
+        *bit = source_bit(&squares, c) as u16;
     }
 }

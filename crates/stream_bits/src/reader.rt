@@ -44,10 +44,8 @@ pub fn eight_bits(frames: &[u8], size: usize, count: usize, x: usize) -> u64
 {
     let mut stream = new(frames, x);
     let mut v = 0u64;
-    let mut t = 0usize;
-    while t < 8 {
+    for _t in 0..8usize {
         v = pushed(v, next(&mut stream, size, count));
-        t += 1;
     }
     v
 }

@@ -20,20 +20,10 @@ fn together(size: usize, count: usize, at: Position, most: usize) -> usize
     let frame = at.piece;
     let bit = at.bit;
     let span = sizes::span(size);
-    if frame >= count {
+    if frame >= count || bit < sizes::MARKER_BITS || bit + 16 > span {
         return 0;
     }
-    if bit < sizes::MARKER_BITS {
-        return 0;
-    }
-    if bit + 16 > span {
-        return 0;
-    }
-    let n = (span - bit) / 8 - 1;
-    if n < most {
-        return n;
-    }
-    most
+    ((span - bit) / 8 - 1).min(most)
 }
 
 // The byte of the stream from a place on: of the marker, of the zeros after the last frame, or as a reader hands out its bits.
@@ -99,5 +89,5 @@ pub fn fill_block(rate: u64, frames: &[u8], size: usize, count: usize, j: usize,
 {
     fill_bytes(frames, size, count, j * sizes::info_bits(rate), block);
     let last = block.len() - 1;
-    block[last] = block[last] & 252;
+    block[last] &= 252;
 }

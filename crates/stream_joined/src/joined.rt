@@ -32,13 +32,10 @@ pub fn joined_eight(rate: u64, blocks: &[u8], at: Position) -> u64
     ensures { result ≡ val (λ t. joined rate (piece (block_bytes rate) blocks.now) (bit_of rate at + t)) 8 }
 {
     let k = sizes::info_bits(rate);
-    let mut here = at;
     let mut v = 0u64;
-    let mut t = 0usize;
-    while t < 8 {
-        v = (v << 1) | (joined_bit(rate, blocks, here) as u64);
-        here = pieces::position_after(here, 1, k);
-        t += 1;
+    for t in 0..8 {
+        let bit = joined_bit(rate, blocks, pieces::position_after(at, t, k));
+        v = (v << 1) | u64::from(bit);
     }
     v
 }

@@ -16,13 +16,11 @@ pub fn marker_at(rate: u64, blocks: &[u8], x: usize) -> u64
     ensures { result ≡ val (λ t. Frames·joined rate (piece (block_bytes rate) blocks.now) (x + t)) marker_bits }
 {
     let k = sizes::info_bits(rate);
-    let mut at = pieces::position_of(x, k);
+    let start = pieces::position_of(x, k);
     let mut v = 0u64;
-    let mut i = 0usize;
-    while i < sizes::MARKER_BITS / 8 {
-        v = (v << 8) | (joined::joined_byte(rate, blocks, at) as u64);
-        at = pieces::position_after(at, 8, k);
-        i += 1;
+    for i in 0..sizes::MARKER_BITS / 8 {
+        let at = pieces::position_after(start, 8 * i, k);
+        v = (v << 8) | u64::from(joined::joined_byte(rate, blocks, at));
     }
     v
 }

@@ -7,11 +7,6 @@ use Rattle.sizes.specs.Sizes.{word_bits}
 use Rattle.interleaver.proofs.Laws.Squares.{constants, source_squares}
 use Rattle.interleaver_line.proofs.source_bit.Goals as goal
 
-pub overflow_add-p : goal.overflow_add-p
-overflow_add-p c =
-    let s = c in
-    omega (arith, s.requires.1, constants s.args.squares.now s.requires.0 s.args.j)
-
 pub returns-then-p-lt-WORD_BITS : goal.returns-then-p-lt-WORD_BITS
 returns-then-p-lt-WORD_BITS c =
     let s = c in

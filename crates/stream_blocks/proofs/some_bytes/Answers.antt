@@ -1,16 +1,7 @@
 -- What lies together is laid by the bytes of the frame, and one byte by itself.
 use native.Mathlib.Omega.{arith}
-use Rattle.stream_blocks.proofs.Bytes.{together_inside, made_one, made_together}
+use Rattle.stream_blocks.proofs.Bytes.{together_inside, made_together}
 use Rattle.stream_blocks.proofs.some_bytes.Goals as goal
-
-pub returns-then-n-eq0 : goal.returns-then-n-eq0
-returns-then-n-eq0 c =
-    let a = c.args in
-    made_one a.size a.count a.frames.now a.at a.block.now a.i c.stream_byte.result (omega arith) c.stream_byte.ensures
-
-pub overflow_sub-start : goal.overflow_sub-start
-overflow_sub-start c =
-    c.together-n.ensures.start (omega arith)
 
 pub bytes_from-requires : goal.bytes_from-requires
 bytes_from-requires c =

@@ -2,7 +2,7 @@
 use mathlib.Core.Path.{ap, ◌∙◌}
 use Prim.Native.Nat.{ℕ, ◌+◌, ◌*◌}
 use native.Mathlib.Omega.{arith}
-use lib.Bits.{bit_and, mask_lt}
+use lib.Bits.{bit_and}
 use Rattle.bits.specs.Pack.{val}
 use Rattle.bits.proofs.Laws.Loops.{byte_mask}
 use Rattle.sizes.specs.Sizes.{span}
@@ -20,34 +20,6 @@ pub returns-then-bit-le-MARKER_BITS : goal.returns-then-bit-le-MARKER_BITS
 returns-then-bit-le-MARKER_BITS c =
     let a = c.args in
     c.marker_byte.ensures ∙ marker_byte a.size a.count a.frames.now a.at.piece a.at.bit (omega arith) (omega arith)
-
-pub overflow_mul-frame : goal.overflow_mul-frame
-overflow_mul-frame c =
-    let s = c in
-    let p = c.args.at in
-    let small = c.requires.1.small in
-    let e = ap (λ (k : ℕ). p.piece * k) c.span.ensures in
-    omega arith
-
-pub overflow_add-frame : goal.overflow_add-frame
-overflow_add-frame c =
-    let s = c in
-    let p = c.args.at in
-    let small = c.requires.1.small in
-    let e = ap (λ (k : ℕ). p.piece * k) c.span.ensures in
-    omega arith
-
-pub eight_bits-requires : goal.eight_bits-requires
-eight_bits-requires c =
-    let s = c in
-    let p = c.args.at in
-    let small = c.requires.1.small in
-    let e = ap (λ (k : ℕ). p.piece * k) c.span.ensures in
-    (s.requires.0, omega arith)
-
-pub overflow_cast-result : goal.overflow_cast-result
-overflow_cast-result c =
-    omega (arith, mask_lt c.eight_bits.result 8)
 
 pub returns : goal.returns
 returns c =

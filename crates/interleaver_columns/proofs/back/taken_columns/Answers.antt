@@ -11,9 +11,6 @@ use Rattle.interleaver_columns.specs.Inner.{taken_by, start_in, up_in}
 use Rattle.interleaver_columns.proofs.Starts.{start_place, in_place}
 use Rattle.interleaver_columns.proofs.back.taken_columns.Goals as goal
 
-pub loop-c-init : goal.loop-c-init
-loop-c-init c = (search rules, search rules, search rules, search rules, λ k h. absurd (omega arith), λ k h. absurd (omega arith), λ k h. absurd (omega arith))
-
 pub overflow_sub-a : goal.overflow_sub-a
 overflow_sub-a c =
     let l = c.loop-c in
@@ -28,14 +25,8 @@ loop-c-preserved c =
       search rules,
       search rules,
       search rules,
-      search rules,
-      fill l.column taken_by l.c _ (omega arith) (ap (λ (j : ℕ). j % 72) p) l.invariant.4,
+      fill l.column taken_by l.c _ (omega arith) (ap (λ (j : ℕ). j % 72) p) l.invariant.3,
       fill l.start (λ c. start_in (taken_by c)) l.c _ (omega arith)
-          (ap (λ (j : ℕ). 540 * (7 - l.c % 8) + 9 * ((210 - j / 72) % 30) + l.c / 8) p ∙ start_place l.c h) l.invariant.5,
-      fill l.up (λ c. up_in (taken_by c)) l.c _ (omega arith) (ap (λ (j : ℕ). (210 - j / 72) / 30 % 7) p ∙ in_place l.c h) l.invariant.6,
+          (ap (λ (j : ℕ). 540 * (7 - l.c % 8) + 9 * ((210 - j / 72) % 30) + l.c / 8) p ∙ start_place l.c h) l.invariant.4,
+      fill l.up (λ c. up_in (taken_by c)) l.c _ (omega arith) (ap (λ (j : ℕ). (210 - j / 72) / 30 % 7) p ∙ in_place l.c h) l.invariant.5,
     )
-
-pub returns : goal.returns
-returns c =
-    let l = c.loop-c in
-    record { filled = λ k h. l.invariant.4 k (omega arith); filled_2 = λ k h. l.invariant.5 k (omega arith); filled_3 = λ k h. l.invariant.6 k (omega arith) }

@@ -11,9 +11,6 @@ use Rattle.interleaver_columns.specs.Inner.{taken_by, up_out}
 use Rattle.interleaver_columns.proofs.Numbers.{out_place}
 use Rattle.interleaver_columns.proofs.out.taken_columns.Goals as goal
 
-pub loop-c-init : goal.loop-c-init
-loop-c-init c = (search rules, search rules, search rules, λ k h. absurd (omega arith), λ k h. absurd (omega arith))
-
 pub overflow_sub-up : goal.overflow_sub-up
 overflow_sub-up c =
     let l = c.loop-c in
@@ -27,15 +24,6 @@ loop-c-preserved c =
     let p : get_or s.args.off.now l.c 0 ≡ source_bit l.c = s.requires.0.1 l.c h in (
       search rules,
       search rules,
-      search rules,
-      fill l.column taken_by l.c _ (omega arith) (ap (λ (j : ℕ). j % 72) p) l.invariant.3,
-      fill l.up (λ c. up_out (taken_by c)) l.c _ (omega arith) (ap (λ (j : ℕ). (7 - j / 2160) % 7) p ∙ sym (out_place l.c h)) l.invariant.4,
+      fill l.column taken_by l.c _ (omega arith) (ap (λ (j : ℕ). j % 72) p) l.invariant.2,
+      fill l.up (λ c. up_out (taken_by c)) l.c _ (omega arith) (ap (λ (j : ℕ). (7 - j / 2160) % 7) p ∙ sym (out_place l.c h)) l.invariant.3,
     )
-
-pub returns : goal.returns
-returns c =
-    let l = c.loop-c in
-    record {
-      filled = λ k h. l.invariant.3 k (omega arith);
-      filled_2 = λ k h. l.invariant.4 k (omega arith);
-    }

@@ -2,16 +2,13 @@
 use mathlib.Core.Path.{◌≡◌, sym, ap, ◌∙◌}
 use Prim.Native.Nat.{ℕ, ◌+◌, ◌-◌, ◌/◌, ◌^◌}
 use native.Mathlib.Omega.{arith}
-use lib.Bits.{bit_and, mask_lt}
+use lib.Bits.{bit_and}
 use Rattle.bits.specs.Pack.{val}
 use Rattle.bits.proofs.Laws.Parts.{cut_part}
-use Rattle.sizes.specs.Sizes.{frame_marker, marker_bits}
+use Rattle.sizes.specs.Sizes.{marker_bits}
 use Rattle.stream_writer.specs.Stream.{marker_bit}
 use Rattle.stream_writer.proofs.Laws.Stream.{marker_bits_lem, marker_val}
 use Rattle.stream_bits.proofs.marked.marker_byte.Goals as goal
-
-pub overflow_cast-result : goal.overflow_cast-result
-overflow_cast-result c = omega (arith, mask_lt (frame_marker / 2 ^ (marker_bits - 8 - c.args.r)) 8)
 
 pub returns : goal.returns
 returns c =

@@ -7,16 +7,8 @@ use Rattle.sizes.specs.Sizes.{marker_bits, span}
 use Rattle.bits.specs.Pack.{bit_at}
 use Rattle.stream_writer.specs.Stream.{marker_bit, stream_bit}
 use Rattle.stream_writer.proofs.Laws.Stream.{stream_fill}
-use Rattle.stream_bits.proofs.Rooms.{stream_room, frame_inside}
+use Rattle.stream_bits.proofs.Rooms.{frame_inside}
 use Rattle.stream_bits.proofs.marked.stream_bit.Goals as goal
-
-pub overflow_mul-count : goal.overflow_mul-count
-overflow_mul-count c =
-    let s = c in
-    let a = c.args in
-    let e = c.span-span.ensures in
-    let r = stream_room a.size a.count a.frames.now s.requires.0 in
-    omega (arith, ap (λ (k : ℕ). a.count * k) e)
 
 pub returns-then-count-span : goal.returns-then-count-span
 returns-then-count-span c =
@@ -34,30 +26,6 @@ returns-then-r-lt-MARKER_BITS c =
     let d : a.x % c.span-span.result ≡ a.x % span a.size = ap (λ (k : ℕ). a.x % k) e in
     let m : a.x % span a.size < marker_bits = omega arith in
     c.marker_bit.ensures ∙ ap marker_bit d ∙ sym (rw (lt-ltb a.x (a.count * span a.size) h, lt-ltb (a.x % span a.size) marker_bits m) refl)
-
-pub overflow_mul-x : goal.overflow_mul-x
-overflow_mul-x c =
-    let s = c in
-    let a = c.args in
-    let e = c.span-span.ensures in
-    let h : a.x < a.count * span a.size = omega (arith, ap (λ (k : ℕ). a.count * k) e) in
-    let d : a.x % c.span-span.result ≡ a.x % span a.size = ap (λ (k : ℕ). a.x % k) e in
-    let m : marker_bits ≤ a.x % span a.size = omega arith in
-    let w = frame_inside a.size a.count a.frames.now a.x s.requires.0 h m in
-    let z = ap (λ (k : ℕ). a.x / k * (8 * a.size)) e in
-    omega arith
-
-pub overflow_add-x : goal.overflow_add-x
-overflow_add-x c =
-    let s = c in
-    let a = c.args in
-    let e = c.span-span.ensures in
-    let h : a.x < a.count * span a.size = omega (arith, ap (λ (k : ℕ). a.count * k) e) in
-    let d : a.x % c.span-span.result ≡ a.x % span a.size = ap (λ (k : ℕ). a.x % k) e in
-    let m : marker_bits ≤ a.x % span a.size = omega arith in
-    let w = frame_inside a.size a.count a.frames.now a.x s.requires.0 h m in
-    let z = ap (λ (k : ℕ). a.x / k * (8 * a.size)) e in
-    omega arith
 
 pub bit_at-requires : goal.bit_at-requires
 bit_at-requires c =

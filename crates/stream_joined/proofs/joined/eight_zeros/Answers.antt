@@ -1,6 +1,5 @@
 -- A byte that is zero has eight zeros.
 use mathlib.Core.Path.{◌≡◌, sym, ap, ◌∙◌}
-use mathlib.Core.Bool.{false≢true}
 use Prim.Native.Nat.{ℕ, ◌+◌, ◌*◌, ◌≤◌}
 use native.Mathlib.Omega.{arith}
 use borrow.Author.Tests.{eqb-true}
@@ -10,7 +9,7 @@ use Rattle.sizes.specs.Sizes.{info_bits, block_bytes}
 use Rattle.sizes.proofs.Laws.Rate.{info_le}
 use Rattle.stream_reader.proofs.Laws.Blocks.{joined_bits}
 use Rattle.stream_reader.specs.Inner.{bit_of}
-use Rattle.stream_joined.proofs.Rooms.{piece_le, stretch_in}
+use Rattle.stream_joined.proofs.Rooms.{stretch_in}
 use Rattle.stream_joined.proofs.Bytes.{joined_from, byte_there}
 use Rattle.stream_joined.proofs.joined.eight_zeros.Goals as goal
 
@@ -20,15 +19,6 @@ overflow_add-bit c =
     let w = info_le s.args.rate in
     let inside = c.requires.inside in
     omega arith
-
-pub returns-then-bit-info_bits : goal.returns-then-bit-info_bits
-returns-then-bit-info_bits c = λ e. absurd (false≢true e)
-
-pub packed_bit-requires : goal.packed_bit-requires
-packed_bit-requires c =
-    let s = c in
-    let a = c.args in
-    (s.requires.held.lie.rate3, piece_le a.rate 1 a.blocks.now a.at s.requires (omega arith), s.requires.inside)
 
 pub byte_from-requires : goal.byte_from-requires
 byte_from-requires c =

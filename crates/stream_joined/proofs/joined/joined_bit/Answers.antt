@@ -3,14 +3,8 @@ use mathlib.Core.Path.{sym, ap, ◌∙◌}
 use native.Mathlib.Omega.{arith}
 use Rattle.bits.specs.Pack.{bit_at}
 use Rattle.stream_joined.proofs.Bytes.{joined_in}
-use Rattle.stream_joined.proofs.Rooms.{piece_le, bit_in}
+use Rattle.stream_joined.proofs.Rooms.{bit_in}
 use Rattle.stream_joined.proofs.joined.joined_bit.Goals as goal
-
-pub packed_bit-requires : goal.packed_bit-requires
-packed_bit-requires c =
-    let s = c in
-    let a = c.args in
-    (s.requires.held.lie.rate3, piece_le a.rate 1 a.blocks.now a.at s.requires (omega arith), s.requires.inside)
 
 pub bit_at-requires : goal.bit_at-requires
 bit_at-requires c =

@@ -2,14 +2,14 @@
 use mathlib.Core.Path.{ap, ◌∙◌}
 use Prim.Native.Nat.{ℕ, ◌+◌, ◌*◌, ◌≤◌}
 use native.Mathlib.Omega.{arith}
-use lib.Bits.{bit_and, mask_lt}
+use lib.Bits.{bit_and}
 use Rattle.bits.specs.Pack.{val, bit_at, piece}
 use Rattle.bits.proofs.Laws.Loops.{byte_mask}
 use Rattle.sizes.specs.Sizes.{info_bits, block_bytes}
 use Rattle.sizes.proofs.Laws.Rate.{info_le}
 use Rattle.stream_reader.proofs.Laws.Blocks.{joined_bits}
 use Rattle.stream_reader.specs.Inner.{bit_of}
-use Rattle.stream_joined.proofs.Rooms.{piece_le, stretch_in}
+use Rattle.stream_joined.proofs.Rooms.{stretch_in}
 use Rattle.stream_joined.proofs.Bytes.{joined_from, byte_there}
 use Rattle.stream_joined.proofs.joined.joined_byte.Goals as goal
 
@@ -19,12 +19,6 @@ overflow_add-bit c =
     let w = info_le s.args.rate in
     let inside = c.requires.inside in
     omega arith
-
-pub packed_bit-requires : goal.packed_bit-requires
-packed_bit-requires c =
-    let s = c in
-    let a = c.args in
-    (s.requires.held.lie.rate3, piece_le a.rate 8 a.blocks.now a.at s.requires (omega arith), s.requires.inside)
 
 pub byte_from-requires : goal.byte_from-requires
 byte_from-requires c =
@@ -43,10 +37,6 @@ returns-then-bit-info_bits c =
     let l : a.at.bit + 8 ≤ info_bits a.rate = omega arith in
     c.byte_from.ensures ∙ ap (λ (y : ℕ). val (λ t. bit_at a.blocks.now (y + t)) 8) c.packed_bit.ensures
     ∙ byte_there a.rate a.blocks.now a.at s.requires.held.lie.rate3 l
-
-pub overflow_cast-result : goal.overflow_cast-result
-overflow_cast-result c =
-    omega (arith, mask_lt c.joined_eight.result 8)
 
 pub returns : goal.returns
 returns c =

@@ -1,6 +1,5 @@
 -- A block's bytes lie after those of the blocks before it.
-use mathlib.Core.Path.{ap}
-use Prim.Native.Nat.{ℕ, ◌+◌, ◌*◌, ◌≤◌}
+use Prim.Native.Nat.{◌*◌, ◌≤◌}
 use native.Mathlib.Omega.{arith}
 use native.Mathlib.Nat.{mul-le-mul}
 use Rattle.sizes.proofs.Laws.Rate.{info_le, block_room}
@@ -32,8 +31,3 @@ overflow_add-result c =
     let m = mul-le-mul s.requires.1 h in
     let k = info_le s.args.rate in
     omega (arith, s.requires.2)
-
-pub returns : goal.returns
-returns c =
-    let at = c.args.at in
-    ap (λ (h : ℕ). at.piece * (8 * h) + at.bit) c.block_bytes.ensures

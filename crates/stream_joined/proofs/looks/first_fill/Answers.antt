@@ -1,5 +1,5 @@
 -- The bits passed are zero, so the first that is not is found among the rest; `at` is the place of the next.
-use mathlib.Core.Path.{◌≡◌, refl, sym, ap, ◌∙◌}
+use mathlib.Core.Path.{◌≡◌, sym, ap, ◌∙◌}
 use Prim.Native.Nat.{ℕ, ◌+◌, ◌*◌, ◌≤◌}
 use native.Mathlib.Omega.{arith}
 use Rattle.bits.proofs.Laws.First.{first_end}
@@ -13,10 +13,6 @@ use Rattle.stream_joined.proofs.Rooms.{pieces_room, held_at, piece_le, block_fit
 use Rattle.stream_joined.proofs.Fill.{fill_on, fill_here}
 use Rattle.stream_joined.proofs.looks.first_fill.Goals as goal
 
-pub info_bits-k-requires : goal.info_bits-k-requires
-info_bits-k-requires c =
-    c.requires.0.rate3
-
 pub overflow_mul-end : goal.overflow_mul-end
 overflow_mul-end c =
     let s = c in
@@ -28,21 +24,6 @@ position_of-at-requires c =
     let w = info_pos c.args.rate in
     let e = c.info_bits-k.ensures in
     omega arith
-
-pub loop-x-init : goal.loop-x-init
-loop-x-init c =
-    let s = c in
-    let a = rw c.info_bits-k.ensures at c.position_of-at.ensures in
-    (s.requires.1, refl, a)
-
-pub zeros_at-n-requires : goal.zeros_at-n-requires
-zeros_at-n-requires c =
-    let s = c in
-    let a = c.args in
-    let l = c.loop-x in
-    let e = ap (λ (k : ℕ). a.pieces * k) c.info_bits-k.ensures in
-    let held : Held a.rate a.blocks.now l.x 1 = record { pieces = a.pieces; lie = s.requires.0; fit = omega arith } in
-    held_at held l.x 1 l.invariant.2 (omega arith)
 
 pub returns-then-n-eq0 : goal.returns-then-n-eq0
 returns-then-n-eq0 c =
@@ -76,17 +57,6 @@ overflow_add-x c =
     let n = c.zeros_at-n.result in
     let fit : l.x + n ≤ a.pieces * info_bits a.rate = block_fit a.rate a.pieces n l.invariant.2 (omega arith) z.inside in
     let w = pieces_room a.rate a.pieces s.requires.0.pieces2 in
-    omega arith
-
-pub loop-x-smaller : goal.loop-x-smaller
-loop-x-smaller c =
-    let s = c in
-    let a = c.args in
-    let l = c.loop-x in
-    let e = ap (λ (k : ℕ). a.pieces * k) c.info_bits-k.ensures in
-    let z = c.zeros_at-n.ensures in
-    let n = c.zeros_at-n.result in
-    let fit : l.x + n ≤ a.pieces * info_bits a.rate = block_fit a.rate a.pieces n l.invariant.2 (omega arith) z.inside in
     omega arith
 
 pub loop-x-preserved : goal.loop-x-preserved
