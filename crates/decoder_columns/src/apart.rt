@@ -30,10 +30,8 @@ fn join(a: &[u8], b: &[u8], c: &[u8], s: Sums, at: usize, joined: &mut [u8])
     requires at_once_bound { (at + at_once ≤ row_bits) × (length joined.old ≡ at_once) }
     ensures { Joined a.now b.now c.now s.second s.third at at_once joined.old joined.new }
 {
-    let mut t = 0;
-    while t < AT_ONCE {
+    for t in 0..AT_ONCE {
         joined[t] = joined[t] | (a[at + t] ^ b[at + t + s.second] ^ c[at + t + s.third]);
-        t += 1;
     }
 }
 
@@ -43,10 +41,8 @@ fn every(joined: &[u8], step: usize, n: usize) -> u8
     ensures { result ≡ 0 → (m : ℕ) → m < n → get_or joined.now (step * m) 0 ≡ 0 }
 {
     let mut all = 0u8;
-    let mut m = 0;
-    while m < n {
+    for m in 0..n {
         all = all | joined[step * m];
-        m += 1;
     }
     all
 }
@@ -58,10 +54,8 @@ pub fn apart(a: &[u8], b: &[u8], c: &[u8], s: Sums) -> u8
     ensures { result ≡ 0 → NoSum a.now b.now c.now s.second s.third s.step s.count }
 {
     let mut joined = [0u8; AT_ONCE];
-    let mut u = 0;
-    while u < TIMES {
+    for u in 0..TIMES {
         join(a, b, c, s, AT_ONCE * u, &mut joined);
-        u += 1;
     }
     every(&joined, s.step, s.count)
 }
