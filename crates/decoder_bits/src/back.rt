@@ -18,13 +18,11 @@ pub fn steps(step: usize, n: usize, coded: &[u8], input: &mut [u8])
 {
     let mut newer = 0;
     let mut older = 0;
-    let mut i = 0;
-    while i < n {
+    for i in 0..n {
         let bit = coded[step * i + 1] ^ older ^ newer;
         input[i] = bit;
         older = newer;
         newer = bit;
-        i += 1;
     }
 }
 
@@ -35,12 +33,10 @@ pub fn pairs(coded: &[u8], input: &mut [u8])
 {
     let mut newer = 0;
     let mut older = 0;
-    let mut q = 0;
-    while q < PAIRS {
+    for q in 0..PAIRS {
         older = coded[3 * q + 1] ^ older ^ newer;
         input[2 * q] = older;
         newer = coded[3 * q + 2] ^ newer ^ older;
         input[2 * q + 1] = newer;
-        q += 1;
     }
 }
