@@ -18,11 +18,13 @@ pub fn steps(step: usize, n: usize, coded: &[u8], input: &mut [u8])
 {
     let mut newer = 0;
     let mut older = 0;
-    for i in 0..n {
+    let mut i = 0;
+    while i < n {
         let bit = coded[step * i + 1] ^ older ^ newer;
         input[i] = bit;
         older = newer;
         newer = bit;
+        i += 1;
     }
 }
 
@@ -33,10 +35,12 @@ pub fn pairs(coded: &[u8], input: &mut [u8])
 {
     let mut newer = 0;
     let mut older = 0;
-    for q in 0..PAIRS {
+    let mut q = 0;
+    while q < PAIRS {
         older = coded[3 * q + 1] ^ older ^ newer;
         input[2 * q] = older;
         newer = coded[3 * q + 2] ^ newer ^ older;
         input[2 * q + 1] = newer;
+        q += 1;
     }
 }

@@ -9,10 +9,12 @@ pub fn first_apart(made: &[u8], coded: &[u8]) -> usize
     requires { Both made.now coded.now }
     ensures { result ≡ up_to (same_at made.now coded.now) 0 word_bits }
 {
-    for j in 0..sizes::WORD_BITS {
+    let mut j = 0;
+    while j < sizes::WORD_BITS {
         if coded[j] != made[j] {
             return j;
         }
+        j += 1;
     }
-    sizes::WORD_BITS
+    j
 }

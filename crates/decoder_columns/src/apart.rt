@@ -30,8 +30,10 @@ fn join(a: &[u8], b: &[u8], c: &[u8], s: Sums, at: usize, joined: &mut [u8])
     requires at_once_bound { (at + at_once ≤ row_bits) × (length joined.old ≡ at_once) }
     ensures { Joined a.now b.now c.now s.second s.third at at_once joined.old joined.new }
 {
-    for t in 0..AT_ONCE {
+    let mut t = 0;
+    while t < AT_ONCE {
         joined[t] = joined[t] | (a[at + t] ^ b[at + t + s.second] ^ c[at + t + s.third]);
+        t += 1;
     }
 }
 
@@ -41,8 +43,10 @@ fn every(joined: &[u8], step: usize, n: usize) -> u8
     ensures { result ≡ 0 → (m : ℕ) → m < n → get_or joined.now (step * m) 0 ≡ 0 }
 {
     let mut all = 0u8;
-    for m in 0..n {
+    let mut m = 0;
+    while m < n {
         all = all | joined[step * m];
+        m += 1;
     }
     all
 }
@@ -54,8 +58,10 @@ pub fn apart(a: &[u8], b: &[u8], c: &[u8], s: Sums) -> u8
     ensures { result ≡ 0 → NoSum a.now b.now c.now s.second s.third s.step s.count }
 {
     let mut joined = [0u8; AT_ONCE];
-    for u in 0..TIMES {
+    let mut u = 0;
+    while u < TIMES {
         join(a, b, c, s, AT_ONCE * u, &mut joined);
+        u += 1;
     }
     every(&joined, s.step, s.count)
 }

@@ -31,8 +31,10 @@ fn column_at(coded: &[u8], x: usize) -> u8
     ensures { result ≡ column (bits_of coded.now) x }
 {
     let mut w = 0u8;
-    for k in 0..ROWS {
+    let mut k = 0usize;
+    while k < ROWS {
         w = (w << 1) | coded[x + ROW * (6 - k)];
+        k += 1;
     }
     w
 }
@@ -43,8 +45,10 @@ fn within(coded: &[u8], v: &mut [u8])
     requires row { Row v.old }
     ensures { Held (column (bits_of coded.now)) v.new row_bits }
 {
-    for x in 0..ROW {
+    let mut x = 0;
+    while x < ROW {
         v[x] = column_at(coded, x);
+        x += 1;
     }
 }
 
@@ -53,8 +57,10 @@ fn follow(v: &mut [u8])
     requires { Row v.old }
     ensures { Put v.old row_bits 8 (λ e. get_or v.old e 0 / 2) v.new }
 {
-    for e in 0..BEHIND {
+    let mut e = 0;
+    while e < BEHIND {
         v[ROW + e] = v[e] >> 1;
+        e += 1;
     }
 }
 
@@ -74,8 +80,10 @@ pub fn twos(v: &[u8], out: &mut [u8])
     requires row_2 { Row out.old }
     ensures { Held (sum_two v.now) out.new (row_places - 1) }
 {
-    for x in 0..TWOS {
+    let mut x = 0;
+    while x < TWOS {
         out[x] = v[x] ^ v[x + 1];
+        x += 1;
     }
 }
 
@@ -84,7 +92,9 @@ pub fn fives(v: &[u8], out: &mut [u8])
     requires row_2 { Row out.old }
     ensures { Held (sum_five v.now) out.new (row_places - 4) }
 {
-    for x in 0..FIVES {
+    let mut x = 0;
+    while x < FIVES {
         out[x] = v[x] ^ v[x + 1] ^ v[x + 2] ^ v[x + 3] ^ v[x + 4];
+        x += 1;
     }
 }
