@@ -1,5 +1,5 @@
 -- One start after another: those that are passed, the one that is left, and the one that is found.
-use mathlib.Core.Path.{◌≡◌, refl, sym, ap, ◌∙◌}
+use mathlib.Core.Path.{◌≡◌, refl, ap, ◌∙◌}
 use mathlib.Core.Bool.{Bool, true, false, not}
 use mathlib.Core.List.{List}
 use mathlib.Core.Logic.{⊎_elim}
@@ -8,7 +8,6 @@ use native.Mathlib.Omega.{arith}
 use lib.Dec.{eqb}
 use lib.ListN.{length, get_or}
 use borrow.Author.Tests.{eqb-true}
-use Rattle.bits.specs.Inner.{Copied}
 use Rattle.bits.proofs.Laws.Choice.{lt_or_le, eq_or_ne}
 use Rattle.bits.specs.Basics.{up_to}
 use Rattle.bits.proofs.Laws.First.{first_on, first_here, first_skip, first_same, same_from, found}
@@ -118,18 +117,15 @@ more b marker x i n r agrees before k l =
     (lt_or_le k i)
 
 -- the bits of bytes that were copied
-copied_bit : (b before room : List ℕ) → Copied b 0 before 0 (length b) room → (x : ℕ) → x < 8 * length b → bit_at room x ≡ bit_at b x
+copied_bit : (b room : List ℕ) → ((k : ℕ) → k < length b → get_or room k 0 ≡ get_or b k 0) → (x : ℕ) → x < 8 * length b → bit_at room x ≡ bit_at b x
 unfolding bit_at
-copied_bit b before room c x l =
-    let z : 0 + x / 8 ≡ x / 8 = omega arith in
-    ap (λ (v : ℕ). v / 2 ^ (7 - x % 8) % 2)
-    (ap (λ (k : ℕ). get_or room k 0) (sym z) ∙ c.here (x / 8) (omega arith) ∙ ap (λ (k : ℕ). get_or b k 0) z)
+copied_bit b room same x l = ap (λ (v : ℕ). v / 2 ^ (7 - x % 8) % 2) (same (x / 8) (omega arith))
 
 -- a short capture with zeros after it: its starts are as they were
-pub padded : (b before room marker : List ℕ) (n from end : ℕ) → Copied b 0 before 0 (length b) room → end + n ≤ 8 * length b + 1
+pub padded : (b room marker : List ℕ) (n from end : ℕ) → ((k : ℕ) → k < length b → get_or room k 0 ≡ get_or b k 0) → end + n ≤ 8 * length b + 1
     → up_to (missed (bit_at marker) n room) from end ≡ up_to (missed (bit_at marker) n b) from end
 unfolding stands first_mismatch
-padded b before room marker n from end c h =
+padded b room marker n from end same h =
     same_from (missed (bit_at marker) n room) (missed (bit_at marker) n b) (end - from) from (λ x a l.
     ap (λ (k : ℕ). not (eqb k n)) (first_same (right (bit_at marker) room x) (right (bit_at marker) b x) n (λ i u.
-    ap (λ (v : ℕ). eqb v (bit_at marker i)) (copied_bit b before room c (x + i) (omega arith)))))
+    ap (λ (v : ℕ). eqb v (bit_at marker i)) (copied_bit b room same (x + i) (omega arith)))))

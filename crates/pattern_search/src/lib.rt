@@ -66,7 +66,7 @@ pub fn first_any(
 {
     if b.len() < 8 {
         let mut room = [0u8; 8];
-        bits::change::copy_part(b, 0, &mut room, 0, b.len());
+        room[..b.len()].copy_from_slice(b);
         return first_start(&room, marker, n, first, last, from, end);
     }
     first_start(b, marker, n, first, last, from, end)

@@ -1,19 +1,13 @@
 -- What is left to try finds what the whole search finds: a start is passed or left where a slot of it is wrong.
-use mathlib.Core.Path.{◌≡◌, refl, sym, ap, ◌∙◌}
-use Prim.Native.Nat.{ℕ, ◌+◌}
+use mathlib.Core.Path.{◌≡◌, sym, ap, ◌∙◌}
+use Prim.Native.Nat.{ℕ}
 use native.Mathlib.Omega.{arith}
-use borrow.Author.Rules.{rules}
 use Rattle.bits.specs.Basics.{up_to}
 use Rattle.bits.proofs.Laws.First.{first_end}
 use Rattle.bits.specs.Pack.{bit_at}
 use Rattle.pattern_search.specs.Starts.{missed}
-use Rattle.pattern_search.proofs.Passing.{passes, passed, left, here, more}
+use Rattle.pattern_search.proofs.Passing.{passed, left, here, more}
 use Rattle.pattern_search.proofs.first_start.Goals as goal
-
-pub next_start-x-requires : goal.next_start-x-requires
-next_start-x-requires c =
-    let s = c in
-    passes s.args.b.now s.args.marker.now s.args.n s.args.first s.args.last s.args.from s.args.end s.requires s.args.from s.requires.begins.order
 
 pub start-init : goal.start-init
 start-init c =
@@ -21,26 +15,6 @@ start-init c =
     let a = c.args in
     let next = c.next_start-x.ensures in
     (next.most, passed a.b.now a.marker.now a.n a.first a.last a.from a.end s.requires a.from c.next_start-x.result next)
-
-pub loop-i-init : goal.loop-i-init
-loop-i-init c = (refl, search rules, λ k l. absurd (omega arith))
-
-pub right_from-right-requires : goal.right_from-right-requires
-right_from-right-requires c =
-    let s = c in
-    let l = c.loop-i in
-    let o = c.start in
-    let e = c.requires.begins.ends in
-    let q = c.loop-i.invariant.0 in
-    let h = c.requires.begins in
-    record { capture = record { eight = s.requires.long; there = omega arith }; below = search rules; eight = h.eight; room = h.room }
-
-pub next_start-x-requires-then-right-eq0 : goal.next_start-x-requires-then-right-eq0
-next_start-x-requires-then-right-eq0 c =
-    let s = c in
-    let l = c.loop-i in
-    passes s.args.b.now s.args.marker.now s.args.n s.args.first s.args.last s.args.from s.args.end s.requires (l.x + 1)
-    (let q = c.loop-i.invariant.0 in omega arith)
 
 pub start-preserved : goal.start-preserved
 start-preserved c =

@@ -6,27 +6,6 @@ use Rattle.bits.proofs.Laws.Window.{one_in}
 use Rattle.pattern_search.proofs.Passing.{pulsed, next_begin, next_more}
 use Rattle.pattern_search.proofs.next_start.Goals as goal
 
-pub overflow_add-x : goal.overflow_add-x
-overflow_add-x c =
-    let h = c.requires in
-    let first = c.requires.room_first in
-    let last = c.requires.room_last in
-    let most = c.requires.most in
-    let order = c.requires.order in
-    omega arith
-
-pub overflow_add-end : goal.overflow_add-end
-overflow_add-end c =
-    let h = c.requires in
-    let first = c.requires.room_first in
-    let last = c.requires.room_last in
-    let most = c.requires.most in
-    let order = c.requires.order in
-    omega arith
-
-pub pulse_from-requires : goal.pulse_from-requires
-pulse_from-requires c = let h = c.requires in record { eight = h.eight; order = let o = c.requires.order in omega arith; room = h.room_first }
-
 pub overflow_sub-at : goal.overflow_sub-at
 overflow_sub-at c =
     let a = c.args in
@@ -38,59 +17,6 @@ loop-at-init c =
     let a = c.args in
     next_begin a.b.now a.first a.last a.x a.end _ (pulsed a.b.now a.first a.x a.end c.pulse_from.result
     c.requires.order c.pulse_from.ensures)
-
-pub overflow_add-at : goal.overflow_add-at
-overflow_add-at c =
-    let h = c.requires in
-    let first = c.requires.room_first in
-    let last = c.requires.room_last in
-    let most = c.requires.most in
-    let order = c.requires.order in
-    omega arith
-
-pub bit_at-requires : goal.bit_at-requires
-bit_at-requires c =
-    let h = c.requires in
-    let first = c.requires.room_first in
-    let last = c.requires.room_last in
-    let most = c.requires.most in
-    let order = c.requires.order in
-    omega arith
-
-pub returns-then-bit_at-ne0 : goal.returns-then-bit_at-ne0
-returns-then-bit_at-ne0 c = c.loop-at.invariant
-
-pub overflow_add-at-in-loop-at : goal.overflow_add-at-in-loop-at
-overflow_add-at-in-loop-at c =
-    let h = c.requires in
-    let first = c.requires.room_first in
-    let last = c.requires.room_last in
-    let most = c.requires.most in
-    let order = c.requires.order in
-    omega arith
-
-pub overflow_add-at-in-loop-at-2 : goal.overflow_add-at-in-loop-at-2
-overflow_add-at-in-loop-at-2 c =
-    let h = c.requires in
-    let first = c.requires.room_first in
-    let last = c.requires.room_last in
-    let most = c.requires.most in
-    let order = c.requires.order in
-    omega arith
-
-pub overflow_add-end-in-loop-at : goal.overflow_add-end-in-loop-at
-overflow_add-end-in-loop-at c =
-    let h = c.requires in
-    let first = c.requires.room_first in
-    let last = c.requires.room_last in
-    let most = c.requires.most in
-    let order = c.requires.order in
-    omega arith
-
-pub pulse_from-requires-in-loop-at : goal.pulse_from-requires-in-loop-at
-pulse_from-requires-in-loop-at c =
-    let h = c.requires in
-    record { eight = h.eight; order = omega arith; room = h.room_first }
 
 pub overflow_sub-at-in-loop-at : goal.overflow_sub-at-in-loop-at
 overflow_sub-at-in-loop-at c =
@@ -115,6 +41,3 @@ loop-at-preserved c =
     let p = pulsed a.b.now a.first (l.at + 1) a.end c.pulse_from-in-loop-at.result (omega arith) c.pulse_from-in-loop-at.ensures in
     next_more a.b.now a.first a.last a.x a.end l.at _ l.invariant
     (sym c.bit_at.ensures ∙ c.if-bit_at-ne0.false) p
-
-pub returns : goal.returns
-returns c = c.loop-at.invariant
