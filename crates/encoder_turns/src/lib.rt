@@ -14,11 +14,7 @@ fn put_low_eight(out: &mut [u8], at: usize, v: u64)
     requires { at + 8 ≤ length out.old }
     ensures { Put out.old at 8 (byte_of v) out.new }
 {
-    let mut t = 0usize;
-    while t < 8 {
-        out[at + t] = ((v >> (8 * t)) & 255) as u8;
-        t += 1;
-    }
+    out[at..at + 8].copy_from_slice(&v.to_le_bytes());
 }
 
 // w with the bits of a byte appended.
@@ -47,13 +43,10 @@ pub fn thirds(table: &[u64], input: &[u8], coded: &mut [u8])
     ensures { coded.new ≡ tab word_bits (encode 0 (bit_at input.now)) }
 {
     let mut before = 0;
-    let mut i = 0;
-    while i < 630 {
-        let byte = input[i];
-        let w = pushed(before, byte);
+    for (i, byte) in input.iter().enumerate() {
+        let w = pushed(before, *byte);
         third_turn(table, w, coded, 24 * i);
-        before = (byte as usize) & 3;
-        i += 1;
+        before = (*byte as usize) & 3;
     }
 }
 
@@ -67,24 +60,22 @@ fn half_turn(table: &[u64], w: usize, coded: &mut [u8], at: usize)
     put_low_eight(coded, at + 8, table[w & 63]);
 }
 
-// Rate 1/2.
+// Rate 1/2. One loop for this and rate 1/3 would take the turn, its law and its sizes by a trait, which is longer than the loop.
 pub fn halves(table: &[u64], input: &[u8], coded: &mut [u8])
     requires halves { Halves table.now }
     requires codes { Codes 945 input.now coded.old }
     ensures { coded.new ≡ tab word_bits (encode 1 (bit_at input.now)) }
 {
     let mut before = 0;
-    let mut i = 0;
-    while i < 945 {
-        let byte = input[i];
-        let w = pushed(before, byte);
+    for (i, byte) in input.iter().enumerate() {
+        let w = pushed(before, *byte);
         half_turn(table, w, coded, 16 * i);
-        before = (byte as usize) & 3;
-        i += 1;
+        before = (*byte as usize) & 3;
     }
 }
 
-// A turn at the rate 2/3, by the 18 bits of w: two input bytes and the two bits before them.
+// A turn at the rate 2/3, by the 18 bits of w: two input bytes and the two bits before them. One function for this and `third_turn`
+// would be given the seven numbers that differ, which say more where they stand.
 fn two_thirds_turn(table: &[u64], w: usize, coded: &mut [u8], at: usize)
     requires two_thirds { TwoThirds table.now }
     requires at_in_bounds { at + 24 ≤ length coded.old }
@@ -102,13 +93,11 @@ pub fn two_thirds(table: &[u64], input: &[u8], coded: &mut [u8])
     ensures { coded.new ≡ tab word_bits (encode 2 (bit_at input.now)) }
 {
     let mut before = 0;
-    let mut i = 0;
-    while i < 630 {
+    for i in 0..630 {
         let one = pushed(before, input[2 * i]);
         let byte = input[2 * i + 1];
         let w = pushed(one, byte);
         two_thirds_turn(table, w, coded, 24 * i);
         before = (byte as usize) & 3;
-        i += 1;
     }
 }

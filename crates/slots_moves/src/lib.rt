@@ -11,11 +11,12 @@ pub fn lay_zeros(zeros: &[u8], slots: &mut [u8], from: usize, to: usize)
     requires { Repeats zeros.now × (from ≤ to) × (to ≤ length slots.old) }
     ensures { Laid zeros.now slots.old from to slots.new }
 {
+    // No range has these steps: each is as long as the zeros that are left from byte i modulo 40 on.
     let mut i = from;
     while i < to {
         let at = i % 40;
-        let n = bits::scan::least(to - i, zeros.len() - at);
-        bits::change::copy_part(zeros, at, slots, i, n);
+        let n = (to - i).min(zeros.len() - at);
+        slots[i..i + n].copy_from_slice(&zeros[at..at + n]);
         i += n;
     }
 }
@@ -44,10 +45,8 @@ fn move_copies(copies: usize, group: usize, s: usize, q: usize, slots: &mut [u8]
     requires { Copied copies group s q slots.old }
     ensures { (p : plans.Plan) → Of p copies group s q → Moved p s q slots.old slots.new }
 {
-    let mut c = 0;
-    while c < copies {
+    for c in 0..copies {
         move_pulse(slots, (s * copies + c) * group, q);
-        c += 1;
     }
 }
 

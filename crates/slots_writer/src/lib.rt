@@ -31,11 +31,8 @@ fn put_lines(p: Plan, words: &[u8], zeros: &[u8], slots: &mut [u8])
     requires { Lent p words.now slots.old × Zeros p.group zeros.now }
     ensures { Holds p (front p (piece word_bytes words.now) (p.layout.lines * unit p.layout)) (line_end p p.layout.lines) slots.new }
 {
-    let lines = p.layout.lines;
-    let mut line = 0;
-    while line < lines {
+    for line in 0..p.layout.lines {
         put_line(p, words, zeros, line, slots);
-        line += 1;
     }
 }
 

@@ -1,32 +1,40 @@
--- One byte of the number more stands in its place at each turn.
-use mathlib.Core.Path.{◌≡◌}
-use Prim.Native.Nat.{◌*◌, ◌/◌, ◌^◌}
+-- The number's bytes, lowest first.
+use mathlib.Core.Path.{◌≡◌, refl, ap, ◌∙◌}
+use mathlib.Core.List.{List}
+use Prim.Native.Nat.{ℕ, zero, suc, ◌+◌, ◌-◌, ◌≤◌, ◌<◌}
 use native.Mathlib.Omega.{arith}
-use lib.Bits.{and_mask, mask_lt}
+use lib.ListN.{length, get_or}
 use borrow.Author.Rules.{rules}
-use Rattle.convolution.proofs.Filling.{put_none, put_more}
+use borrow.Rule.Slice.PartMut.{put_mid}
+use Rattle.std.proofs.lemmas.List.{places}
+use Rattle.std.specs.Int.{w64, to_le_bytes}
+use Rattle.convolution.specs.Inner.{Put}
+use Rattle.encoder_turns.specs.Inner.{byte_of}
 use Rattle.encoder_turns.proofs.put_low_eight.Goals as goal
 
-pub loop-t-init : goal.loop-t-init
-loop-t-init c = (search rules, put_none _ _ _)
+byte : (v t : ℕ) → t < 8 → get_or (to_le_bytes w64 v) t 0 ≡ byte_of v t
+byte v zero h = omega arith
+byte v (suc zero) h = refl
+byte v (suc (suc zero)) h = refl
+byte v (suc (suc (suc zero))) h = refl
+byte v (suc (suc (suc (suc zero)))) h = refl
+byte v (suc (suc (suc (suc (suc zero))))) h = refl
+byte v (suc (suc (suc (suc (suc (suc zero)))))) h = refl
+byte v (suc (suc (suc (suc (suc (suc (suc zero))))))) h = refl
+byte v (suc (suc (suc (suc (suc (suc (suc (suc t)))))))) h = absurd (omega arith)
 
-pub overflow_cast-out : goal.overflow_cast-out
-overflow_cast-out c = omega (arith, mask_lt (c.args.v / 2 ^ (8 * c.loop-t.t)) 8)
-
-pub bounds-out-at : goal.bounds-out-at
-bounds-out-at c = let e = c.loop-t.invariant.1.long in omega arith
-
-pub loop-t-preserved : goal.loop-t-preserved
-loop-t-preserved c =
-    let l = c.loop-t in
-    let e = c.loop-t.invariant.1.long in
-    (search rules, put_more _ _ _ l.t _ _ (omega arith) (and_mask _ 8) l.invariant.1)
-
-pub shape_of-out : goal.shape_of-out
-shape_of-out c = c.loop-t.invariant.1.long
+-- bytes copied over a part
+put_part : (before part : List ℕ) (at n : ℕ) (f : ℕ → ℕ) → at + n ≤ length before → length part ≡ n → ((t : ℕ) → t < n → get_or part t 0 ≡ f t)
+    → Put before at n f (put_mid at (at + n - at) before part)
+put_part before part at n f room long same =
+    record {
+      long = search (rules, places);
+      earlier = λ k l. search (rules, places);
+      here = λ t l. let here : get_or (put_mid at (at + n - at) before part) (at + t) 0 ≡ get_or part t 0 = search (rules, places) in here ∙ same t l;
+    }
 
 pub returns : goal.returns
 returns c =
-    let l = c.loop-t in
-    let e : l.t ≡ 8 = omega arith in
-    rw e at l.invariant.1
+    let bytes : c.copy_from_slice.new.self ≡ to_le_bytes w64 c.args.v = c.copy_from_slice.ensures.after ∙ c.to_le_bytes.ensures in
+    put_part c.args.out.now _ c.args.at 8 (byte_of c.args.v) c.requires (ap (λ (xs : List ℕ). length xs) bytes)
+    (λ t l. ap (λ (xs : List ℕ). get_or xs t 0) bytes ∙ byte c.args.v t l)

@@ -1,10 +1,6 @@
-use Prim.Native.Nat.{◌-◌, ◌≤◌}
 use Rattle.bits.specs.Pack.{bit_at}
 use Rattle.encoder_turns.proofs.Turning.{Coding}
 use Rattle.encoder_turns.proofs.thirds.Given as goal
 
 abbrev pub invariant-loop-i : goal.invariant-loop-i
-invariant-loop-i l = (l.i ≤ 630) × Coding 0 8 24 (bit_at l.input) l.coded l.before l.i
-
-abbrev pub decreases-loop-i : goal.decreases-loop-i
-decreases-loop-i l = 630 - l.i
+invariant-loop-i l = Coding 0 8 24 (bit_at l.input) l.coded l.before l.i

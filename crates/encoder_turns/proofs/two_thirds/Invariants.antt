@@ -1,10 +1,6 @@
-use Prim.Native.Nat.{◌-◌, ◌≤◌}
 use Rattle.bits.specs.Pack.{bit_at}
 use Rattle.encoder_turns.proofs.Turning.{Coding}
 use Rattle.encoder_turns.proofs.two_thirds.Given as goal
 
 abbrev pub invariant-loop-i : goal.invariant-loop-i
-invariant-loop-i l = (l.i ≤ 630) × Coding 2 16 24 (bit_at l.input) l.coded l.before l.i
-
-abbrev pub decreases-loop-i : goal.decreases-loop-i
-decreases-loop-i l = 630 - l.i
+invariant-loop-i l = Coding 2 16 24 (bit_at l.input) l.coded l.before l.i

@@ -28,7 +28,7 @@ few copies group s q slots h =
 pub loop-c-init : goal.loop-c-init
 loop-c-init c =
     let s = c in
-    (omega arith, refl, λ p o f g end zero there else h. copies_begun p o.copies_least s.args.s f g else end s.args.slots.now h)
+    (refl, λ p o f g end zero there else h. copies_begun p o.copies_least s.args.s f g else end s.args.slots.now h)
 
 pub overflow_mul-s : goal.overflow_mul-s
 overflow_mul-s c = let k = few _ _ _ _ _ c.requires in omega arith
@@ -47,7 +47,7 @@ pub move_pulse-requires : goal.move_pulse-requires
 move_pulse-requires c =
     let s = c in
     let l = c.loop-c in
-    let long : length l.slots ≡ length s.args.slots.now = l.invariant.1 in
+    let long : length l.slots ≡ length s.args.slots.now = l.invariant.0 in
     let h = c.requires in
     let k = inside c.args.copies c.args.group c.args.s l.c (omega arith) in
     (omega arith, omega arith)
@@ -58,22 +58,21 @@ loop-c-preserved c =
     let l = c.loop-c in
     let m = c.move_pulse in
     let a = c.args in (
-      omega arith,
-      m.auto.slots ∙ l.invariant.1,
+      m.auto.slots ∙ l.invariant.0,
       λ p o f g end zero there else h.
           let low : l.c < p.copies = let e = o.copies_are in omega arith in
-          copies_more p o.copies_least a.s f g else end l.c a.q l.slots m.new.slots o.among low o.small zero there (l.invariant.2 p o f g end zero there else h)
+          copies_more p o.copies_least a.s f g else end l.c a.q l.slots m.new.slots o.among low o.small zero there (l.invariant.1 p o f g end zero there else h)
           (m.ensures
           ∙ ap₂ (λ (k n : ℕ). flip_bit (flip_bit l.slots ((a.s * k + l.c) * n)) ((a.s * k + l.c) * n + a.q)) o.copies_are o.group_is)
           (λ i. omega (arith, c.type_inv.slots i)),
     )
 
 pub shape_of-slots : goal.shape_of-slots
-shape_of-slots c = c.loop-c.invariant.1
+shape_of-slots c = c.loop-c.invariant.0
 
 pub returns : goal.returns
 returns c =
     let s = c in
     let l = c.loop-c in
-    let all : l.c ≡ s.args.copies = let m = c.loop-c.invariant.0 in omega arith in
-    λ p o. record { becomes = λ f g end zero there else h. copies_ended p o.copies_least s.args.s f g else end l.c l.slots (all ∙ o.copies_are) (l.invariant.2 p o f g end zero there else h) }
+    let all : l.c ≡ s.args.copies = omega arith in
+    λ p o. record { becomes = λ f g end zero there else h. copies_ended p o.copies_least s.args.s f g else end l.c l.slots (all ∙ o.copies_are) (l.invariant.1 p o f g end zero there else h) }

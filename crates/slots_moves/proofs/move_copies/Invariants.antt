@@ -1,5 +1,5 @@
 use mathlib.Core.Path.{◌≡◌}
-use Prim.Native.Nat.{ℕ, ◌+◌, ◌-◌, ◌*◌, ◌≤◌}
+use Prim.Native.Nat.{ℕ, ◌+◌, ◌*◌}
 use lib.ListN.{length}
 use Rattle.plan.specs.declared.Plan.{Plan}
 use Rattle.slots_moves.specs.Inner.{Of, Groups, Holds}
@@ -8,9 +8,6 @@ use Rattle.slots_moves.proofs.move_copies.Given as goal
 
 abbrev pub invariant-loop-c : goal.invariant-loop-c
 invariant-loop-c l =
-    (l.c ≤ l.copies) × (length l.slots ≡ length l.initial.slots)
+    (length l.slots ≡ length l.initial.slots)
     × ((p : Plan) → Of p l.copies l.group l.s l.q → (f g : ℕ → ℕ) (end : ℕ) → f l.s ≡ 0 → g l.s ≡ l.q → ((u : ℕ) → (u ≡ l.s → ⊥) → f u ≡ g u) → Holds p f end l.initial.slots
     → Groups p (halfway p f g (l.s * p.copies + l.c)) end l.slots)
-
-abbrev pub decreases-loop-c : goal.decreases-loop-c
-decreases-loop-c l = l.copies - l.c

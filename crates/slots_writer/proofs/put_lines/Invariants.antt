@@ -1,4 +1,4 @@
-use Prim.Native.Nat.{◌*◌, ◌-◌, ◌≤◌}
+use Prim.Native.Nat.{◌*◌}
 use Rattle.slots_moves.specs.Inner.{Holds, front}
 use Rattle.slots_lines.specs.Inner.{line_end}
 use Rattle.bits.specs.Pack.{piece}
@@ -7,7 +7,4 @@ use Rattle.channel.specs.Channel.{unit}
 use Rattle.slots_writer.proofs.put_lines.Given as goal
 
 abbrev pub invariant-loop-line : goal.invariant-loop-line
-invariant-loop-line l = (l.line ≤ l.lines) × Holds l.p (front l.p (piece word_bytes l.words) (l.line * unit l.p.layout)) (line_end l.p l.line) l.slots
-
-abbrev pub decreases-loop-line : goal.decreases-loop-line
-decreases-loop-line l = l.lines - l.line
+invariant-loop-line l = Holds l.p (front l.p (piece word_bytes l.words) (l.line * unit l.p.layout)) (line_end l.p l.line) l.slots
