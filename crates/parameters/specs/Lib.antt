@@ -1,3 +1,2 @@
--- Definitions, in the order in which to read them; Inner has those of private contracts.
+-- Definitions.
 pub mod Parameters
-pub mod Inner

@@ -1,18 +1,18 @@
 // What a checked header implies for a call: questions 1 to 7, 20 and 8, and the numbers that steps 8 to 10 go by.
 #![tactic(auto)]
 
-ghost use Rattle.std.specs.Prelude.{◌≡◌, ◌≤◌};
-ghost use Rattle.answers.specs.Answer.{Done};
+ghost use Rattle.std.specs.Prelude.{◌≡◌, ◌≤◌, IfOk};
+ghost use Rattle.answers.specs.Inner.{answer_of};
 ghost use Rattle.header.specs.Header.{fields_of};
 ghost use Rattle.parameters.specs.Parameters.{parameters_of};
 ghost use Rattle.header_sizes.specs.Inner.{Valid};
 ghost use Rattle.plan.specs.Plan.{plan_of};
 ghost use Rattle.plan.specs.Lengths.{run_lengths_right, call_says};
 
-use answers::Answer;
+use answers::{Fault, Refusal, ask};
 use channel::Layout;
 use header::Fields;
-use parameters::{Checked, Parameters};
+use parameters::Parameters;
 
 // What steps 8 to 10 need of a run: the header's numbers and those that follow from them.
 #[derive(Clone, Copy)]
@@ -60,32 +60,23 @@ fn run_lengths_right(
     requires { Valid f × (f.copies ≤ 32) }
     ensures { result ≡ run_lengths_right f marker_length frames_length slots_length }
 {
-    if marker_length != header_sizes::marker_bytes(f) {
-        return false;
-    }
-    if frames_length != header_sizes::frame_bytes(f) {
-        return false;
-    }
-    slots_length == header_sizes::slot_bytes(f)
+    marker_length == header_sizes::marker_bytes(f)
+        && frames_length == header_sizes::frame_bytes(f)
+        && slots_length == header_sizes::slot_bytes(f)
 }
 
-// Questions 1 to 7, 20 and 8 of a call on frames and slots; the parameters are valid where all are answered yes.
-pub fn check(header: &[u8], marker: &[u8], frames_length: usize, slots_length: usize) -> Checked
-    ensures answer_value { result.answer ≡ call_says header.now marker.now frames_length slots_length }
-    ensures parameters_value { result.answer ≡ Done → result.parameters ≡ parameters_of (fields_of header.now) marker.now }
+// Questions 1 to 7, 20 and 8 of a call on frames and slots, and the parameters where all are answered yes.
+pub fn check(
+    header: &[u8],
+    marker: &[u8],
+    frames_length: usize,
+    slots_length: usize,
+) -> Result<Parameters, Refusal>
+    ensures answer_value { answer_of result ≡ call_says header.now marker.now frames_length slots_length }
+    ensures parameters_value { IfOk result (λ q. q ≡ parameters_of (fields_of header.now) marker.now) }
 {
-    let checked = parameters::check(header, marker);
-    let answer = checked.answer;
-    let Answer::Done = answer else {
-        return checked;
-    };
-    let parameters = checked.parameters;
-    let f = parameters.fields;
-    if !run_lengths_right(f, marker.len(), frames_length, slots_length) {
-        return Checked {
-            answer: Answer::No(8, 0),
-            parameters,
-        };
-    }
-    checked
+    let parameters = parameters::check(header, marker)?;
+    let lengths = run_lengths_right(parameters.fields, marker.len(), frames_length, slots_length);
+    ask(lengths, Fault::BadLength)?;
+    Ok(parameters)
 }

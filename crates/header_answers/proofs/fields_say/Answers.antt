@@ -1,28 +1,33 @@
 -- Each answer is that of the first question answered no; the ones before it were answered yes.
+use Rattle.answers.proofs.Laws.Answer.{stops_at, goes_past, said_yes, says_last}
 use Rattle.header_questions.proofs.Laws.Good.{shaped_by}
-use Rattle.header_questions.proofs.Said.{passed, failed, say2, say3, say4, say5, say6, say7, say_good}
+use Rattle.header_questions.specs.Questions.{fields_say}
 use Rattle.header_answers.proofs.fields_say.Goals as goal
 
-pub returns-then-not-question2 : goal.returns-then-not-question2
-returns-then-not-question2 c = search (say2, failed)
+pub returns-in_err-ask : goal.returns-in_err-ask
+unfolding fields_say
+returns-in_err-ask c = search (stops_at, c.in_err-ask.ensures)
 
-pub returns-then-not-question3 : goal.returns-then-not-question3
-returns-then-not-question3 c = search (say3, passed, failed)
+pub returns-in_err-ask-2 : goal.returns-in_err-ask-2
+unfolding fields_say
+returns-in_err-ask-2 c = search (stops_at, goes_past, c.in_ok-ask.ensures, c.in_err-ask-2.ensures)
 
-pub returns-then-not-question4 : goal.returns-then-not-question4
-returns-then-not-question4 c = search (say4, passed, failed)
+pub returns-in_err-ask-3 : goal.returns-in_err-ask-3
+unfolding fields_say
+returns-in_err-ask-3 c = search (stops_at, goes_past, c.in_ok-ask.ensures, c.in_ok-ask-2.ensures, c.in_err-ask-3.ensures)
 
 pub question5-requires : goal.question5-requires
-question5-requires c = shaped_by c.args.f (search passed) (search passed)
+question5-requires c =
+    shaped_by c.args.f (search (said_yes, c.in_ok-ask-2.ensures)) (search (said_yes, c.in_ok-ask-3.ensures))
 
-pub returns-then-not-question5 : goal.returns-then-not-question5
-returns-then-not-question5 c = search (say5, passed, failed)
+pub returns-in_err-ask-4 : goal.returns-in_err-ask-4
+unfolding fields_say
+returns-in_err-ask-4 c = search (stops_at, goes_past, c.in_ok-ask.ensures, c.in_ok-ask-2.ensures, c.in_ok-ask-3.ensures, c.in_err-ask-4.ensures)
 
-pub returns-then-not-question6 : goal.returns-then-not-question6
-returns-then-not-question6 c = search (say6, passed, failed)
-
-pub returns-then-not-question7 : goal.returns-then-not-question7
-returns-then-not-question7 c = search (say7, passed, failed)
+pub returns-in_err-ask-5 : goal.returns-in_err-ask-5
+unfolding fields_say
+returns-in_err-ask-5 c = search (stops_at, goes_past, c.in_ok-ask.ensures, c.in_ok-ask-2.ensures, c.in_ok-ask-3.ensures, c.in_ok-ask-4.ensures, c.in_err-ask-5.ensures)
 
 pub returns : goal.returns
-returns c = search (say_good, passed)
+unfolding fields_say
+returns c = search (says_last, goes_past, c.in_ok-ask.ensures, c.in_ok-ask-2.ensures, c.in_ok-ask-3.ensures, c.in_ok-ask-4.ensures, c.in_ok-ask-5.ensures) depth 8

@@ -1,5 +1,5 @@
 -- What an accepted header with its marker symbols is known to be.
-use mathlib.Core.Path.{◌≡◌, refl, sym, ap, ◌∙◌}
+use mathlib.Core.Path.{◌≡◌, refl, ◌∙◌}
 use mathlib.Core.Bool.{true}
 use mathlib.Core.List.{List}
 use mathlib.Core.Logic.{⊎_elim}
@@ -13,18 +13,14 @@ use Rattle.bits.proofs.Laws.First.{none_fails}
 use Rattle.bits.specs.Pack.{cut}
 use Rattle.bits.proofs.Laws.Pack.{cut_in, cut_past}
 use Rattle.bits.proofs.Laws.Table.{length_tab, get_or_tab, get_or_tab_past}
-use Rattle.header.specs.Header.{fields_of}
 use Rattle.header.specs.declared.Fields.{Fields}
 use Rattle.header_sizes.specs.Quantities.{pulse_order}
 use Rattle.header_sizes.specs.Inner.{Valid}
 use Rattle.header_sizes.proofs.Laws.Shape.{order_least}
-use Rattle.header_questions.specs.Questions.{lent_marks, below, marks_good, run_says}
+use Rattle.header_questions.specs.Questions.{lent_marks, below, marks_good}
 use Rattle.header_questions.proofs.Laws.Marks.{lent_most}
-use Rattle.answers.specs.Answer.{Done}
 use Rattle.parameters.specs.Parameters.{parameters_of}
-use Rattle.parameters.specs.Inner.{checked_of, checked}
 use Rattle.parameters.specs.declared.Parameters.{Parameters}
-use Rattle.parameters.specs.declared.Checked.{Checked}
 
 -- the checked parameters: 32 bytes, the lent symbols first, zeros after them, all below M
 pub record CarriesMarks (f : Fields) (marker : List ℕ) (p : Parameters) : Type 0 where
@@ -63,15 +59,3 @@ carries_marks f v marker g = record {
     outside : (i : ℕ) → n ≤ i → get_or (tab 32 x) i 0 ≡ 0
     outside i l =
         ⊎_elim (λ (m : i < 32). get_or_tab 32 x i m ∙ cut_past n (λ i. get_or marker i 0) i l) (λ (m : 32 ≤ i). get_or_tab_past 32 x i m) (lt_or_le i 32)
-
--- the answer is that of the questions
-pub check_answer : (header marker : List ℕ) → (checked header marker).answer ≡ run_says header marker
-unfolding checked checked_of
-check_answer header marker = refl
-
--- and acceptance hands the parameters on
-pub check_parameters : (header marker : List ℕ) (c : Checked) → c ≡ checked header marker → c.answer ≡ Done → c.parameters ≡ parameters_of (fields_of header) marker
-unfolding checked checked_of
-check_parameters header marker c e g =
-    let a : run_says header marker ≡ Done = sym (check_answer header marker) ∙ ap (λ (x : Checked). x.answer) (sym e) ∙ g in
-    ap (λ (x : Checked). x.parameters) e ∙ rw a refl
