@@ -3,13 +3,14 @@
 
 ghost use Rattle.std.specs.Prelude.{◌≡◌, ◌+◌, ◌*◌, ◌≤◌, ◌<◌, length};
 ghost use Rattle.answers.specs.Answer.{after};
+ghost use Rattle.answers.specs.Inner.{answer_of};
 ghost use Rattle.bits.specs.Pack.{val, bit_at, bytes_of, cut};
 ghost use Rattle.header.specs.Header.{fields_of};
 ghost use Rattle.header_sizes.specs.Inner.{Valid};
 ghost use Rattle.capture_cut.specs.Cut.{cut_of, cut_lengths_right, cut_says};
 ghost use Rattle.capture_cut.specs.Inner.{Lies};
 
-use answers::Answer;
+use answers::{Fault, Refusal, ask};
 use header::{Fields, form};
 
 // The eight slots from slot y on, with zeros after the last slot of the capture.
@@ -35,38 +36,28 @@ fn take(b: &[u8], s: usize, count: usize, slots: &mut [u8])
 }
 
 // Question 8. Nothing is added to the slot, which can be any number.
+#[tactic(auto, unfolding(crate::specs::Cut::cut_lengths_right))]
 fn cut_lengths_right(f: Fields, capture_length: usize, s: usize, slots_length: usize) -> bool
     requires { Valid f × (f.copies ≤ 32) }
     ensures { result ≡ cut_lengths_right f capture_length s slots_length }
 {
-    if capture_length > capture_find::MOST {
-        return false;
-    }
-    if slots_length != header_sizes::slot_bytes(f) {
-        return false;
-    }
     let count = header_sizes::slot_count(f);
-    if 8 * capture_length < count {
-        return false;
-    }
-    s <= 8 * capture_length - count
+    capture_length <= capture_find::MOST
+        && slots_length == header_sizes::slot_bytes(f)
+        && count <= 8 * capture_length
+        && s <= 8 * capture_length - count
 }
 
 // Cuts a run's slots out of a capture. What they hold is not examined.
-pub fn cut_out(header: &[u8], capture: &[u8], slot: u64, slots: &mut [u8]) -> Answer
-    ensures value { result ≡ cut_says header.now (length capture.now) slot (length slots.old) }
-    ensures slots_after { slots.new ≡ after result (cut_of (fields_of header.now) capture.now slot) slots.old }
+pub fn cut_out(header: &[u8], capture: &[u8], slot: u64, slots: &mut [u8]) -> Result<(), Refusal>
+    ensures value { answer_of result ≡ cut_says header.now (length capture.now) slot (length slots.old) }
+    ensures slots_after { slots.new ≡ after (answer_of result) (cut_of (fields_of header.now) capture.now slot) slots.old }
 {
-    let answer = header_answers::header_says(header);
-    let Answer::Done = answer else {
-        return answer;
-    };
+    header_answers::header_says(header)?;
     let f = form::read(header);
     let s = slot as usize;
-    if !cut_lengths_right(f, capture.len(), s, slots.len()) {
-        return Answer::No(8, 0);
-    }
-    let count = header_sizes::slot_count(f);
-    take(capture, s, count, slots);
-    Answer::Done
+    let lengths = cut_lengths_right(f, capture.len(), s, slots.len());
+    ask(lengths, Fault::BadLength)?;
+    take(capture, s, header_sizes::slot_count(f), slots);
+    Ok(())
 }

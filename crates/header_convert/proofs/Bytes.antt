@@ -4,16 +4,21 @@ use mathlib.Core.List.{List}
 use mathlib.Core.Logic.{⊎_elim}
 use Prim.Native.Nat.{ℕ, ◌+◌, ◌*◌, ◌≤◌, ◌<◌}
 use native.Mathlib.Omega.{arith}
-use lib.Dec.{eqb}
+use lib.Dec.{ltb, eqb}
+use lib.ListN.{get_or}
 use borrow.Author.Tests.{lt-ltb, le-ltb, ne_eqb}
-use Rattle.bits.specs.Basics.{bool}
+use Rattle.bits.specs.Basics.{bool, pick, tab}
 use Rattle.bits.proofs.Laws.Choice.{lt_or_le}
-use Rattle.bits.specs.Pack.{val, bit_at, Bytes, cut}
-use Rattle.bits.proofs.Laws.Pack.{val_same, bytes_by_byte, cut_in, cut_past}
+use Rattle.bits.specs.Pack.{val, bit_at, bytes_of, Bytes, cut}
+use Rattle.bits.proofs.Laws.Pack.{val_same, cut_in, cut_past}
+use Rattle.bits.proofs.Laws.Table.{tab_same}
 use Rattle.bits.proofs.Laws.Parts.{byte_val, val_none}
 use Rattle.header_convert.specs.Convert.{wide_bit, widened, narrowed}
-use Rattle.header_convert.specs.Inner.{byte_of, Converted}
 use Rattle.header_convert.proofs.Laws.Theorems.{wide_front, wide_behind}
+
+-- byte i: six bytes as they were, then one that has the factor, and zeros
+unfoldable pub byte_of : List ℕ → ℕ → ℕ → ℕ
+byte_of from seventh i = pick (ltb i 6) (get_or from i 0) (pick (eqb i 6) seventh 0)
 
 -- the six bytes, whatever is after them
 front : (from : List ℕ) → Bytes from → (seventh i : ℕ) → i < 6 → (f : ℕ → ℕ) → ((j : ℕ) → j < 48 → f j ≡ bit_at from j) → byte_of from seventh i ≡ val (λ t. f (8 * i + t)) 8
@@ -50,17 +55,17 @@ each from b seventh f same none e i =
     (lt_or_le i 7))
     (lt_or_le i 6)
 
-pub wide_made : (old to : List ℕ) (n : ℕ) → n ≡ 10 → Bytes old → Converted old 4 n to → to ≡ widened old
-unfolding widened
-wide_made old to n en b f =
-    bytes_by_byte 10 (wide_bit old) to (f.long ∙ en) (λ i l.
-    f.bytes i (omega arith)
-    ∙ each old b 4 (wide_bit old) (wide_front old)
+pub wide_made : (old to : List ℕ) → Bytes old → to ≡ tab 10 (byte_of old 4) → to ≡ widened old
+unfolding widened bytes_of
+wide_made old to b e =
+    e
+    ∙ tab_same 10 (byte_of old 4) (λ i. val (λ t. wide_bit old (8 * i + t)) 8) (λ i l.
+    each old b 4 (wide_bit old) (wide_front old)
     (λ j h. let other : j ≡ 53 → ⊥ = λ q. omega arith in wide_behind old j (omega arith) ∙ ap bool (ne_eqb j 53 other)) (wide_seventh old) i)
 
-pub narrow_made : (header to : List ℕ) (n : ℕ) → n ≡ 8 → Bytes header → Converted header 0 n to → to ≡ narrowed header
-unfolding narrowed
-narrow_made header to n en b f =
-    bytes_by_byte 8 (cut 48 (bit_at header)) to (f.long ∙ en) (λ i l.
-    f.bytes i (omega arith)
-    ∙ each header b 0 (cut 48 (bit_at header)) (cut_in 48 (bit_at header)) (λ j h. cut_past 48 (bit_at header) j (omega arith)) (narrow_seventh header) i)
+pub narrow_made : (header to : List ℕ) → Bytes header → to ≡ tab 8 (byte_of header 0) → to ≡ narrowed header
+unfolding narrowed bytes_of
+narrow_made header to b e =
+    e
+    ∙ tab_same 8 (byte_of header 0) (λ i. val (λ t. cut 48 (bit_at header) (8 * i + t)) 8) (λ i l.
+    each header b 0 (cut 48 (bit_at header)) (cut_in 48 (bit_at header)) (λ j h. cut_past 48 (bit_at header) j (omega arith)) (narrow_seventh header) i)

@@ -1,3 +1,2 @@
--- Definitions, in the order in which to read them; Inner has the words of private contracts.
+-- Definitions.
 pub mod Convert
-pub mod Inner

@@ -8,14 +8,11 @@ ghost use Rattle.header_sizes.specs.Inner.{Valid};
 use header::Fields;
 
 // How many of the marker symbols are examined: up to the W-th.
+#[tactic(auto, unfolding(header_questions::specs::Questions::lent_marks))]
 pub fn lent_marks(f: Fields, marker: &[u8]) -> usize
     ensures { result ≡ lent_marks f marker.now }
 {
-    let w = f.markers;
-    if w < marker.len() {
-        return w;
-    }
-    marker.len()
+    marker.len().min(f.markers)
 }
 
 // 7, its second part: whether each of them is below M.
@@ -25,12 +22,10 @@ pub fn marks_good(f: Fields, marker: &[u8]) -> bool
 {
     let n = lent_marks(f, marker);
     let order = header_sizes::pulse_order(f);
-    let mut i = 0usize;
-    while i < n {
+    for i in 0..n {
         if order <= marker[i] as usize {
             return false;
         }
-        i += 1;
     }
     true
 }

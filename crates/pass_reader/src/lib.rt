@@ -2,48 +2,14 @@
 #![tactic(auto)]
 
 ghost use Rattle.std.specs.Prelude.{◌≡◌, ◌≤◌, ◌<◌, ◌^◌, length};
-ghost use Rattle.answers.specs.Answer.{Done, after, put_in_order};
+ghost use Rattle.answers.specs.Answer.{after, put_in_order};
 ghost use Rattle.answers.specs.Inner.{answer_of};
 ghost use Rattle.pass.specs.Pass.{blocks_of, pass_word_says, pass_read_says};
 ghost use Rattle.pass.specs.Inner.{Lent};
-ghost use Rattle.pass_reader.specs.Inner.{Aside, Roomy};
 
 use answers::{Fault, Refusal, ask};
 
-// The blocks, copied once all words have given theirs.
-fn settle(
-    rate: u64,
-    n: usize,
-    words: &[u8],
-    room: &mut [u8],
-    blocks: &mut [u8],
-) -> Result<(), Refusal>
-    requires { Aside rate n words.now room.old blocks.old }
-    ensures value { answer_of result ≡ put_in_order n (pass_word_says rate words.now) }
-    ensures blocks_after { blocks.new ≡ after (answer_of result) (blocks_of rate words.now) blocks.old }
-{
-    pass_words::read_words(rate, n, words, room)?;
-    blocks.copy_from_slice(room);
-    Ok(())
-}
-
-// The same with as much of the buffer as the blocks take.
-fn read_in(
-    rate: u64,
-    n: usize,
-    words: &[u8],
-    room: &mut [u8],
-    blocks: &mut [u8],
-) -> Result<(), Refusal>
-    requires { Roomy rate n words.now room.old blocks.old }
-    ensures value { answer_of result ≡ put_in_order n (pass_word_says rate words.now) }
-    ensures blocks_after { blocks.new ≡ after (answer_of result) (blocks_of rate words.now) blocks.old }
-{
-    let size = blocks.len();
-    settle(rate, n, words, &mut room[..size], blocks)
-}
-
-// With a buffer of its own, of so many bytes.
+// The blocks, read into a buffer and copied once all words have given theirs.
 fn read_with<const ROOM: usize>(
     rate: u64,
     n: usize,
@@ -57,7 +23,10 @@ fn read_with<const ROOM: usize>(
     ensures blocks_after { blocks.new ≡ after (answer_of result) (blocks_of rate words.now) blocks.old }
 {
     let mut room = [0u8; ROOM];
-    read_in(rate, n, words, &mut room, blocks)
+    let room = &mut room[..blocks.len()];
+    pass_words::read_words(rate, n, words, room)?;
+    blocks.copy_from_slice(room);
+    Ok(())
 }
 
 // Reads the blocks of words.

@@ -38,10 +38,8 @@ fn write(area: &mut [u8], at: usize, from: &[u8])
     requires { at + length from.now ≤ length area.old }
     ensures { Written area.old at from.now (length from.now) area.new }
 {
-    let mut k = 0;
-    while k < from.len() {
+    for k in 0..from.len() {
         area[at + k] = from[k];
-        k += 1;
     }
 }
 

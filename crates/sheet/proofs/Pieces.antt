@@ -10,7 +10,7 @@ use lib.Seq.{take-suc, take-suc-set, drop-cons, length-take-le}
 use Rattle.io.specs.Counts.{IsPrefixLen}
 use Rattle.header.specs.Header.{fields_of}
 use Rattle.header_questions.specs.Questions.{header_says}
-use Rattle.answers.specs.Answer.{Answer, Done, No, number_of}
+use Rattle.answers.specs.Answer.{Answer, Done, No}
 use Rattle.sheet.specs.Text.{decimal, space, newline, item, items}
 use Rattle.sheet.specs.Inner.{Put}
 use Rattle.sheet.specs.Line.{run_line, no_line, line_for, line_of, Printed}
@@ -104,10 +104,9 @@ printed header before piece out n e p = record {
 }
 
 -- the two kinds of line
-pub line_no : (header : List ℕ) (a : Answer) → a ≡ header_says header → (a ≡ Done → ⊥) → no_line (number_of a) ≡ line_of header
+pub line_no : (header : List ℕ) (number place : ℕ) → No number place ≡ header_says header → no_line number ≡ line_of header
 unfolding line_of
-line_no header Done e n = absurd (n refl)
-line_no header (No number place) e n = ap (λ (a : Answer). line_for a (fields_of header)) e
+line_no header number place e = ap (λ (a : Answer). line_for a (fields_of header)) e
 
 pub line_run : (header : List ℕ) → header_says header ≡ Done → run_line (fields_of header) ≡ line_of header
 unfolding line_of

@@ -10,7 +10,6 @@ ghost use Rattle.header_sizes.specs.Inner.{Valid};
 ghost use Rattle.sheet.specs.Inner.{Put};
 ghost use Rattle.sheet.specs.Line.{rate_text, run_numbers, run_line, no_line, Printed};
 
-use answers::Answer;
 use header::{Fields, form};
 
 // The code rate as a fraction.
@@ -76,9 +75,8 @@ pub fn line(header: &[u8], out: &mut [u8]) -> usize
     ensures printed { Printed header.now out.new result }
     ensures prefix_len { IsPrefixLen result out.new }
 {
-    let answer = header_answers::header_says(header);
-    let Answer::Done = answer else {
-        return put_no(answers::number(answer), out);
-    };
-    put_run(form::read(header), out)
+    match header_answers::header_says(header) {
+        Ok(()) => put_run(form::read(header), out),
+        Err(refusal) => put_no(refusal.fault.number(), out),
+    }
 }

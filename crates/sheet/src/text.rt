@@ -8,10 +8,8 @@ pub fn put(piece: &[u8], at: usize, out: &mut [u8]) -> usize
     requires { at + length piece.now ≤ length out.old }
     ensures { Put out.old at piece.now out.new result }
 {
-    let mut i = 0;
-    while i < piece.len() {
+    for i in 0..piece.len() {
         out[at + i] = piece[i];
-        i += 1;
     }
     at + piece.len()
 }
@@ -41,10 +39,8 @@ pub fn put_items(numbers: &[u64], at: usize, out: &mut [u8]) -> usize
     ensures { Put out.old at (items numbers.now) out.new result }
 {
     let mut next = at;
-    let mut i = 0;
-    while i < numbers.len() {
+    for i in 0..numbers.len() {
         next = put_item(numbers[i], next, out);
-        i += 1;
     }
     out[next] = b'\n';
     next + 1

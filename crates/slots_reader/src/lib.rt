@@ -3,39 +3,36 @@
 
 mod sweep;
 
-ghost use Rattle.std.specs.Prelude.{◌≡◌, ℕ, ◌<◌};
-ghost use Rattle.answers.specs.Answer.{Done};
+ghost use Rattle.std.specs.Prelude.{◌≡◌, ℕ, ◌<◌, OnOk};
+ghost use Rattle.answers.specs.Inner.{answer_of};
 ghost use Rattle.bits.specs.Pack.{piece};
 ghost use Rattle.sizes.specs.Sizes.{word_bytes};
 ghost use Rattle.slots.specs.Inner.{RunSlots};
 ghost use Rattle.slots_places.specs.Inner.{Cleared};
 ghost use Rattle.slots.specs.Reading.{slots_say, word_out};
 
-use answers::Answer;
+use answers::{Fault, Refusal, ask};
 
 // Questions 9 to 12, and the words, back to back, where all are answered yes.
-pub fn slots_say(p: plan::Plan, b: &[u8], words: &mut [u8]) -> Answer
+pub fn slots_say(p: plan::Plan, b: &[u8], words: &mut [u8]) -> Result<(), Refusal>
     requires { RunSlots p b.now × Cleared p words.old }
-    ensures value { result ≡ slots_say p b.now }
-    ensures j_after { result ≡ Done → (j : ℕ) → j < p.layout.words → piece word_bytes words.new j ≡ word_out p b.now j }
+    ensures value { answer_of result ≡ slots_say p b.now }
+    ensures j_after { OnOk result ((j : ℕ) → j < p.layout.words → piece word_bytes words.new j ≡ word_out p b.now j) }
 {
     let n = p.layout.lines * (p.layout.symbols + p.layout.markers);
     let end = 8 * b.len();
-    if bits::scan::first_one(b, n * p.copies * p.group, end) != end {
-        return Answer::No(9, 0);
-    }
+    let spare = bits::scan::first_one(b, n * p.copies * p.group, end);
+    ask(spare == end, Fault::BadSpare)?;
     let found = sweep::find(p, b, words);
-    let group = found.group;
-    if group != n {
-        return Answer::No(10, group);
+    if found.group != n {
+        return Err(Fault::BadPulse.at(found.group));
     }
     let mark = slots_symbols::first_bad_mark(p, b);
     if mark != n {
-        return Answer::No(11, mark);
+        return Err(Fault::WrongMarker.at(mark));
     }
-    let rest = found.rest;
-    if rest != n {
-        return Answer::No(12, rest);
+    if found.rest != n {
+        return Err(Fault::BadIdle.at(found.rest));
     }
-    Answer::Done
+    Ok(())
 }

@@ -46,7 +46,7 @@ fn others_end(b: &[u8], given: &[u8], copies: usize, c: usize, n: usize) -> usiz
     requires { Parts b.now given.now copies c n × (c < n) }
     ensures { (c < result) × (result ≤ n) × (result ≤ c + 16) }
 {
-    let end = bits::scan::least(n, c + 16);
+    let end = n.min(c + 16);
     pulses::groups::past_others(b, given, (c + 1) * copies, end * copies) / copies
 }
 

@@ -3,11 +3,12 @@
 
 ghost use Rattle.std.specs.Prelude.{◌≡◌, ◌+◌, ◌*◌};
 ghost use Rattle.bits.specs.Pack.{piece};
+ghost use Rattle.answers.specs.Inner.{answer_of};
 ghost use Rattle.sizes.specs.Sizes.{info_bits, block_bytes};
 ghost use Rattle.stream_reader.specs.Frames.{joined as Frames·joined, first_unmarked, frames_say};
 ghost use Rattle.stream_reader.specs.Inner.{Judged};
 
-use answers::Answer;
+use answers::{Fault, Refusal, ask};
 use stream_joined::looks;
 
 // Question 16: the first frame that has no marker before it, or `count`.
@@ -16,28 +17,33 @@ fn first_unmarked(rate: u64, blocks: &[u8], pieces: usize, size: usize, count: u
     ensures { result ≡ first_unmarked size count (Frames·joined rate (piece (block_bytes rate) blocks.now)) }
 {
     let span = sizes::span(size);
-    let mut j = 0;
-    while j < count {
+    for j in 0..count {
         if looks::marker_at(rate, blocks, j * span) != sizes::FRAME_MARKER {
             return j;
         }
-        j += 1;
     }
-    j
+    count
 }
 
 // Questions 16 and 18, of the first `pieces` blocks.
-pub fn frames_say(rate: u64, blocks: &[u8], pieces: usize, size: usize, count: usize) -> Answer
+#[tactic(auto, using(stream_joined::proofs::Rooms::pieces_room), unfolding(stream_reader::specs::Frames::frames_say, stream_reader::specs::Frames::fill_zero))]
+pub fn frames_say(
+    rate: u64,
+    blocks: &[u8],
+    pieces: usize,
+    size: usize,
+    count: usize,
+) -> Result<(), Refusal>
     requires { Judged rate pieces size count blocks.now }
-    ensures { result ≡ frames_say size count (pieces * info_bits rate) (Frames·joined rate (piece (block_bytes rate) blocks.now)) }
+    ensures { answer_of result ≡ frames_say size count (pieces * info_bits rate) (Frames·joined rate (piece (block_bytes rate) blocks.now)) }
 {
     let j = first_unmarked(rate, blocks, pieces, size, count);
     if j != count {
-        return Answer::No(16, j);
+        return Err(Fault::BadFrameMarker.at(j));
     }
     let end = pieces * sizes::info_bits(rate);
-    if looks::first_fill(rate, blocks, pieces, count * sizes::span(size)) != end {
-        return Answer::No(18, 0);
-    }
-    Answer::Done
+    ask(
+        looks::first_fill(rate, blocks, pieces, count * sizes::span(size)) == end,
+        Fault::BadFill,
+    )
 }

@@ -5,10 +5,11 @@ ghost use Rattle.std.specs.Prelude.{◌≡◌, ◌+◌, ◌*◌, ◌≤◌, ◌<
 ghost use Rattle.bits.specs.Pack.{val, bit_of};
 ghost use Rattle.bits.specs.Inner.{Laid};
 ghost use Rattle.answers.specs.Answer.{after};
+ghost use Rattle.answers.specs.Inner.{answer_of};
 ghost use Rattle.uplink.specs.Uplink.{codeblock, slot_of, uplink_slots_of, uplink_write_says};
 ghost use Rattle.uplink.specs.Inner.{Framed, Slotted};
 
-use answers::Answer;
+use answers::{Fault, Refusal, ask};
 use bits::packing;
 use uplink::sequence;
 
@@ -27,10 +28,8 @@ fn put_slots(v: u64, slots: &mut [u8], at: usize)
     requires { at + 32 ≤ length slots.old }
     ensures { Laid slots.old at 32 (slot_of (bit_of v)) slots.new }
 {
-    let mut q = 0usize;
-    while q < 32 {
+    for q in 0..32 {
         slots[at + q] = pair(v, q);
-        q += 1;
     }
 }
 
@@ -49,22 +48,19 @@ fn codeblocks(frames: &[u8], count: usize, slots: &mut [u8])
     requires { Framed count frames.now × Slotted count slots.old }
     ensures { slots.new ≡ uplink_slots_of frames.now }
 {
-    let mut i = 0;
-    while i < count {
+    for i in 0..count {
         put_codeblock(frames, i, slots);
-        i += 1;
     }
 }
 
 // Writes the slots of frames.
-pub fn write(frames: &[u8], slots: &mut [u8]) -> Answer
-    ensures value { result ≡ uplink_write_says frames.now (length slots.old) }
-    ensures slots_after { slots.new ≡ after result (uplink_slots_of frames.now) slots.old }
+pub fn write(frames: &[u8], slots: &mut [u8]) -> Result<(), Refusal>
+    ensures value { answer_of result ≡ uplink_write_says frames.now (length slots.old) }
+    ensures slots_after { slots.new ≡ after (answer_of result) (uplink_slots_of frames.now) slots.old }
 {
     let count = frames.len() / 8;
-    if !uplink::uplink_lengths_right(count, frames.len(), slots.len()) {
-        return Answer::No(8, 0);
-    }
+    let lengths = uplink::uplink_lengths_right(count, frames.len(), slots.len());
+    ask(lengths, Fault::BadLength)?;
     codeblocks(frames, count, slots);
-    Answer::Done
+    Ok(())
 }

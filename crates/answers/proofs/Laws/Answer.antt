@@ -10,8 +10,9 @@ use mathlib.Core.List.{List}
 use Rattle.bits.specs.Basics.{up_to}
 use Rattle.bits.proofs.Laws.First.{up_to_le, first_here, first_end, all_pass, none_fails}
 use Rattle.answers.specs.Answer.{Answer, Done, No, number_of, place_of, code_of, code_with, ask, then, is_done, first_refused, put_in_order, among}
+use Rattle.answers.specs.Inner.{Fits, number, answer_of}
+use Rattle.answers.specs.declared.Fault.{Fault}
 use Rattle.answers.specs.declared.Refusal.{Refusal}
-use Rattle.answers.specs.Inner.{answer_of, number, Fits}
 use Rattle.std.specs.Prelude.{Result, Ok, Err, IsOk, IsErrAnd}
 use Rattle.std.proofs.lemmas.Result.{err_from_is_err_and}
 use borrow.Author.Rules.{rules}
@@ -70,9 +71,18 @@ done_is (No number place) e = absurd (false≢true e)
 pub left : {A : Type 0} (r : Result A Refusal) (x : Refusal) → IsErrAnd r (λ y. y ≡ x) → answer_of r ≡ No (number x.fault) x.place
 left r x e = let p = err_from_is_err_and r e in rw (p.1, p.2) refl
 
+-- a refusal at a place
+pub refuses : (r : Refusal) (fault : Fault) (place : ℕ) (a : Answer) → r ≡ record { fault = fault; place = place } → No (number fault) place ≡ a → No (number r.fault) r.place ≡ a
+refuses r fault place a e s = ap (λ (x : Refusal). No (number x.fault) x.place) e ∙ s
+
 -- and the questions that would have followed are not asked
 pub stops : {A : Type 0} (r : Result A Refusal) (x : Refusal) (a rest : Answer) → IsErrAnd r (λ y. y ≡ x) → No (number x.fault) x.place ≡ a → answer_of r ≡ then a rest
 stops r x a rest e s = left r x e ∙ rw (sym s) refl
+
+-- where more than the test tells what is said
+pub refused_as : {A : Type 0} (r : Result A Refusal) (x : Refusal) (said : Bool) (n p : ℕ) (a : Answer) → IsErrAnd r (λ y. y ≡ x) → No (number x.fault) x.place ≡ ask said n p
+    → (said ≡ false → No n p ≡ a) → answer_of r ≡ a
+refused_as r x said n p a e s h = let no : said ≡ false = (ask_refused said n p _ _ (sym s)).0 in left r x e ∙ s ∙ ask_no said n p no ∙ h no
 
 -- what was answered yes leaves the rest to answer
 pub goes_on : (s a rest : Answer) → Done ≡ a → s ≡ rest → s ≡ then a rest

@@ -7,8 +7,7 @@ use native.Mathlib.Nat.{mod-lt}
 use lib.Dec.{eqb}
 use lib.ListN.{length, get_or, set}
 use Rattle.bits.specs.Basics.{pick}
-use Rattle.answers.specs.Answer.{Answer, Done, after}
-use Rattle.answers.proofs.Refused.{not_done, kept}
+use Rattle.answers.specs.Answer.{Done}
 use Rattle.header.specs.Header.{fields_of}
 use Rattle.header.specs.declared.Fields.{Fields}
 use Rattle.header_sizes.proofs.Laws.Shape.{order_most}
@@ -19,9 +18,9 @@ use Rattle.delay.proofs.Laws.Delay.{row_end, begin_all, Accepted, step_accepted}
 use Rattle.delay.specs.declared.Side.{Side}
 use Rattle.delay_step.proofs.step.Goals as goal
 
-module _ (side : Side) (header : List ℕ) (n q : ℕ) (area : List ℕ) (a : Answer) (said : a ≡ step_says header q (length area)) (done : a ≡ Done) where
+module _ (side : Side) (header : List ℕ) (n q : ℕ) (area : List ℕ) (done : Done ≡ step_says header q (length area)) where
   known : Accepted header q (length area)
-  known = step_accepted header q (length area) (sym said ∙ done)
+  known = step_accepted header q (length area) (sym done)
 
   byte : q < 256
   byte = let o = order_most (fields_of header) known.good.valid.shaped in let l = known.symbol in omega arith
@@ -51,74 +50,59 @@ module _ (side : Side) (header : List ℕ) (n q : ℕ) (area : List ℕ) (a : An
           ∙ ap₂ (λ (b l : ℕ). pick (eqb l 0) q (get_or area (b + n / f.rows % l) 0)) r.begins r.lags
           ∙ ap (λ (g : Fields). gives side g n q area) ef
 
-      left_is : (xs : List ℕ) → xs ≡ pick (eqb size 0) area (set area (from + n / f.rows % size) q) → xs ≡ after a (leaves side (fields_of header) n q area) area
+      left_is : (xs : List ℕ) → xs ≡ pick (eqb size 0) area (set area (from + n / f.rows % size) q) → xs ≡ leaves side (fields_of header) n q area
       unfolding moved byte_of
       left_is xs e =
           e
           ∙ ap₂ (λ (b l : ℕ). pick (eqb l 0) area (set area (b + n / f.rows % l) q)) r.begins r.lags
           ∙ ap (λ (g : Fields). leaves side g n q area) ef
-          ∙ sym (ap (λ (x : Answer). after x (leaves side (fields_of header) n q area) area) done)
-
-pub returns-in_default : goal.returns-in_default
-returns-in_default c =
-    let a = c.args in
-    let s = c.says-answer in
-    let keys = c.in_default.in_default-own.keys2 in
-    record { answer_value = s.ensures; symbol_value = λ d. absurd (not_done s.result keys d); area_after = kept s.result (leaves a.side (fields_of a.header.now) a.n a.symbol a.area.now) a.area.now keys }
 
 pub read-f-requires : goal.read-f-requires
 read-f-requires c =
     let a = c.args in
-    let s = c.says-answer in
-    let l = (known a.side a.header.now a.n a.symbol a.area.now s.result s.ensures c.in-Done.is).good.long in
+    let l = (known a.side a.header.now a.n a.symbol a.area.now c.in_ok-says.ensures).good.long in
     omega arith
 
 pub nonzero_rem-at : goal.nonzero_rem-at
 nonzero_rem-at c =
     let a = c.args in
-    let s = c.says-answer in
-    (shaped a.side a.header.now a.n a.symbol a.area.now s.result s.ensures c.in-Done.is c.read-f.result c.read-f.ensures).rows_least
+    (shaped a.side a.header.now a.n a.symbol a.area.now c.in_ok-says.ensures c.read-f.result c.read-f.ensures).rows_least
 
 pub row_of-row-requires : goal.row_of-row-requires
 row_of-row-requires c =
     let a = c.args in
-    let s = c.says-answer in
-    row a.side a.header.now a.n a.symbol a.area.now s.result s.ensures c.in-Done.is c.read-f.result c.read-f.ensures
+    row a.side a.header.now a.n a.symbol a.area.now c.in_ok-says.ensures c.read-f.result c.read-f.ensures
 
 pub nonzero_div-at : goal.nonzero_div-at
 nonzero_div-at c =
     let a = c.args in
-    let s = c.says-answer in
-    let f = c.read-f in
-    (shaped a.side a.header.now a.n a.symbol a.area.now s.result s.ensures c.in-Done.is f.result f.ensures).rows_least
+    (shaped a.side a.header.now a.n a.symbol a.area.now c.in_ok-says.ensures c.read-f.result c.read-f.ensures).rows_least
 
 pub overflow_cast-symbol : goal.overflow_cast-symbol
 overflow_cast-symbol c =
     let a = c.args in
-    let s = c.says-answer in
-    let b = byte a.side a.header.now a.n a.symbol a.area.now s.result s.ensures c.in-Done.is in
+    let b = byte a.side a.header.now a.n a.symbol a.area.now c.in_ok-says.ensures in
     omega arith
 
-pub exchange-oldest-requires : goal.exchange-oldest-requires
-exchange-oldest-requires c =
+pub exchange-requires : goal.exchange-requires
+exchange-requires c =
     let a = c.args in
-    let s = c.says-answer in
     let f = c.read-f in
     let r = c.row_of-row in
-    inside a.side a.header.now a.n a.symbol a.area.now s.result s.ensures c.in-Done.is f.result f.ensures
-    r.result.begin r.result.lag r.ensures
+    inside a.side a.header.now a.n a.symbol a.area.now c.in_ok-says.ensures f.result f.ensures r.result.begin r.result.lag r.ensures
 
-pub returns : goal.returns
-returns c =
+pub returns-clause-symbol_value : goal.returns-clause-symbol_value
+returns-clause-symbol_value c =
     let a = c.args in
-    let s = c.says-answer in
     let f = c.read-f in
     let r = c.row_of-row in
-    let p = c.exchange-oldest in
-    let done = c.in-Done.is in record {
-      answer_value = s.ensures;
-      symbol_value = λ d. given_is a.side a.header.now a.n a.symbol a.area.now s.result s.ensures done f.result f.ensures
-          r.result.begin r.result.lag r.ensures p.result p.ensures.value;
-      area_after = left_is a.side a.header.now a.n a.symbol a.area.now s.result s.ensures done f.result f.ensures
-          r.result.begin r.result.lag r.ensures p.new.area p.ensures.area_after;
-    }
+    given_is a.side a.header.now a.n a.symbol a.area.now c.in_ok-says.ensures f.result f.ensures r.result.begin r.result.lag r.ensures
+    c.exchange.result c.exchange.ensures.value
+
+pub returns-clause-area_after : goal.returns-clause-area_after
+returns-clause-area_after c =
+    let a = c.args in
+    let f = c.read-f in
+    let r = c.row_of-row in
+    left_is a.side a.header.now a.n a.symbol a.area.now c.in_ok-says.ensures f.result f.ensures r.result.begin r.result.lag r.ensures
+    c.exchange.new.area c.exchange.ensures.area_after

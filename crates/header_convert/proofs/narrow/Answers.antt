@@ -1,63 +1,66 @@
 -- The questions of a header, then 8, then 21, and then the eight bytes.
-use mathlib.Core.Path.{◌≡◌, refl, sym, ap, ◌∙◌}
+use mathlib.Core.Path.{◌≡◌, sym, ap, ◌∙◌}
+use mathlib.Core.List.{List}
 use native.Mathlib.Omega.{arith}
+use Prim.Native.Nat.{ℕ, ◌≤◌}
 use lib.Dec.{eqb}
 use lib.ListN.{length}
-use borrow.Author.Tests.{eq-eqb, ne_eqb}
-use Rattle.answers.specs.Answer.{Answer, Done, ask, then}
-use Rattle.answers.proofs.Refused.{stands, kept}
-use Rattle.header.specs.Header.{fields_of}
-use Rattle.header.specs.declared.Fields.{Fields}
+use Rattle.bits.specs.Basics.{tab}
+use Rattle.answers.specs.Answer.{Done}
 use Rattle.header_questions.specs.Questions.{header_says}
+use Rattle.answers.proofs.Laws.Answer.{left, stops, goes_on, says_last}
+use Rattle.header.specs.declared.Fields.{Fields}
 use Rattle.header_questions.proofs.Laws.Good.{header_good}
-use Rattle.header_convert.specs.Convert.{narrowed, narrow_says}
-use Rattle.header_convert.proofs.Bytes.{narrow_made}
+use Rattle.header_convert.specs.Convert.{narrow_says}
+use Rattle.header_convert.proofs.Bytes.{byte_of, narrow_made}
 use Rattle.header_convert.proofs.narrow.Goals as goal
 
-pub returns-in_default : goal.returns-in_default
+pub returns-in_err-header_says-clause-value : goal.returns-in_err-header_says-clause-value
 unfolding narrow_says
-returns-in_default c =
-    let a = c.args in
-    let s = c.header_says-answer in
-    let keys = c.in_default.in_default-own.keys2 in
-    let rest : Answer = then (ask (eqb (length a.eight.now) 8) 8 0) (ask (eqb (fields_of a.header.now).copies 1) 21 0) in record {
-      value = stands s.result rest keys ∙ ap (λ (x : Answer). then x rest) s.ensures;
-      eight_after = kept s.result (narrowed a.header.now) a.eight.now keys;
-    }
+returns-in_err-header_says-clause-value c = stops _ _ _ _ c.from_residual.ensures.1 c.in_err-header_says.ensures
 
-pub returns-then-eight-ne8 : goal.returns-then-eight-ne8
+pub returns-in_err-ask-clause-value : goal.returns-in_err-ask-clause-value
 unfolding narrow_says
-returns-then-eight-ne8 c =
-    let n = length c.args.eight.now in
-    record {
-      value = sym (rw ((let good : header_says c.args.header.now ≡ Done = sym c.header_says-answer.ensures ∙ c.in-Done.is in good), ne_eqb n 8 c.if-eight-ne8.true) refl);
-      eight_after = refl;
-    }
+returns-in_err-ask-clause-value c = goes_on _ _ _ c.in_ok-header_says.ensures (stops _ _ _ _ c.from_residual-in_err-ask.ensures.1 c.in_err-ask.ensures)
 
-pub read-f-requires : goal.read-f-requires
-read-f-requires c = let l = (let long : length c.args.header.now ≡ 10 = (header_good c.args.header.now ((let good : header_says c.args.header.now ≡ Done = sym c.header_says-answer.ensures ∙ c.in-Done.is in good))).long in long) in omega arith
+pub read-requires : goal.read-requires
+read-requires c = let l = (header_good c.args.header.now (sym c.in_ok-header_says.ensures)).long in omega arith
 
-pub returns-then-f-ne1 : goal.returns-then-f-ne1
+pub returns-in_err-ask-2-clause-value : goal.returns-in_err-ask-2-clause-value
 unfolding narrow_says
-returns-then-f-ne1 c =
-    let a = c.args in
-    let n = length a.eight.now in
-    let k = (fields_of a.header.now).copies in record {
-      value = sym (rw ((let good : header_says c.args.header.now ≡ Done = sym c.header_says-answer.ensures ∙ c.in-Done.is in good), eq-eqb n 8 c.if-eight-ne8.false, ne_eqb k 1 (λ e. c.if-f-ne1.true ((let factor : c.read-f.result.copies ≡ (fields_of c.args.header.now).copies = ap (λ (f : Fields). f.copies) c.read-f.ensures in factor) ∙ e))) refl);
-      eight_after = refl;
-    }
+returns-in_err-ask-2-clause-value c =
+    goes_on _ _ _ c.in_ok-header_says.ensures
+    (goes_on _ _ _ c.in_ok-ask.ensures
+    (says_last _ _ _ _ _ (left _ _ c.from_residual-in_err-ask-2.ensures.1 ∙ c.in_err-ask-2.ensures) (ap (λ (f : Fields). eqb f.copies 1) c.read.ensures)))
 
-pub fill-requires : goal.fill-requires
-fill-requires c = let l = (let long : length c.args.header.now ≡ 10 = (header_good c.args.header.now ((let good : header_says c.args.header.now ≡ Done = sym c.header_says-answer.ensures ∙ c.in-Done.is in good))).long in long) in omega arith
+long : (header : List ℕ) → Done ≡ header_says header → 6 ≤ length header
+long header done = let l = (header_good header (sym done)).long in omega arith
 
-pub returns : goal.returns
+pub bounds-header-0 : goal.bounds-header-0
+bounds-header-0 c = omega (arith, long c.args.header.now c.in_ok-header_says.ensures)
+
+pub bounds-header-1 : goal.bounds-header-1
+bounds-header-1 c = omega (arith, long c.args.header.now c.in_ok-header_says.ensures)
+
+pub bounds-header-2 : goal.bounds-header-2
+bounds-header-2 c = omega (arith, long c.args.header.now c.in_ok-header_says.ensures)
+
+pub bounds-header-3 : goal.bounds-header-3
+bounds-header-3 c = omega (arith, long c.args.header.now c.in_ok-header_says.ensures)
+
+pub bounds-header-4 : goal.bounds-header-4
+bounds-header-4 c = omega (arith, long c.args.header.now c.in_ok-header_says.ensures)
+
+pub bounds-header-5 : goal.bounds-header-5
+bounds-header-5 c = omega (arith, long c.args.header.now c.in_ok-header_says.ensures)
+
+pub returns-clause-value : goal.returns-clause-value
 unfolding narrow_says
-returns c =
-    let a = c.args in
-    let n = length a.eight.now in
-    let e : n ≡ 8 = c.if-eight-ne8.false in
-    let k = (fields_of a.header.now).copies in
-    let one : k ≡ 1 = sym ((let factor : c.read-f.result.copies ≡ (fields_of c.args.header.now).copies = ap (λ (f : Fields). f.copies) c.read-f.ensures in factor)) ∙ c.if-f-ne1.false in record {
-      value = sym (rw ((let good : header_says c.args.header.now ≡ Done = sym c.header_says-answer.ensures ∙ c.in-Done.is in good), eq-eqb n 8 e, eq-eqb k 1 one) refl);
-      eight_after = narrow_made a.header.now _ n e (λ i. omega (arith, c.type_inv.header i)) c.fill.ensures;
-    }
+returns-clause-value c =
+    goes_on _ _ _ c.in_ok-header_says.ensures
+    (goes_on _ _ _ c.in_ok-ask.ensures
+    (says_last _ _ _ _ _ c.in_ok-ask-2.ensures (ap (λ (f : Fields). eqb f.copies 1) c.read.ensures)))
+
+pub returns-clause-eight_after : goal.returns-clause-eight_after
+unfolding tab byte_of
+returns-clause-eight_after c = narrow_made c.args.header.now _ (λ i. omega (arith, c.type_inv.header i)) c.copy_from_slice.ensures.after

@@ -1,46 +1,51 @@
 -- The questions of eight bytes, then 8, and then the ten bytes.
-use mathlib.Core.Path.{◌≡◌, refl, sym, ap, ◌∙◌}
+use mathlib.Core.Path.{◌≡◌, sym, ◌∙◌}
+use mathlib.Core.List.{List}
 use native.Mathlib.Omega.{arith}
-use lib.Dec.{eqb}
+use Prim.Native.Nat.{ℕ, ◌≤◌}
 use lib.ListN.{length}
-use borrow.Author.Tests.{eq-eqb, ne_eqb}
-use Rattle.answers.specs.Answer.{Answer, Done, ask, then}
-use Rattle.answers.proofs.Refused.{stands, kept}
+use Rattle.bits.specs.Basics.{tab}
+use Rattle.answers.specs.Answer.{Done}
 use Rattle.header_questions.specs.Questions.{old_says}
+use Rattle.answers.proofs.Laws.Answer.{left, stops, goes_on}
 use Rattle.header_questions.proofs.Laws.Good.{old_good}
-use Rattle.header_convert.specs.Convert.{widened, widen_says}
-use Rattle.header_convert.proofs.Bytes.{wide_made}
+use Rattle.header_convert.specs.Convert.{widen_says}
+use Rattle.header_convert.proofs.Bytes.{byte_of, wide_made}
 use Rattle.header_convert.proofs.widen.Goals as goal
 
-pub returns-in_default : goal.returns-in_default
+pub returns-in_err-old_says-clause-value : goal.returns-in_err-old_says-clause-value
 unfolding widen_says
-returns-in_default c =
-    let a = c.args in
-    let s = c.old_says-answer in
-    let keys = c.in_default.in_default-own.keys2 in
-    let rest : Answer = ask (eqb (length a.ten.now) 10) 8 0 in record {
-      value = stands s.result rest keys ∙ ap (λ (x : Answer). then x rest) s.ensures;
-      ten_after = kept s.result (widened a.old.now) a.ten.now keys;
-    }
+returns-in_err-old_says-clause-value c = stops _ _ _ _ c.from_residual.ensures.1 c.in_err-old_says.ensures
 
-pub returns-then-ten-ne10 : goal.returns-then-ten-ne10
+pub returns-in_err-ask-clause-value : goal.returns-in_err-ask-clause-value
 unfolding widen_says
-returns-then-ten-ne10 c =
-    let n = length c.args.ten.now in
-    record {
-      value = sym (rw ((let good : old_says c.args.old.now ≡ Done = sym c.old_says-answer.ensures ∙ c.in-Done.is in good), ne_eqb n 10 c.if-ten-ne10.true) refl);
-      ten_after = refl;
-    }
+returns-in_err-ask-clause-value c = goes_on _ _ _ c.in_ok-old_says.ensures (left _ _ c.from_residual-in_err-ask.ensures.1 ∙ c.in_err-ask.ensures)
 
-pub fill-requires : goal.fill-requires
-fill-requires c = let l = (old_good c.args.old.now ((let good : old_says c.args.old.now ≡ Done = sym c.old_says-answer.ensures ∙ c.in-Done.is in good))).long in omega arith
+long : (old : List ℕ) → Done ≡ old_says old → 6 ≤ length old
+long old done = let l = (old_good old (sym done)).long in omega arith
 
-pub returns : goal.returns
+pub bounds-old-0 : goal.bounds-old-0
+bounds-old-0 c = omega (arith, long c.args.old.now c.in_ok-old_says.ensures)
+
+pub bounds-old-1 : goal.bounds-old-1
+bounds-old-1 c = omega (arith, long c.args.old.now c.in_ok-old_says.ensures)
+
+pub bounds-old-2 : goal.bounds-old-2
+bounds-old-2 c = omega (arith, long c.args.old.now c.in_ok-old_says.ensures)
+
+pub bounds-old-3 : goal.bounds-old-3
+bounds-old-3 c = omega (arith, long c.args.old.now c.in_ok-old_says.ensures)
+
+pub bounds-old-4 : goal.bounds-old-4
+bounds-old-4 c = omega (arith, long c.args.old.now c.in_ok-old_says.ensures)
+
+pub bounds-old-5 : goal.bounds-old-5
+bounds-old-5 c = omega (arith, long c.args.old.now c.in_ok-old_says.ensures)
+
+pub returns-clause-value : goal.returns-clause-value
 unfolding widen_says
-returns c =
-    let a = c.args in
-    let n = length a.ten.now in
-    let e : n ≡ 10 = c.if-ten-ne10.false in record {
-      value = sym (rw ((let good : old_says c.args.old.now ≡ Done = sym c.old_says-answer.ensures ∙ c.in-Done.is in good), eq-eqb n 10 e) refl);
-      ten_after = wide_made a.old.now _ n e (λ i. omega (arith, c.type_inv.old i)) c.fill.ensures;
-    }
+returns-clause-value c = goes_on _ _ _ c.in_ok-old_says.ensures c.in_ok-ask.ensures
+
+pub returns-clause-ten_after : goal.returns-clause-ten_after
+unfolding tab byte_of
+returns-clause-ten_after c = wide_made c.args.old.now _ (λ i. omega (arith, c.type_inv.old i)) c.copy_from_slice.ensures.after

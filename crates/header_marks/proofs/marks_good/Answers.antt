@@ -3,7 +3,6 @@ use mathlib.Core.Path.{refl, sym, ap₂, ◌∙◌}
 use Prim.Native.Nat.{ℕ}
 use native.Mathlib.Omega.{arith}
 use lib.ListN.{get_or}
-use borrow.Author.Rules.{rules}
 use borrow.Author.Tests.{lt-ltb}
 use Rattle.bits.proofs.Laws.First.{first_on}
 use Rattle.header_questions.specs.Questions.{below, all_under, marks_good}
@@ -11,7 +10,7 @@ use Rattle.header_questions.proofs.Laws.Marks.{lent_le, under_no, under_yes}
 use Rattle.header_marks.proofs.marks_good.Goals as goal
 
 pub loop-i-init : goal.loop-i-init
-loop-i-init c = (omega arith, refl)
+loop-i-init c = refl
 
 pub bounds-marker-i : goal.bounds-marker-i
 bounds-marker-i c =
@@ -28,7 +27,7 @@ returns-then-order-marker c =
     let l = c.loop-i in
     let order = c.pulse_order-order in
     let n = c.lent_marks-n in
-    sym (under_no order.result n.result s.args.marker.now l.i (omega arith) c.if-order-marker.true l.invariant.1)
+    sym (under_no order.result n.result s.args.marker.now l.i (omega arith) c.if-order-marker.true l.invariant)
     ∙ ap₂ (λ (o n : ℕ). all_under o n s.args.marker.now) order.ensures n.ensures
 
 pub loop-i-preserved : goal.loop-i-preserved
@@ -37,7 +36,7 @@ loop-i-preserved c =
     let order = c.pulse_order-order.result in
     let n = c.lent_marks-n.result in
     let marker = c.args.marker.now in
-    (search rules, first_on (below order marker) n l.i (omega arith) (lt-ltb (get_or marker l.i 0) order c.if-order-marker.false) ∙ l.invariant.1)
+    first_on (below order marker) n l.i (omega arith) (lt-ltb (get_or marker l.i 0) order c.if-order-marker.false) ∙ l.invariant
 
 pub returns : goal.returns
 unfolding marks_good
@@ -46,5 +45,5 @@ returns c =
     let l = c.loop-i in
     let order = c.pulse_order-order in
     let n = c.lent_marks-n in
-    sym (under_yes order.result n.result marker l.i (omega arith) l.invariant.0 l.invariant.1)
+    sym (under_yes order.result n.result marker l.i (omega arith) (omega arith) l.invariant)
     ∙ ap₂ (λ (o n : ℕ). all_under o n marker) order.ensures n.ensures

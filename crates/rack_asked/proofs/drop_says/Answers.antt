@@ -1,25 +1,36 @@
 -- Each answer is that of the first question answered no; the ones before it were answered yes.
-use mathlib.Core.Path.{refl}
-use native.Mathlib.Omega.{arith}
-use borrow.Author.Tests.{eq-eqb, ne_eqb}
-use Rattle.header_questions.proofs.Said.{passed, failed}
-use Rattle.rack_asked.proofs.Laws.Said.{missions_place, say23, say24, say25, say8, say_yes}
+use mathlib.Core.Path.{refl, sym, ◌∙◌}
+use borrow.Author.Tests.{ltb-true}
+use Rattle.answers.proofs.Laws.Answer.{stops_at, goes_past, says_last, said_yes, ask_done}
+use Rattle.rack.specs.Rack.{Drop}
+use Rattle.rack_asked.proofs.Laws.Said.{missions_place, asked}
 use Rattle.rack_asked.proofs.drop_says.Goals as goal
 
-pub returns-then-not-missions_right : goal.returns-then-not-missions_right
-returns-then-not-missions_right c = say23 _ _ _ _ _ (search failed)
+pub returns-in_err-ask : goal.returns-in_err-ask
+returns-in_err-ask c =
+    stops_at _ _ _ _ _ _ _ c.from_residual.ensures.1 c.in_err-ask.ensures c.missions_right.ensures
+    ∙ asked c.args.area.now c.args.caller c.args.owner c.args.place Drop refl
 
-pub returns-then-place-gt3 : goal.returns-then-place-gt3
-returns-then-place-gt3 c = say24 _ _ _ _ _ refl (search passed) (omega arith)
+pub returns-in_err-ask-2 : goal.returns-in_err-ask-2
+returns-in_err-ask-2 c =
+    goes_past _ _ _ _ _ _ c.in_ok-ask.ensures c.missions_right.ensures
+    (stops_at _ _ _ _ _ _ _ c.from_residual-in_err-ask-2.ensures.1 c.in_err-ask-2.ensures refl)
+    ∙ asked c.args.area.now c.args.caller c.args.owner c.args.place Drop refl
 
 pub own_loaded-requires : goal.own_loaded-requires
-own_loaded-requires c = missions_place c.args.caller _ _ (search passed) (omega arith)
+own_loaded-requires c =
+    missions_place c.args.caller _ _ (said_yes _ _ _ _ c.in_ok-ask.ensures c.missions_right.ensures) (ltb-true _ _ (ask_done _ 24 0 (sym c.in_ok-ask-2.ensures)))
 
-pub returns-then-not-own_loaded : goal.returns-then-not-own_loaded
-returns-then-not-own_loaded c = say25 _ _ _ _ _ refl (search passed) (omega arith) (search failed)
-
-pub returns-then-area-ne176 : goal.returns-then-area-ne176
-returns-then-area-ne176 c = say8 _ _ _ _ _ refl (search passed) (omega arith) (search passed) refl (ne_eqb _ 176 c.if-area-ne176.true)
+pub returns-in_err-ask-3 : goal.returns-in_err-ask-3
+returns-in_err-ask-3 c =
+    goes_past _ _ _ _ _ _ c.in_ok-ask.ensures c.missions_right.ensures
+    (goes_past _ _ _ _ _ _ c.in_ok-ask-2.ensures refl
+    (stops_at _ _ _ _ _ _ _ c.from_residual-in_err-ask-3.ensures.1 c.in_err-ask-3.ensures c.own_loaded.ensures))
+    ∙ asked c.args.area.now c.args.caller c.args.owner c.args.place Drop refl
 
 pub returns : goal.returns
-returns c = say_yes _ _ _ _ _ refl (search passed) (omega arith) (search passed) refl (eq-eqb _ 176 c.if-area-ne176.false)
+returns c =
+    goes_past _ _ _ _ _ _ c.in_ok-ask.ensures c.missions_right.ensures
+    (goes_past _ _ _ _ _ _ c.in_ok-ask-2.ensures refl
+    (goes_past _ _ _ _ _ _ c.in_ok-ask-3.ensures c.own_loaded.ensures c.ask-4.ensures))
+    ∙ asked c.args.area.now c.args.caller c.args.owner c.args.place Drop refl

@@ -1,34 +1,40 @@
 -- Each answer is that of the first question answered no; the ones before it were answered yes.
-use mathlib.Core.Path.{refl, sym, ◌∙◌}
-use native.Mathlib.Omega.{arith}
-use borrow.Author.Tests.{eq-eqb, ne_eqb}
-use Rattle.header_questions.proofs.Said.{passed, failed}
-use Rattle.rack_asked.proofs.Laws.Said.{say23, say24, say25, say_header, say8, say_yes}
+use mathlib.Core.Path.{refl, ◌∙◌}
+use Rattle.answers.proofs.Laws.Answer.{stops, stops_at, goes_on, goes_past}
+use Rattle.rack.specs.Rack.{Load}
+use Rattle.rack_asked.proofs.Laws.Said.{asked}
 use Rattle.rack_asked.proofs.load_says.Goals as goal
 
-pub returns-then-not-missions_right : goal.returns-then-not-missions_right
-returns-then-not-missions_right c = say23 _ _ _ _ _ (search failed)
+pub returns-in_err-ask : goal.returns-in_err-ask
+returns-in_err-ask c =
+    stops_at _ _ _ _ _ _ _ c.from_residual.ensures.1 c.in_err-ask.ensures c.missions_right.ensures
+    ∙ asked c.args.area.now c.args.caller c.args.owner c.args.place (Load c.args.header.now) refl
 
-pub returns-then-place-gt3 : goal.returns-then-place-gt3
-returns-then-place-gt3 c = say24 _ _ _ _ _ refl (search passed) (omega arith)
+pub returns-in_err-ask-2 : goal.returns-in_err-ask-2
+returns-in_err-ask-2 c =
+    goes_past _ _ _ _ _ _ c.in_ok-ask.ensures c.missions_right.ensures
+    (stops _ _ _ _ c.from_residual-in_err-ask-2.ensures.1 c.in_err-ask-2.ensures)
+    ∙ asked c.args.area.now c.args.caller c.args.owner c.args.place (Load c.args.header.now) refl
 
-pub returns-then-caller-owner : goal.returns-then-caller-owner
-returns-then-caller-owner c = let a = c.args in
-    say25 _ _ _ _ _ refl (search passed) (omega arith) (ne_eqb a.caller a.owner (λ e. omega arith))
+pub returns-in_err-ask-3 : goal.returns-in_err-ask-3
+returns-in_err-ask-3 c =
+    goes_past _ _ _ _ _ _ c.in_ok-ask.ensures c.missions_right.ensures
+    (goes_on _ _ _ c.in_ok-ask-2.ensures
+    (stops _ _ _ _ c.from_residual-in_err-ask-3.ensures.1 c.in_err-ask-3.ensures))
+    ∙ asked c.args.area.now c.args.caller c.args.owner c.args.place (Load c.args.header.now) refl
 
-pub returns-in_default : goal.returns-in_default
-returns-in_default c = let a = c.args in
-    let own = eq-eqb a.caller a.owner (omega arith) in
-    say_header _ _ _ _ _ refl (search passed) (omega arith) own _ c.header_says-answer.ensures c.in_default.in_default-own.keys2
-
-pub returns-then-area-ne176 : goal.returns-then-area-ne176
-returns-then-area-ne176 c = let a = c.args in
-    let own = eq-eqb a.caller a.owner (omega arith) in
-    let good = sym c.header_says-answer.ensures ∙ c.in-Done.is in
-    say8 _ _ _ _ _ refl (search passed) (omega arith) own good (ne_eqb _ 176 c.if-area-ne176.true)
+pub returns-in_err-header_says : goal.returns-in_err-header_says
+returns-in_err-header_says c =
+    goes_past _ _ _ _ _ _ c.in_ok-ask.ensures c.missions_right.ensures
+    (goes_on _ _ _ c.in_ok-ask-2.ensures
+    (goes_on _ _ _ c.in_ok-ask-3.ensures
+    (stops _ _ _ _ c.from_residual-in_err-header_says.ensures.1 c.in_err-header_says.ensures)))
+    ∙ asked c.args.area.now c.args.caller c.args.owner c.args.place (Load c.args.header.now) refl
 
 pub returns : goal.returns
-returns c = let a = c.args in
-    let own = eq-eqb a.caller a.owner (omega arith) in
-    let good = sym c.header_says-answer.ensures ∙ c.in-Done.is in
-    say_yes _ _ _ _ _ refl (search passed) (omega arith) own good (eq-eqb _ 176 c.if-area-ne176.false)
+returns c =
+    goes_past _ _ _ _ _ _ c.in_ok-ask.ensures c.missions_right.ensures
+    (goes_on _ _ _ c.in_ok-ask-2.ensures
+    (goes_on _ _ _ c.in_ok-ask-3.ensures
+    (goes_on _ _ _ c.in_ok-header_says.ensures c.ask-4.ensures)))
+    ∙ asked c.args.area.now c.args.caller c.args.owner c.args.place (Load c.args.header.now) refl

@@ -1,34 +1,45 @@
 -- Each answer is that of the first question answered no; the ones before it were answered yes.
-use mathlib.Core.Path.{refl}
-use native.Mathlib.Omega.{arith}
-use lib.ListN.{length}
-use Rattle.header_questions.proofs.Said.{passed, failed}
-use Rattle.rack_asked.proofs.Laws.Said.{missions_place, area_other, slice_other, lengths_same, say23, say24, say25, say8, say_yes}
+use mathlib.Core.Path.{refl, sym, ◌∙◌}
+use borrow.Author.Tests.{ltb-true}
+use Rattle.answers.proofs.Laws.Answer.{left, stops, stops_at, goes_on, goes_past, said_yes, ask_done}
+use Rattle.rack.specs.Rack.{Read}
+use Rattle.rack_asked.proofs.Laws.Said.{missions_place, asked, both_asked}
 use Rattle.rack_asked.proofs.read_says.Goals as goal
 
-pub returns-then-not-missions_right : goal.returns-then-not-missions_right
-returns-then-not-missions_right c = say23 _ _ _ _ _ (search failed)
+pub returns-in_err-ask : goal.returns-in_err-ask
+returns-in_err-ask c =
+    stops_at _ _ _ _ _ _ _ c.from_residual.ensures.1 c.in_err-ask.ensures c.missions_right.ensures
+    ∙ asked c.args.area.now c.args.caller c.args.owner c.args.place (Read c.args.header.now) refl
 
-pub returns-then-place-gt3 : goal.returns-then-place-gt3
-returns-then-place-gt3 c = say24 _ _ _ _ _ refl (search passed) (omega arith)
+pub returns-in_err-ask-2 : goal.returns-in_err-ask-2
+returns-in_err-ask-2 c =
+    goes_past _ _ _ _ _ _ c.in_ok-ask.ensures c.missions_right.ensures
+    (stops_at _ _ _ _ _ _ _ c.from_residual-in_err-ask-2.ensures.1 c.in_err-ask-2.ensures refl)
+    ∙ asked c.args.area.now c.args.caller c.args.owner c.args.place (Read c.args.header.now) refl
 
 pub readable-requires : goal.readable-requires
-readable-requires c = missions_place c.args.caller _ _ (search passed) (omega arith)
+readable-requires c =
+    missions_place c.args.caller _ _ (said_yes _ _ _ _ c.in_ok-ask.ensures c.missions_right.ensures) (ltb-true _ _ (ask_done _ 24 0 (sym c.in_ok-ask-2.ensures)))
 
-pub returns-then-not-readable : goal.returns-then-not-readable
-returns-then-not-readable c = say25 _ _ _ _ _ refl (search passed) (omega arith) (search failed)
+pub returns-in_err-ask-3 : goal.returns-in_err-ask-3
+returns-in_err-ask-3 c =
+    goes_past _ _ _ _ _ _ c.in_ok-ask.ensures c.missions_right.ensures
+    (goes_past _ _ _ _ _ _ c.in_ok-ask-2.ensures refl
+    (stops_at _ _ _ _ _ _ _ c.from_residual-in_err-ask-3.ensures.1 c.in_err-ask-3.ensures c.readable.ensures))
+    ∙ asked c.args.area.now c.args.caller c.args.owner c.args.place (Read c.args.header.now) refl
 
-pub returns-then-area-ne176 : goal.returns-then-area-ne176
-returns-then-area-ne176 c = let a = c.args in
-    let other = area_other (length a.area.now) (length a.header.now) c.if-area-ne176.true in
-    say8 _ _ _ _ _ refl (search passed) (omega arith) (search passed) refl other
-
-pub returns-then-header-ne10 : goal.returns-then-header-ne10
-returns-then-header-ne10 c = let a = c.args in
-    let other = slice_other (length a.area.now) (length a.header.now) c.if-header-ne10.true in
-    say8 _ _ _ _ _ refl (search passed) (omega arith) (search passed) refl other
+pub returns-in_err-ask-4 : goal.returns-in_err-ask-4
+returns-in_err-ask-4 c =
+    goes_past _ _ _ _ _ _ c.in_ok-ask.ensures c.missions_right.ensures
+    (goes_past _ _ _ _ _ _ c.in_ok-ask-2.ensures refl
+    (goes_past _ _ _ _ _ _ c.in_ok-ask-3.ensures c.readable.ensures
+    (stops _ _ _ _ c.from_residual-in_err-ask-4.ensures.1 c.in_err-ask-4.ensures ∙ both_asked _ _ 8 0)))
+    ∙ asked c.args.area.now c.args.caller c.args.owner c.args.place (Read c.args.header.now) refl
 
 pub returns : goal.returns
-returns c = let a = c.args in
-    let same = lengths_same (length a.area.now) (length a.header.now) c.if-area-ne176.false c.if-header-ne10.false in
-    say_yes _ _ _ _ _ refl (search passed) (omega arith) (search passed) refl same
+returns c =
+    goes_past _ _ _ _ _ _ c.in_ok-ask.ensures c.missions_right.ensures
+    (goes_past _ _ _ _ _ _ c.in_ok-ask-2.ensures refl
+    (goes_past _ _ _ _ _ _ c.in_ok-ask-3.ensures c.readable.ensures
+    (goes_on _ _ _ c.in_ok-ask-4.ensures c.ask-5.ensures ∙ both_asked _ _ 8 0)))
+    ∙ asked c.args.area.now c.args.caller c.args.owner c.args.place (Read c.args.header.now) refl

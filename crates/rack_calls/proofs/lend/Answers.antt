@@ -1,41 +1,20 @@
 -- The answer first; then the status is set.
 use mathlib.Core.Path.{◌∙◌}
 use native.Mathlib.Omega.{arith}
-use Rattle.rack.specs.Rack.{Call, Lend, call_of}
 use Rattle.rack_asked.proofs.Laws.Said.{named, area_whole, lent_mission, step_no, step_yes}
 use Rattle.rack_calls.proofs.lend.Goals as goal
 
-pub returns-in_default : goal.returns-in_default
-returns-in_default c = let a = c.args in
-    let call : Call = call_of a.caller a.owner a.place (Lend a.to) in
-    let r = c.lend_says-answer in
-    record {
-      value = r.ensures;
-      area_after = step_no a.area.now call r.result r.ensures c.in_default.in_default-own.keys2;
-    }
+pub returns-in_err-lend_says-clause-area_after : goal.returns-in_err-lend_says-clause-area_after
+returns-in_err-lend_says-clause-area_after c = step_no _ _ _ _ c.in_err-lend_says.ensures
 
 pub overflow_cast-to : goal.overflow_cast-to
-overflow_cast-to c = let a = c.args in
-    let r = c.lend_says-answer in
-    omega (arith, lent_mission a.area.now a.caller a.owner a.place a.to r.result r.ensures c.in-Done.is)
+overflow_cast-to c = omega (arith, lent_mission _ _ _ _ _ c.in_ok-lend_says.ensures)
 
 pub overflow_add-to : goal.overflow_add-to
-overflow_add-to c = let a = c.args in
-    let r = c.lend_says-answer in
-    omega (arith, lent_mission a.area.now a.caller a.owner a.place a.to r.result r.ensures c.in-Done.is)
+overflow_add-to c = omega (arith, lent_mission _ _ _ _ _ c.in_ok-lend_says.ensures)
 
 pub set_status-requires : goal.set_status-requires
-set_status-requires c = let a = c.args in
-    let call : Call = call_of a.caller a.owner a.place (Lend a.to) in
-    let r = c.lend_says-answer in
-    let d = c.in-Done.is in
-    (named a.area.now call r.result r.ensures d, area_whole a.area.now call r.result r.ensures d)
+set_status-requires c = let done = c.in_ok-lend_says.ensures in (named _ _ done, area_whole _ _ done)
 
-pub returns : goal.returns
-returns c = let a = c.args in
-    let call : Call = call_of a.caller a.owner a.place (Lend a.to) in
-    let r = c.lend_says-answer in
-    record {
-      value = r.ensures;
-      area_after = c.set_status.ensures ∙ step_yes a.area.now call r.result r.ensures c.in-Done.is;
-    }
+pub returns-clause-area_after : goal.returns-clause-area_after
+returns-clause-area_after c = c.set_status.ensures ∙ step_yes _ _ c.in_ok-lend_says.ensures

@@ -2,42 +2,24 @@
 use mathlib.Core.Path.{ap, ◌∙◌}
 use mathlib.Core.List.{◌∷◌}
 use Prim.Native.Nat.{ℕ}
-use Rattle.rack.specs.Rack.{put, Call, Load, call_of, filled}
+use Rattle.rack.specs.Rack.{put, filled}
 use Rattle.rack_asked.proofs.Laws.Said.{named, area_whole, header_whole, step_no, step_yes}
 use Rattle.rack_calls.proofs.load.Goals as goal
 
-pub returns-in_default : goal.returns-in_default
-returns-in_default c = let a = c.args in
-    let call : Call = call_of a.caller a.owner a.place (Load a.header.now) in
-    let r = c.load_says-answer in
-    record {
-      value = r.ensures;
-      area_after = step_no a.area.now call r.result r.ensures c.in_default.in_default-own.keys2;
-    }
+pub returns-in_err-load_says-clause-area_after : goal.returns-in_err-load_says-clause-area_after
+returns-in_err-load_says-clause-area_after c = step_no _ _ _ _ c.in_err-load_says.ensures
 
 pub status-requires : goal.status-requires
-status-requires c = let a = c.args in
-    let call : Call = call_of a.caller a.owner a.place (Load a.header.now) in
-    let r = c.load_says-answer in
-    named a.area.now call r.result r.ensures c.in-Done.is
+status-requires c = named _ _ c.in_ok-load_says.ensures
 
 pub set_entry-requires : goal.set_entry-requires
-set_entry-requires c = let a = c.args in
-    let call : Call = call_of a.caller a.owner a.place (Load a.header.now) in
-    let r = c.load_says-answer in
-    let d = c.in-Done.is in (
-      named a.area.now call r.result r.ensures d,
-      area_whole a.area.now call r.result r.ensures d,
-      header_whole a.area.now a.caller a.owner a.place a.header.now r.result r.ensures d,
-    )
+set_entry-requires c =
+    let done = c.in_ok-load_says.ensures in
+    (named _ _ done, area_whole _ _ done, header_whole _ _ _ _ _ done)
 
-pub returns : goal.returns
-returns c = let a = c.args in
-    let call : Call = call_of a.caller a.owner a.place (Load a.header.now) in
-    let r = c.load_says-answer in
-    let status = c.filled-status.ensures ∙ ap filled c.status.ensures in record {
-      value = r.ensures;
-      area_after = c.set_entry.ensures
-          ∙ ap (λ (s : ℕ). put a.area.now a.owner a.place (s ∷ a.header.now)) status
-          ∙ step_yes a.area.now call r.result r.ensures c.in-Done.is;
-    }
+pub returns-clause-area_after : goal.returns-clause-area_after
+returns-clause-area_after c =
+    let a = c.args in
+    c.set_entry.ensures
+    ∙ ap (λ (s : ℕ). put a.area.now a.owner a.place (s ∷ a.header.now)) (c.filled-status.ensures ∙ ap filled c.status.ensures)
+    ∙ step_yes _ _ c.in_ok-load_says.ensures

@@ -1,34 +1,14 @@
 -- The frames passed have their markers, so the first that has none is found among the rest.
-use mathlib.Core.Path.{◌≡◌, refl, sym, ap, ◌∙◌}
-use Prim.Native.Nat.{ℕ, ◌+◌, ◌*◌, ◌≤◌}
+use mathlib.Core.Path.{◌≡◌, sym, ap, ◌∙◌}
+use Prim.Native.Nat.{ℕ, ◌+◌, ◌*◌}
 use native.Mathlib.Omega.{arith}
 use borrow.Author.Tests.{eq-eqb, ne_eqb}
 use Rattle.bits.proofs.Laws.First.{first_on, first_here, first_end}
 use Rattle.bits.specs.Pack.{val, piece}
-use Rattle.sizes.specs.Sizes.{frame_marker, marker_bits, span as Sizes·span, info_bits, block_bytes}
+use Rattle.sizes.specs.Sizes.{frame_marker, marker_bits, span as Sizes·span, block_bytes}
 use Rattle.stream_reader.specs.Frames.{joined, frame_marked, first_unmarked}
-use Rattle.stream_joined.proofs.Rooms.{pieces_room, span_fits, marker_held}
-use borrow.Author.Rules.{rules}
+use Rattle.stream_joined.proofs.Rooms.{marker_held}
 use Rattle.stream_questions.proofs.first_unmarked.Goals as goal
-
-pub span-span-requires : goal.span-span-requires
-span-span-requires c =
-    let h = c.requires.size2 in
-    omega arith
-
-pub loop-j-init : goal.loop-j-init
-loop-j-init c =
-    (search rules, refl)
-
-pub overflow_mul-j : goal.overflow_mul-j
-overflow_mul-j c =
-    let s = c in
-    let a = c.args in
-    let l = c.loop-j in
-    let e : l.j * c.span-span.result ≡ l.j * Sizes·span a.size = ap (λ (k : ℕ). l.j * k) c.span-span.ensures in
-    let fit : l.j * Sizes·span a.size + Sizes·span a.size ≤ a.pieces * info_bits a.rate = span_fits s.requires l.j (omega arith) in
-    let room = pieces_room a.rate a.pieces s.requires.pieces2 in
-    omega arith
 
 pub marker_at-requires : goal.marker_at-requires
 marker_at-requires c =
@@ -50,15 +30,7 @@ returns-then-marker_at-ne-FRAME_MARKER c =
     let v : ℕ = val (λ r. st (l.j * Sizes·span a.size + r)) marker_bits in
     let seen : c.marker_at.result ≡ v = c.marker_at.ensures ∙ ap (λ (y : ℕ). val (λ r. st (y + r)) marker_bits) e in
     let no : v ≡ frame_marker → ⊥ = λ q. c.if-marker_at-ne-FRAME_MARKER.true (seen ∙ q) in
-    sym (sym l.invariant.1 ∙ first_here (frame_marked a.size st) a.count l.j (omega arith) (ne_eqb v frame_marker no))
-
-pub overflow_add-j : goal.overflow_add-j
-overflow_add-j c =
-    search rules
-
-pub loop-j-smaller : goal.loop-j-smaller
-loop-j-smaller c =
-    search rules
+    sym (sym l.invariant ∙ first_here (frame_marked a.size st) a.count l.j (omega arith) (ne_eqb v frame_marker no))
 
 pub loop-j-preserved : goal.loop-j-preserved
 unfolding frame_marked
@@ -71,7 +43,7 @@ loop-j-preserved c =
     let v : ℕ = val (λ r. st (l.j * Sizes·span a.size + r)) marker_bits in
     let seen : c.marker_at.result ≡ v = c.marker_at.ensures ∙ ap (λ (y : ℕ). val (λ r. st (y + r)) marker_bits) e in
     let yes : v ≡ frame_marker = sym seen ∙ c.if-marker_at-ne-FRAME_MARKER.false in
-    (search rules, first_on (frame_marked a.size st) a.count l.j (omega arith) (eq-eqb v frame_marker yes) ∙ l.invariant.1)
+    first_on (frame_marked a.size st) a.count l.j (omega arith) (eq-eqb v frame_marker yes) ∙ l.invariant
 
 pub returns : goal.returns
 unfolding first_unmarked
@@ -79,4 +51,5 @@ returns c =
     let a = c.args in
     let l = c.loop-j in
     let st : ℕ → ℕ = joined a.rate (piece (block_bytes a.rate) a.blocks.now) in
-    sym (sym l.invariant.1 ∙ first_end (frame_marked a.size st) a.count l.j (omega arith) (omega arith) ∙ omega arith)
+    let e : l.j ≡ a.count = omega arith in
+    sym (first_end (frame_marked a.size st) a.count l.j (omega arith) (omega arith)) ∙ l.invariant

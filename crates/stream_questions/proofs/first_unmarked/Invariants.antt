@@ -1,5 +1,4 @@
 use mathlib.Core.Path.{◌≡◌}
-use Prim.Native.Nat.{◌-◌, ◌≤◌}
 use Rattle.bits.specs.Basics.{up_to}
 use Rattle.bits.specs.Pack.{piece}
 use Rattle.sizes.specs.Sizes.{block_bytes}
@@ -8,7 +7,4 @@ use Rattle.stream_questions.proofs.first_unmarked.Given as goal
 
 abbrev pub invariant-loop-j : goal.invariant-loop-j
 invariant-loop-j l =
-    (l.j ≤ l.count) × (up_to (frame_marked l.size (joined l.rate (piece (block_bytes l.rate) l.blocks))) l.j l.count ≡ up_to (frame_marked l.size (joined l.rate (piece (block_bytes l.rate) l.blocks))) 0 l.count)
-
-abbrev pub decreases-loop-j : goal.decreases-loop-j
-decreases-loop-j l = l.count - l.j
+    (up_to (frame_marked l.size (joined l.rate (piece (block_bytes l.rate) l.blocks))) l.j l.count ≡ up_to (frame_marked l.size (joined l.rate (piece (block_bytes l.rate) l.blocks))) 0 l.count)

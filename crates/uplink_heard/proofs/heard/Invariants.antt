@@ -5,7 +5,4 @@ use Rattle.uplink_heard.proofs.Reading.{heard_from}
 use Rattle.uplink_heard.proofs.heard.Given as goal
 
 abbrev pub invariant-loop-q : goal.invariant-loop-q
-invariant-loop-q l = (l.q ≤ 32) × (l.v ≡ val (heard_from l.slots l.at) (2 * l.q))
-
-abbrev pub decreases-loop-q : goal.decreases-loop-q
-decreases-loop-q l = 32 - l.q
+invariant-loop-q l = l.v ≡ val (heard_from l.slots l.at) (2 * l.q)

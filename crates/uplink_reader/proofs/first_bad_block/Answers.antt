@@ -11,7 +11,7 @@ use borrow.Author.Rules.{rules}
 use Rattle.uplink_reader.proofs.first_bad_block.Goals as goal
 
 pub loop-i-init : goal.loop-i-init
-loop-i-init c = (search rules, refl)
+loop-i-init c = refl
 
 pub passes-requires : goal.passes-requires
 passes-requires c =
@@ -28,18 +28,16 @@ returns-then-not-passes c =
     let a = c.args in
     let good : ℕ → Bool = λ i. is_codeword (received a.slots.now i) in
     let end : codeblock_count a.slots.now ≡ a.count = let p = c.requires.long in omega arith in
-    sym (ap (up_to good 0) end ∙ sym l.invariant.1
+    sym (ap (up_to good 0) end ∙ sym l.invariant
     ∙ first_here good a.count l.i (omega arith) (sym c.passes.ensures ∙ c.if-not-passes.true))
 
 pub loop-i-preserved : goal.loop-i-preserved
 loop-i-preserved c =
     let l = c.loop-i in
     let a = c.args in
-    let good : ℕ → Bool = λ i. is_codeword (received a.slots.now i) in (
-      search rules,
-      first_on good a.count l.i (omega arith)
-          (sym c.passes.ensures ∙ c.if-not-passes.false) ∙ l.invariant.1,
-    )
+    let good : ℕ → Bool = λ i. is_codeword (received a.slots.now i) in
+    first_on good a.count l.i (omega arith)
+          (sym c.passes.ensures ∙ c.if-not-passes.false) ∙ l.invariant
 
 pub returns : goal.returns
 unfolding first_bad_block
@@ -49,4 +47,4 @@ returns c =
     let a = c.args in
     let good : ℕ → Bool = λ i. is_codeword (received a.slots.now i) in
     let end : codeblock_count a.slots.now ≡ a.count = let p = c.requires.long in omega arith in
-    sym (ap (up_to good 0) end ∙ sym l.invariant.1 ∙ first_end good a.count l.i (omega arith) (omega arith) ∙ omega arith)
+    sym (ap (up_to good 0) end ∙ sym l.invariant ∙ first_end good a.count l.i (omega arith) (omega arith) ∙ omega arith)

@@ -6,7 +6,4 @@ use Rattle.uplink.specs.Uplink.{received}
 use Rattle.uplink_reader.proofs.first_bad_block.Given as goal
 
 abbrev pub invariant-loop-i : goal.invariant-loop-i
-invariant-loop-i l = (l.i ≤ l.count) × (up_to (λ i. is_codeword (received l.slots i)) l.i l.count ≡ up_to (λ i. is_codeword (received l.slots i)) 0 l.count)
-
-abbrev pub decreases-loop-i : goal.decreases-loop-i
-decreases-loop-i l = l.count - l.i
+invariant-loop-i l = up_to (λ i. is_codeword (received l.slots i)) l.i l.count ≡ up_to (λ i. is_codeword (received l.slots i)) 0 l.count

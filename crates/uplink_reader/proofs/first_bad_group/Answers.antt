@@ -12,7 +12,7 @@ pub overflow_mul-end : goal.overflow_mul-end
 overflow_mul-end c = let m = c.requires.most in omega arith
 
 pub loop-g-init : goal.loop-g-init
-loop-g-init c = (search rules, refl)
+loop-g-init c = refl
 
 pub is_bit-requires : goal.is_bit-requires
 is_bit-requires c =
@@ -26,18 +26,16 @@ returns-then-not-is_bit c =
     let s = c in
     let a = c.args in
     let end : 128 * codeblock_count a.slots.now ≡ 128 * a.count = let p = c.requires.long in omega arith in
-    sym (ap (up_to (is_bit a.slots.now) 0) end ∙ sym l.invariant.1
+    sym (ap (up_to (is_bit a.slots.now) 0) end ∙ sym l.invariant
     ∙ first_here (is_bit a.slots.now) (128 * a.count) l.g (omega arith) (sym c.is_bit.ensures
     ∙ c.if-not-is_bit.true))
 
 pub loop-g-preserved : goal.loop-g-preserved
 loop-g-preserved c =
     let l = c.loop-g in
-    let a = c.args in (
-      search rules,
-      first_on (is_bit a.slots.now) (128 * a.count) l.g (omega arith)
-          (sym c.is_bit.ensures ∙ c.if-not-is_bit.false) ∙ l.invariant.1,
-    )
+    let a = c.args in
+    first_on (is_bit a.slots.now) (128 * a.count) l.g (omega arith)
+          (sym c.is_bit.ensures ∙ c.if-not-is_bit.false) ∙ l.invariant
 
 pub returns : goal.returns
 unfolding first_no_bit
@@ -46,5 +44,5 @@ returns c =
     let s = c in
     let a = c.args in
     let end : 128 * codeblock_count a.slots.now ≡ 128 * a.count = let p = c.requires.long in omega arith in
-    sym (ap (up_to (is_bit a.slots.now) 0) end ∙ sym l.invariant.1
+    sym (ap (up_to (is_bit a.slots.now) 0) end ∙ sym l.invariant
     ∙ first_end (is_bit a.slots.now) (128 * a.count) l.g (omega arith) (omega arith) ∙ omega arith)

@@ -4,7 +4,4 @@ use Rattle.uplink.specs.Uplink.{received}
 use Rattle.uplink_reader.proofs.frames_out.Given as goal
 
 abbrev pub invariant-loop-j : goal.invariant-loop-j
-invariant-loop-j l = (l.j ≤ l.count) × Laid l.initial.frames 0 (8 * l.j) (λ y. received l.slots (y / 64) (y % 64)) l.frames
-
-abbrev pub decreases-loop-j : goal.decreases-loop-j
-decreases-loop-j l = l.count - l.j
+invariant-loop-j l = Laid l.initial.frames 0 (8 * l.j) (λ y. received l.slots (y / 64) (y % 64)) l.frames

@@ -5,7 +5,4 @@ use Rattle.uplink.specs.Uplink.{slot_of}
 use Rattle.uplink_writer.proofs.put_slots.Given as goal
 
 abbrev pub invariant-loop-q : goal.invariant-loop-q
-invariant-loop-q l = (l.q ≤ 32) × Laid l.initial.slots l.at l.q (slot_of (bit_of l.v)) l.slots
-
-abbrev pub decreases-loop-q : goal.decreases-loop-q
-decreases-loop-q l = 32 - l.q
+invariant-loop-q l = Laid l.initial.slots l.at l.q (slot_of (bit_of l.v)) l.slots

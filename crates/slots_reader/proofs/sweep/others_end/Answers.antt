@@ -3,7 +3,6 @@ use mathlib.Core.Path.{◌≡◌, ◌∙◌}
 use Prim.Native.Nat.{ℕ, ◌+◌, ◌*◌, ◌/◌, ◌≤◌, ◌<◌, min}
 use native.Mathlib.Omega.{arith}
 use native.Mathlib.Nat.{le_refl, mul-le-mul, le-div_iff_mul-le, div-lt_iff_lt-mul}
-use Rattle.bits.proofs.Laws.Window.{lesser_min}
 use Rattle.slots_reader.specs.Inner.{Parts}
 use mathlib.Core.List.{List}
 use Rattle.slots_reader.proofs.sweep.others_end.Goals as goal
@@ -29,21 +28,21 @@ pub overflow_mul-c : goal.overflow_mul-c
 overflow_mul-c c =
     let s = c in
     let r = c.requires.0.room in
-    let k = (next c.args.b.now c.args.given.now c.args.copies c.args.c c.args.n c.requires) c.least-end.result (c.least-end.ensures ∙ lesser_min s.args.n (s.args.c + 16)) in
+    let k = (next c.args.b.now c.args.given.now c.args.copies c.args.c c.args.n c.requires) c.min-end.result c.min-end.ensures in
     omega arith
 
 pub overflow_mul-end : goal.overflow_mul-end
 overflow_mul-end c =
     let s = c in
     let r = c.requires.0.room in
-    let k = (next c.args.b.now c.args.given.now c.args.copies c.args.c c.args.n c.requires) c.least-end.result (c.least-end.ensures ∙ lesser_min s.args.n (s.args.c + 16)) in
+    let k = (next c.args.b.now c.args.given.now c.args.copies c.args.c c.args.n c.requires) c.min-end.result c.min-end.ensures in
     omega arith
 
 pub past_others-requires : goal.past_others-requires
 past_others-requires c =
     let s = c in
     let r = c.requires.0.room in
-    let k = (next c.args.b.now c.args.given.now c.args.copies c.args.c c.args.n c.requires) c.least-end.result (c.least-end.ensures ∙ lesser_min s.args.n (s.args.c + 16)) in
+    let k = (next c.args.b.now c.args.given.now c.args.copies c.args.c c.args.n c.requires) c.min-end.result c.min-end.ensures in
     record { order = k.0; room = omega arith; long = s.requires.0.long }
 
 pub returns : goal.returns
@@ -52,8 +51,8 @@ returns c =
     let pos : 0 < s.args.copies = s.requires.0.copies_least in
     let o = c.past_others in
     let q : ℕ = o.result in
-    let end : ℕ = c.least-end.result in
-    let e : end ≡ min s.args.n (s.args.c + 16) = c.least-end.ensures ∙ lesser_min s.args.n (s.args.c + 16) in
+    let end : ℕ = c.min-end.result in
+    let e : end ≡ min s.args.n (s.args.c + 16) = c.min-end.ensures in
     let from : s.args.c + 1 ≤ q / s.args.copies = (le-div_iff_mul-le pos).1 o.ensures.0 in
     let high : q < (end + 1) * s.args.copies = let m = c.past_others.ensures.1 in omega arith in
     let to : q / s.args.copies < end + 1 = (div-lt_iff_lt-mul pos).1 high in
