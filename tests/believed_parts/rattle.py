@@ -101,10 +101,22 @@ def by_brackets(text):
     return outside, inside
 
 
+def past_generics(bare, at):
+    """The place after the type parameters, whose bounds can have brackets and arrows."""
+    if bare[at] != "<":
+        return at
+    depth = 0
+    for place in range(at, len(bare)):
+        depth += (bare[place] == "<") - (bare[place] == ">" and bare[place - 1] != "-")
+        if depth == 0:
+            return place + 1
+    raise NotFollowed("type parameters are not closed")
+
+
 def read_function(module, bare, found):
     """A function's signature and clauses, to the brace of its body."""
     made = Function(module, found["name"], bool(found["public"]), bool(found["c"]))
-    opening = bare.index("(", found.end())
+    opening = bare.index("(", past_generics(bare, found.end()))
     closed = closing(bare, opening) + 1
     at = CONTRACT.search(bare, closed).start()
     if not re.fullmatch(r"(?: ->[^\n]*)?\s*", bare[closed:at]):
@@ -116,7 +128,7 @@ def read_function(module, bare, found):
         end = closing(bare, clause.end() - 1)
         made.clauses.append(statement(module.code, clause.end(), end).tokens())
         at = end + 1
-    if bare[skip_blank(bare, at)] != "{":
+    if bare[skip_blank(bare, at)] not in "{;":  # a body, or the end of a trait's method
         raise NotFollowed(f"{module.path}: the contract of {made.name} is not followed")
     made.statements = [statement(module.code, skip_blank(bare, found.start()), at)]
     return made

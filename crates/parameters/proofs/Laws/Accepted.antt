@@ -1,5 +1,5 @@
 -- What an accepted header with its marker symbols is known to be.
-use mathlib.Core.Path.{◌≡◌, refl, ◌∙◌}
+use mathlib.Core.Path.{◌≡◌, refl, ap, ◌∙◌}
 use mathlib.Core.Bool.{true}
 use mathlib.Core.List.{List}
 use mathlib.Core.Logic.{⊎_elim}
@@ -13,11 +13,17 @@ use Rattle.bits.proofs.Laws.First.{none_fails}
 use Rattle.bits.specs.Pack.{cut}
 use Rattle.bits.proofs.Laws.Pack.{cut_in, cut_past}
 use Rattle.bits.proofs.Laws.Table.{length_tab, get_or_tab, get_or_tab_past}
+use Rattle.std.specs.Prelude.{Result, Ok, Err, IfOk}
+use Rattle.answers.specs.Answer.{Done}
+use Rattle.answers.specs.Inner.{answer_of}
+use Rattle.answers.specs.declared.Refusal.{Refusal}
+use Rattle.answers.proofs.Laws.Answer.{no_done}
+use Rattle.header.specs.Header.{fields_of}
 use Rattle.header.specs.declared.Fields.{Fields}
 use Rattle.header_sizes.specs.Quantities.{pulse_order}
 use Rattle.header_sizes.specs.Inner.{Valid}
 use Rattle.header_sizes.proofs.Laws.Shape.{order_least}
-use Rattle.header_questions.specs.Questions.{lent_marks, below, marks_good}
+use Rattle.header_questions.specs.Questions.{lent_marks, below, marks_good, run_says}
 use Rattle.header_questions.proofs.Laws.Marks.{lent_most}
 use Rattle.parameters.specs.Parameters.{parameters_of}
 use Rattle.parameters.specs.declared.Parameters.{Parameters}
@@ -59,3 +65,9 @@ carries_marks f v marker g = record {
     outside : (i : ℕ) → n ≤ i → get_or (tab 32 x) i 0 ≡ 0
     outside i l =
         ⊎_elim (λ (m : i < 32). get_or_tab 32 x i m ∙ cut_past n (λ i. get_or marker i 0) i l) (λ (m : 32 ≤ i). get_or_tab_past 32 x i m) (lt_or_le i 32)
+
+-- acceptance hands the parameters on: what `check` promises of its result, in one equation
+pub check_parameters : (header marker : List ℕ) (r : Result Parameters Refusal) → answer_of r ≡ run_says header marker
+    → IfOk r (λ q. q ≡ parameters_of (fields_of header) marker) → run_says header marker ≡ Done → r ≡ Ok (parameters_of (fields_of header) marker)
+check_parameters header marker (Ok q) e h g = ap Ok h
+check_parameters header marker (Err refusal) e h g = absurd (no_done (e ∙ g))
