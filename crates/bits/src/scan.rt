@@ -61,6 +61,7 @@ pub fn first_one(b: &[u8], x: usize, end: usize) -> usize
     requires { Within b.now x end }
     ensures { result ≡ first_set b.now x end }
 {
+    // A `while`, since each look passes as many bits as it saw.
     let mut at = x;
     while at < end {
         let v = ahead(b, at);

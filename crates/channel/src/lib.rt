@@ -27,7 +27,7 @@ pub struct Layout {
     pub lines: usize,
 }
 
-// The symbol, of `total`, that goes to place x, which is r modulo N; `total` where none does.
+// The symbol, of `total`, that goes to place x, which is r modulo N; `total` where none does, and no Option, since the definition and its theorems have it so.
 pub fn hit_by(rows: usize, step: usize, total: usize, x: usize, r: usize) -> usize
     requires { Placing rows step total x r }
     ensures { (g : layouts.Layout) → Numbers g rows step total → result ≡ hit_by g x }

@@ -9,7 +9,7 @@ use crate::short;
 use word_columns::COLUMNS;
 
 // For each column of the word the one that it takes, where this one starts among the planes, and the rows by which its bits go up. In 16 bits and
-// in order, so that many columns are divided at once.
+// in order, so that many columns are divided at once: for that each has an array of its own, and a loop over its index.
 pub fn taken_columns(off: &[u16], column: &mut [u16], start: &mut [u16], up: &mut [u16])
     requires { Each source_bit off.now × (length column.old ≡ columns) × (length start.old ≡ columns) × (length up.old ≡ columns) }
     ensures filled { Filled taken_by column.new columns }

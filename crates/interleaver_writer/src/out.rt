@@ -36,41 +36,17 @@ pub fn taken(coded: &[u8], off: &[u16], v: &mut [u8])
     word_columns::rows::turned(v, ROW);
 }
 
-// Line n of plane m: nine columns.
-fn nine(v: &[u8], from: &[usize], m: usize, n: usize, seen: &mut [u8])
-    requires v_len { (length v.now ≡ 2 * row_bits) × Each from_out from.now × (m < 8) × (n < lines) }
-    requires seen_len { (length seen.old ≡ row_bits) × Filled (seen_out v.now) seen.old (plane_bytes * m + line_bytes * n) }
-    ensures { Filled (seen_out v.now) seen.new (plane_bytes * m + line_bytes * n + line_bytes) }
-{
-    let mut k = 0usize;
-    while k < LINE_BYTES {
-        seen[PLANE * m + LINE_BYTES * n + k] = v[from[LINE_BYTES * m + k] + COLUMNS * n];
-        k += 1;
-    }
-}
-
-// Plane m.
-fn plane(v: &[u8], from: &[usize], m: usize, seen: &mut [u8])
-    requires v_len { (length v.now ≡ 2 * row_bits) × Each from_out from.now × (m < 8) }
-    requires seen_len { (length seen.old ≡ row_bits) × Filled (seen_out v.now) seen.old (plane_bytes * m) }
-    ensures { Filled (seen_out v.now) seen.new (plane_bytes * m + plane_bytes) }
-{
-    let mut n = 0;
-    while n < LINES {
-        nine(v, from, m, n, seen);
-        n += 1;
-    }
-}
-
-// All planes, in which the word's columns lie side by side.
+// All planes, in which the word's columns lie side by side: in line n of plane m nine columns.
 fn planes(v: &[u8], from: &[usize], seen: &mut [u8])
     requires { (length v.now ≡ 2 * row_bits) × Each from_out from.now × (length seen.old ≡ row_bits) }
     ensures { Filled (seen_out v.now) seen.new row_bits }
 {
-    let mut m = 0;
-    while m < 8 {
-        plane(v, from, m, seen);
-        m += 1;
+    for m in 0..8 {
+        for n in 0..LINES {
+            for k in 0..LINE_BYTES {
+                seen[PLANE * m + LINE_BYTES * n + k] = v[from[LINE_BYTES * m + k] + COLUMNS * n];
+            }
+        }
     }
 }
 

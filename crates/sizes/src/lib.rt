@@ -1,4 +1,5 @@
 // The sizes that several crates share: those of a word, of a marked frame, and of a block at each code rate (0 for 1/3, 1 for 1/2, 2 for 2/3).
+// A rate is a number and no enum: the C calls take it so, and the definitions and theorems speak of that number, which an enum would need in each clause.
 #![tactic(auto)]
 
 ghost use Rattle.std.specs.Prelude.{◌≡◌, ◌^◌, ◌<◌};

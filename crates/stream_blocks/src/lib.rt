@@ -73,6 +73,7 @@ fn fill_bytes(frames: &[u8], size: usize, count: usize, x: usize, block: &mut [u
 {
     let span = sizes::span(size);
     let mut at = pieces::position_of(x, span);
+    // A `while`, since each turn copies as many bytes as lie together.
     let mut i = 0;
     while i < block.len() {
         let n = some_bytes(frames, size, count, at, block, i);

@@ -47,6 +47,7 @@ pub fn first_fill(rate: u64, blocks: &[u8], pieces: usize, from: usize) -> usize
     let k = sizes::info_bits(rate);
     let end = pieces * k;
     let mut at = pieces::position_of(from, k);
+    // A `while`, since each look passes as many zeros as it saw.
     let mut x = from;
     while x < end {
         let n = zeros_at(rate, blocks, at);

@@ -31,8 +31,8 @@ fn heard(slots: &[u8], at: usize) -> u64
     ensures { result ≡ val (λ j. bit_at slots.now (8 * at + (4 * j + 1))) 64 }
 {
     let mut v = 0u64;
-    for q in 0..32 {
-        v = (v << 2) | two_bits(slots[at + q]);
+    for byte in &slots[at..at + 32] {
+        v = (v << 2) | two_bits(*byte);
     }
     v
 }

@@ -6,7 +6,10 @@ use Prim.Native.Nat.{ℕ, zero, suc, ◌+◌, ◌-◌, ◌*◌, ◌/◌, ◌%◌
 use native.Mathlib.Omega.{arith}
 use native.Mathlib.Nat.{mul-le-mul, le_refl}
 use lib.Dec.{eqb, eqb→eq}
-use lib.ListN.{length, get_or, set, length-set}
+use lib.ListN.{length, get_or, set, length-set, take, drop}
+use borrow.Author.Rules.{rules}
+use borrow.Rule.Slice.PartMut.{put_mid}
+use Rattle.std.proofs.lemmas.List.{places}
 use lib.Seq.{get_or-set_same, get_or-set_other}
 use borrow.Author.Tests.{lt-ltb, le-ltb, eq-eqb, ne_eqb}
 use Rattle.bits.specs.Basics.{pick}
@@ -33,10 +36,6 @@ turned_more n m v before after h l e t =
           (eq_or_ne x m);
     }
 
--- the planes before m, and of plane m and of its turned numbers the first x
-abbrev pub Partly : List ℕ → ℕ → ℕ → List ℕ → Type 0
-Partly planes m x v = (k : ℕ) → k < 540 * m + 540 → (540 * m ≤ k → k % 270 < x) → get_or v k 0 ≡ doubled_at planes k
-
 module _ (planes : List ℕ) (m : ℕ) where
   doubled_low : (x : ℕ) → x < 270 → doubled_at planes (540 * m + x) ≡ get_or planes (270 * m + x) 0
   unfolding doubled_at
@@ -54,36 +53,47 @@ module _ (planes : List ℕ) (m : ℕ) where
       let w : x + 270 - 270 ≡ x = omega arith in
       rw (p, q, le-ltb (x + 270) 270 z, w) refl
 
-  pub partly_none : (v : List ℕ) → Filled (doubled_at planes) v (540 * m) → Partly planes m 0 v
-  partly_none v h k l part = ⊎_elim (λ (q : k < 540 * m). h k q) (λ (q : 540 * m ≤ k). let z = part q in absurd (omega arith)) (lt_or_le k (540 * m))
-
-  pub partly_more : (v : List ℕ) (x b t : ℕ) → x < 270 → 540 * m + 540 ≤ length v → b ≡ get_or planes (270 * m + x) 0 → t ≡ turn_of b → Partly planes m x v
-      → Partly planes m (x + 1) (set (set v (540 * m + x) b) (540 * m + 270 + x) t)
-  partly_more v x b t l room eb et h k lk part =
+  -- plane m copied, and its numbers turned after it
+  pub plane_doubled : (v part after : List ℕ) → 540 * m + 540 ≤ length v → length part ≡ 270
+      → ((x : ℕ) → x < 270 → get_or part x 0 ≡ get_or planes (270 * m + x) 0)
+      → Turned 270 270 (take (540 * m + 540 - 540 * m) (drop (540 * m) (put_mid (540 * m) (540 * m + 270 - 540 * m) v part))) after
+      → Filled (doubled_at planes) v (540 * m)
+      → Filled (doubled_at planes) (put_mid (540 * m) (540 * m + 540 - 540 * m) (put_mid (540 * m) (540 * m + 270 - 540 * m) v part) after) (540 * m + 540)
+  plane_doubled v part after room size copy t h k l =
       ⊎_elim
-      (λ (q : k ≡ 540 * m + 270 + x).
-      rw q (get_or-set_same (set v low b) high t 0 (rw (length-set v low b) (omega arith)) ∙ et ∙ ap turn_of eb ∙ sym (doubled_high x l)))
-      (λ (q : k ≡ 540 * m + 270 + x → ⊥). get_or-set_other (set v low b) high k t 0 q ∙ ⊎_elim
-      (λ (r : k ≡ 540 * m + x). rw r (get_or-set_same v low b 0 (omega arith) ∙ eb ∙ sym (doubled_low x l)))
-      (λ (r : k ≡ 540 * m + x → ⊥). get_or-set_other v low k b 0 r ∙ h k lk (λ a. earlier q r a (part a)))
-      (eq_or_ne k (540 * m + x)))
-      (eq_or_ne k (540 * m + 270 + x))
+      (λ (q : k < 540 * m). let same : get_or all k 0 ≡ get_or v k 0 = search (rules, places) in same ∙ h k q)
+      (λ (q : 540 * m ≤ k).
+      let here : get_or all k 0 ≡ get_or after (k - 540 * m) 0 = search (rules, places) in
+      ⊎_elim
+      (λ (r : k - 540 * m < 270).
+      let e : 540 * m + (k - 540 * m) ≡ k = omega arith in
+      here ∙ t.earlier (k - 540 * m) r ∙ copied (k - 540 * m) r ∙ copy (k - 540 * m) r ∙ sym (doubled_low (k - 540 * m) r) ∙ ap (doubled_at planes) e)
+      (λ (r : 270 ≤ k - 540 * m).
+      let y : ℕ = k - 540 * m - 270 in
+      let y' : y < 270 = omega arith in
+      let d : k - 540 * m ≡ 270 + y = omega arith in
+      let e : 540 * m + 270 + y ≡ k = omega arith in
+      here ∙ ap (λ (i : ℕ). get_or after i 0) d ∙ t.here y y' ∙ ap turn_of (copied y y' ∙ copy y y') ∙ sym (doubled_high y y') ∙ ap (doubled_at planes) e)
+      (lt_or_le (k - 540 * m) 270))
+      (lt_or_le k (540 * m))
     where
-      low : ℕ
-      low = 540 * m + x
+      low : List ℕ
+      low = put_mid (540 * m) (540 * m + 270 - 540 * m) v part
 
-      high : ℕ
-      high = 540 * m + 270 + x
+      two : List ℕ
+      two = take (540 * m + 540 - 540 * m) (drop (540 * m) low)
 
-      earlier : (k ≡ 540 * m + 270 + x → ⊥) → (k ≡ 540 * m + x → ⊥) → 540 * m ≤ k → k % 270 < x + 1 → k % 270 < x
-      earlier q r a p =
-          ⊎_elim
-          (λ (e : k % 270 ≡ x). ⊎_elim
-          (λ (w : k < 540 * m + 270). absurd (r (omega arith)))
-          (λ (w : 540 * m + 270 ≤ k). absurd (q (omega arith)))
-          (lt_or_le k (540 * m + 270)))
-          (λ (e : k % 270 ≡ x → ⊥). omega (arith, e))
-          (eq_or_ne (k % 270) x)
+      all : List ℕ
+      all = put_mid (540 * m) (540 * m + 540 - 540 * m) low after
+
+      long : length low ≡ length v
+      long = search (rules, places)
+
+      wide : length after ≡ 540
+      wide = t.long ∙ search (rules, places)
+
+      copied : (x : ℕ) → x < 270 → get_or two x 0 ≡ get_or part x 0
+      copied x l = search (rules, places)
 
 -- ---- eight numbers of a row
 

@@ -31,11 +31,9 @@ fn plane(planes: &[u8], m: usize, v: &mut [u8])
     requires { (length planes.now ≡ row_bits) × (m < 8) × (length v.old ≡ 2 * row_bits) × Filled (doubled_at planes.now) v.old (2 * plane_bytes * m) }
     ensures { Filled (doubled_at planes.now) v.new (2 * plane_bytes * m + 2 * plane_bytes) }
 {
-    for x in 0..PLANE {
-        let b = planes[PLANE * m + x];
-        v[DOUBLE_PLANE * m + x] = b;
-        v[DOUBLE_PLANE * m + PLANE + x] = turn(b);
-    }
+    let at = DOUBLE_PLANE * m;
+    v[at..at + PLANE].copy_from_slice(&planes[PLANE * m..PLANE * m + PLANE]);
+    turned(&mut v[at..at + DOUBLE_PLANE], PLANE);
 }
 
 // All eight of them.

@@ -1,25 +1,24 @@
 -- Two bits more at each turn.
 use mathlib.Core.Path.{◌≡◌, refl, ap, ◌∙◌}
-use Prim.Native.Nat.{◌*◌}
+use Prim.Native.Nat.{ℕ, ◌+◌, ◌-◌, ◌*◌, ◌/◌, ◌%◌, ◌^◌}
 use native.Mathlib.Omega.{arith}
-use Rattle.bits.specs.Pack.{val}
-use Rattle.uplink_heard.proofs.Reading.{heard_from, heard_more}
+use lib.ListN.{get_or, length, take, drop}
 use borrow.Author.Rules.{rules}
+use Rattle.std.proofs.lemmas.List.{places}
+use Rattle.bits.specs.Pack.{val}
+use Rattle.uplink_heard.proofs.Reading.{heard_more}
 use Rattle.uplink_heard.proofs.heard.Goals as goal
 
-pub loop-q-init : goal.loop-q-init
+pub loop-byte-init : goal.loop-byte-init
 unfolding val
-loop-q-init c = refl
+loop-byte-init c = refl
 
-pub loop-q-preserved : goal.loop-q-preserved
-loop-q-preserved c =
-    let l = c.loop-q in
-    let a = c.args in
-    heard_more a.slots.now a.at l.q l.v c.two_bits.result (omega arith) l.invariant c.two_bits.ensures
-
-pub returns : goal.returns
-returns c =
-    let l = c.loop-q in
-    let a = c.args in
-    let e : 2 * l.q ≡ 64 = omega arith in
-    l.invariant ∙ ap (val (heard_from a.slots.now a.at)) e
+pub loop-byte-preserved : goal.loop-byte-preserved
+loop-byte-preserved c =
+    let l = c.loop-byte in
+    let xs = c.args.slots.now in
+    let at : ℕ = c.args.at in
+    let whole : length (take (at + 32 - at) (drop at xs)) ≡ 32 = search (rules, places) in
+    let byte : get_or (take (at + 32 - at) (drop at xs)) l.byte-index 0 ≡ get_or xs (at + l.byte-index) 0 = search (rules, places) in
+    heard_more xs at l.byte-index l.v c.two_bits.result (omega arith) l.invariant
+    (c.two_bits.ensures ∙ ap (λ (b : ℕ). val (λ t. b / 2 ^ (7 - (4 * t + 1)) % 2) 2) byte)

@@ -1,13 +1,6 @@
 -- Half a byte is the group, which 272 is asked for.
-use native.Mathlib.Omega.{arith}
 use Rattle.uplink_heard.proofs.Reading.{group_is, group_lt, bit_tested}
 use Rattle.uplink_heard.proofs.is_bit.Goals as goal
-
-pub overflow_cast-result : goal.overflow_cast-result
-overflow_cast-result c = let a = c.args in omega (arith, group_lt a.slots.now a.g)
-
-pub overflow_shr-result : goal.overflow_shr-result
-overflow_shr-result c = let a = c.args in omega (arith, group_lt a.slots.now a.g)
 
 pub returns : goal.returns
 returns c =

@@ -1,26 +1,28 @@
--- A plane more.
-use mathlib.Core.Path.{◌∙◌}
+-- A column of the row more.
+use Prim.Native.Nat.{◌+◌, ◌*◌, ◌<◌}
 use native.Mathlib.Omega.{arith}
-use borrow.Author.Rules.{rules}
+use Rattle.bits.proofs.Laws.Table.{fill}
+use Rattle.interleaver_writer.specs.Inner.{seen_out}
+use Rattle.interleaver_columns.proofs.Begins.{begin_lt}
+use Rattle.interleaver_writer.proofs.Writing.{seen_made}
 use Rattle.interleaver_writer.proofs.out.planes.Goals as goal
 
-pub loop-m-init : goal.loop-m-init
-loop-m-init c = (search rules, search rules, λ k h. absurd (omega arith))
+pub overflow_add-seen-in-loop-k : goal.overflow_add-seen-in-loop-k
+overflow_add-seen-in-loop-k c =
+    let q = 9 * c.loop-m.m + c.loop-k.k in
+    omega (arith, c.requires.1.1 q (omega arith), begin_lt q)
 
-pub plane-requires : goal.plane-requires
-plane-requires c =
-    let l = c.loop-m in
-    let g = c.requires in
-    record {
-      v_len = (g.0, g.1, omega arith);
-      seen_len = (l.invariant.1, l.invariant.2);
-    }
+pub bounds-v-from : goal.bounds-v-from
+bounds-v-from c =
+    let q = 9 * c.loop-m.m + c.loop-k.k in
+    omega (arith, c.requires.1.1 q (omega arith), begin_lt q)
 
-pub loop-m-preserved : goal.loop-m-preserved
-loop-m-preserved c =
-    let l = c.loop-m in
-    let o = c.plane in
-    (search rules, o.auto.seen ∙ l.invariant.1, λ k h. o.ensures k (omega arith))
-
-pub returns : goal.returns
-returns c = λ k h. c.loop-m.invariant.2 k (omega arith)
+pub loop-k-preserved : goal.loop-k-preserved
+loop-k-preserved c =
+    let l = c.loop-k in
+    let v = c.args.v.now in
+    let m = c.loop-m.m in
+    let n = c.loop-n.n in
+    let k : l.k < 9 = omega arith in
+    let e = c.requires.1.1 (9 * m + l.k) (omega arith) in
+    λ j g. fill l.seen (seen_out v) (270 * m + 9 * n + l.k) _ (omega arith) (seen_made v m n l.k _ (omega arith) (omega arith) k e) l.invariant j (omega arith)
