@@ -21,6 +21,7 @@ fn next_start(b: &[u8], m: Marker, x: usize, end: usize) -> usize
     ensures { Next b.now m.first m.last x end result }
 {
     let mut at = pattern_look::pulse_from(b, x + m.first, end + m.first) - m.first;
+    // Not a `for`: a start goes on to the next one that a pulse allows.
     while at < end {
         if bits::packing::bit_at(b, at + m.last) != 0 {
             return at;
@@ -36,6 +37,7 @@ fn first_start(b: &[u8], slots: &[u8], m: Marker, from: usize, end: usize) -> us
     ensures { result ≡ up_to (missed (bit_at slots.now) m.n b.now) from end }
 {
     let mut x = next_start(b, m, from, end);
+    // Nor here, and i goes on by as many slots as were compared.
     'start: while x < end {
         let mut i = 0usize;
         while i < m.n {
