@@ -7,6 +7,7 @@ ghost use Rattle.plan.specs.Inner.{Fine};
 ghost use Rattle.capture_search.specs.Search.{marker_slots, marker_slot, first_fit_from};
 ghost use Rattle.capture_marker.specs.Inner.{Room, Seeks};
 
+use pattern_search::Marker;
 use plan::Plan;
 
 // The slot of marker symbol w that has a pulse (step 10).
@@ -24,10 +25,8 @@ fn put_marker(p: Plan, slots: &mut [u8])
     ensures { (i : ℕ) → i < marker_slots p → bit_at slots.new i ≡ marker_slot p i }
 {
     let markers = p.layout.markers;
-    let mut w = 0usize;
-    while w < markers {
+    for w in 0..markers {
         bits::packing::put_bit(slots, pulse_of(p, w));
-        w += 1;
     }
 }
 
@@ -41,5 +40,5 @@ pub fn first_fit(p: Plan, b: &[u8], n: usize, from: usize, end: usize) -> usize
     let last = pulse_of(p, p.layout.markers - 1);
     let mut slots = [0u8; 1288];
     put_marker(p, &mut slots);
-    pattern_search::first_any(b, &slots, n, first, last, from, end)
+    pattern_search::first_any(b, &slots, Marker { n, first, last }, from, end)
 }

@@ -63,6 +63,7 @@ pub fn counted(b: &[u8], copies: usize, group: usize, s: usize) -> usize
     let mut top = 0usize;
     let mut q = group;
     let mut r = skip(b, copies, group, s, 0);
+    // Not a `for`: r goes on to the next slot that has a pulse.
     while r < group {
         let v = count_at(b, copies, group, s, r);
         q = in_front(v, top, r, q, group);

@@ -78,6 +78,7 @@ fn ahead(
     ensures { Reached order (pooled b.now copies group order) row.old from to result row.new }
 {
     let mut s = from;
+    // Not a `for`: s goes on to where the symbols that are seen at once stop.
     while s < to {
         let k = near::near_row(b, copies, group, order, from, s, to, row);
         s = exact(b, copies, group, order, from, k, to, row);

@@ -77,7 +77,7 @@ pub fn clear_end(size: usize, b: &[u8], from: usize, to: usize) -> usize
     to - (to - from).min(16)
 }
 
-// The symbols of groups that all have one.
+// The symbols of groups that all have one. Not by `fill`, whose test would make each step wait for the symbol.
 fn seen_row(order: usize, group: usize, b: &[u8], from: usize, to: usize, row: &mut [u8]) -> usize
     requires { Slots order group to b.now × (from ≤ to) × (to ≤ from + length row.old) × ((s : ℕ) → from ≤ s → s < to → symbol_in order group b.now s < order) }
     ensures { Reached order (symbol_in order group b.now) row.old from to result row.new }

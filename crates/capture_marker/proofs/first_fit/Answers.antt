@@ -7,15 +7,6 @@ use Rattle.bits.specs.Pack.{bit_at}
 use Rattle.capture_marker.proofs.Pulses.{slots_most, mark_inside, mark_pulse, whole}
 use Rattle.capture_marker.proofs.first_fit.Goals as goal
 
-pub pulse_of-first-requires : goal.pulse_of-first-requires
-pulse_of-first-requires c = let h = c.requires.fine in (h, h.markers_least)
-
-pub overflow_sub-p : goal.overflow_sub-p
-overflow_sub-p c = let m = c.requires.fine.markers_least in omega arith
-
-pub pulse_of-last-requires : goal.pulse_of-last-requires
-pulse_of-last-requires c = let h = c.requires.fine in (h, let m = c.requires.fine.markers_least in omega arith)
-
 pub put_marker-requires : goal.put_marker-requires
 put_marker-requires c =
     let h = c.requires.fine in

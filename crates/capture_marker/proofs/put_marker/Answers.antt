@@ -15,9 +15,6 @@ use Rattle.capture_marker.proofs.put_marker.Goals as goal
 pub loop-w-init : goal.loop-w-init
 loop-w-init c = (search rules, refl, pulses_none _ _ _ c.requires.empty)
 
-pub pulse_of-requires : goal.pulse_of-requires
-pulse_of-requires c = (c.requires.fine, search rules)
-
 pub put_bit-requires : goal.put_bit-requires
 put_bit-requires c =
     let s = c in
@@ -41,9 +38,6 @@ loop-w-preserved c =
       λ x h. ap (λ (xs : List ℕ). bit_at xs x) (o.ensures ∙ ap (put_bit l.slots) i.ensures) ∙ pulses_more p.group l.w
           (λ w. get_or p.marks w 0) small l.slots inside l.invariant.2 x h,
     )
-
-pub shape_of-slots : goal.shape_of-slots
-shape_of-slots c = c.loop-w.invariant.1
 
 pub returns : goal.returns
 returns c =

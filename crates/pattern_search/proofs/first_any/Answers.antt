@@ -8,4 +8,4 @@ use Rattle.pattern_search.proofs.first_any.Goals as goal
 pub returns-then-b-lt8 : goal.returns-then-b-lt8
 returns-then-b-lt8 c =
     let a = c.args in
-    c.first_start.ensures ∙ padded a.b.now _ a.marker.now a.n a.from a.end (λ k l. search (rules, places)) c.requires.ends
+    c.first_start.ensures ∙ padded a.b.now _ a.slots.now a.m.n a.from a.end (λ k l. search (rules, places)) c.requires.ends

@@ -14,7 +14,7 @@ start-init c =
     let s = c in
     let a = c.args in
     let next = c.next_start-x.ensures in
-    (next.most, passed a.b.now a.marker.now a.n a.first a.last a.from a.end s.requires a.from c.next_start-x.result next)
+    (next.most, passed a.b.now a.slots.now a.m.n a.m.first a.m.last a.from a.end s.requires a.from c.next_start-x.result next)
 
 pub start-preserved : goal.start-preserved
 start-preserved c =
@@ -26,9 +26,9 @@ start-preserved c =
     let r = c.right_from-right in
     let x : l.x ≡ o.x = l.invariant.0 in (
       next.most,
-      left a.b.now a.marker.now a.n a.first a.last a.from a.end s.requires l.x l.i c.next_start-x-then-right-eq0.result (omega arith)
+      left a.b.now a.slots.now a.m.n a.m.first a.m.last a.from a.end s.requires l.x l.i c.next_start-x-then-right-eq0.result (omega arith)
           (omega arith) (r.ensures.stop c.if-right-eq0.true) next
-          ∙ ap (λ (y : ℕ). up_to (missed (bit_at a.marker.now) a.n a.b.now) y a.end) x
+          ∙ ap (λ (y : ℕ). up_to (missed (bit_at a.slots.now) a.m.n a.b.now) y a.end) x
           ∙ o.invariant.1,
     )
 
@@ -37,7 +37,7 @@ loop-i-preserved c =
     let a = c.args in
     let l = c.loop-i in
     let r = c.right_from-right in
-    (l.invariant.0, r.ensures.room, more a.b.now a.marker.now l.x l.i a.n r.result r.ensures l.invariant.2)
+    (l.invariant.0, r.ensures.room, more a.b.now a.slots.now l.x l.i a.m.n r.result r.ensures l.invariant.2)
 
 pub returns-in-start : goal.returns-in-start
 returns-in-start c =
@@ -46,12 +46,12 @@ returns-in-start c =
     let o = c.start in
     let l = c.loop-i in
     let x : l.x ≡ o.x = l.invariant.0 in
-    sym (here a.b.now a.marker.now a.n a.first a.last a.from a.end s.requires l.x (omega arith) (λ k h. l.invariant.2 k (omega arith)))
-    ∙ ap (λ (y : ℕ). up_to (missed (bit_at a.marker.now) a.n a.b.now) y a.end) x
+    sym (here a.b.now a.slots.now a.m.n a.m.first a.m.last a.from a.end s.requires l.x (omega arith) (λ k h. l.invariant.2 k (omega arith)))
+    ∙ ap (λ (y : ℕ). up_to (missed (bit_at a.slots.now) a.m.n a.b.now) y a.end) x
     ∙ o.invariant.1
 
 pub returns : goal.returns
 returns c =
     let a = c.args in
     let o = c.start in
-    sym (first_end (missed (bit_at a.marker.now) a.n a.b.now) a.end o.x (omega arith) (omega arith)) ∙ o.invariant.1
+    sym (first_end (missed (bit_at a.slots.now) a.m.n a.b.now) a.end o.x (omega arith) (omega arith)) ∙ o.invariant.1

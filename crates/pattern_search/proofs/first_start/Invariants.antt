@@ -6,13 +6,13 @@ use Rattle.pattern_search.specs.Starts.{missed}
 use Rattle.pattern_search.proofs.first_start.Given as goal
 
 abbrev pub invariant-loop-i : goal.invariant-loop-i
-invariant-loop-i l = (l.x ≡ l.initial.x) × (l.i ≤ l.n) × ((k : ℕ) → k < l.i → bit_at l.b (l.x + k) ≡ bit_at l.marker k)
+invariant-loop-i l = (l.x ≡ l.initial.x) × (l.i ≤ l.m.n) × ((k : ℕ) → k < l.i → bit_at l.b (l.x + k) ≡ bit_at l.slots k)
 
 abbrev pub decreases-loop-i : goal.decreases-loop-i
-decreases-loop-i l = l.n - l.i
+decreases-loop-i l = l.m.n - l.i
 
 abbrev pub invariant-start : goal.invariant-start
-invariant-start l = (l.x ≤ l.end) × (up_to (missed (bit_at l.marker) l.n l.b) l.x l.end ≡ up_to (missed (bit_at l.marker) l.n l.b) l.from l.end)
+invariant-start l = (l.x ≤ l.end) × (up_to (missed (bit_at l.slots) l.m.n l.b) l.x l.end ≡ up_to (missed (bit_at l.slots) l.m.n l.b) l.from l.end)
 
 abbrev pub decreases-start : goal.decreases-start
 decreases-start l = l.end - l.x
