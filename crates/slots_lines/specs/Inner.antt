@@ -5,6 +5,7 @@ use Rattle.bits.specs.Pack.{cut}
 use Rattle.channel.specs.Channel.{unit}
 use Rattle.plan.specs.declared.Plan.{Plan}
 use Rattle.slots.specs.Writing.{symbol_at}
+use Rattle.slots_moves.specs.Inner.{Holds, front}
 
 -- how far apart two places are whose pulses are moved one after the other
 unfoldable pub stride : ℕ → ℕ
@@ -15,6 +16,10 @@ pub record Residue (p : Plan) (line c r : ℕ) : Type 0 where
   pub inside : line < p.layout.lines
   pub start : c ≡ line * p.layout.symbols % stride p.layout.rows
   pub small : r < stride p.layout.rows
+
+-- the symbols of a line were put after its markers: what held the run up to these holds it up to the next line
+abbrev pub LinePut : Plan → (ℕ → List ℕ) → ℕ → List ℕ → List ℕ → Type 0
+LinePut p word line before after = (end : ℕ) → Holds p (front p word (line * unit p.layout + p.layout.markers)) end before → Holds p (front p word ((line + 1) * unit p.layout)) end after
 
 -- the bytes that the slots before line j begin
 abbrev pub line_end : Plan → ℕ → ℕ

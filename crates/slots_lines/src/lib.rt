@@ -8,7 +8,7 @@ ghost use Rattle.channel.specs.Channel.{unit};
 ghost use Rattle.sizes.specs.Sizes.{word_bytes};
 ghost use Rattle.slots.specs.Inner.{Lent};
 ghost use Rattle.slots_moves.specs.Inner.{Holds, front};
-ghost use Rattle.slots_lines.specs.Inner.{Residue, stride, so_far};
+ghost use Rattle.slots_lines.specs.Inner.{LinePut, Residue, stride, so_far};
 
 use plan::Plan;
 
@@ -87,7 +87,7 @@ pub fn residues_to(rows: usize, step: usize, end: usize, n: usize) -> usize
 // The pulses of a line's symbols. Most residues of a long run have none in it.
 pub fn put_residues(p: Plan, words: &[u8], line: usize, slots: &mut [u8])
     requires { Lent p words.now slots.old × (line < p.layout.lines) }
-    ensures { (end : ℕ) → Holds p (front p (piece word_bytes words.now) (line * unit p.layout + p.layout.markers)) end slots.old → Holds p (front p (piece word_bytes words.now) ((line + 1) * unit p.layout)) end slots.new }
+    ensures { LinePut p (piece word_bytes words.now) line slots.old slots.new }
 {
     let rows = p.layout.rows;
     let step = p.layout.step;

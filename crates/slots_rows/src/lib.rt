@@ -8,8 +8,8 @@ ghost use Rattle.channel.specs.Channel.{unit};
 ghost use Rattle.channel.specs.Inner.{delay};
 ghost use Rattle.sizes.specs.Sizes.{word_bytes};
 ghost use Rattle.slots.specs.Inner.{Given, Lent};
-ghost use Rattle.slots_moves.specs.Inner.{Holds, front};
 ghost use Rattle.slots_units.specs.Inner.{per_forty};
+ghost use Rattle.slots_lines.specs.Inner.{LinePut};
 ghost use Rattle.slots_rows.specs.Inner.{RowTo};
 
 use plan::Plan;
@@ -57,7 +57,7 @@ fn put_gathered(
     slots: &mut [u8],
 )
     requires { Lent p words.now slots.old × (line < p.layout.lines) × (from ≤ to) × (to ≤ p.layout.rows) × RowTo p (piece word_bytes words.now) line from row.old × ((r : ℕ) → to ≤ r → r < p.layout.rows → line * p.layout.symbols + p.layout.symbols ≤ delay p.layout (r % p.layout.rows)) × (1 ≤ per_forty (p.copies * p.group)) }
-    ensures { (end : ℕ) → Holds p (front p (piece word_bytes words.now) (line * unit p.layout + p.layout.markers)) end slots.old → Holds p (front p (piece word_bytes words.now) ((line + 1) * unit p.layout)) end slots.new }
+    ensures { LinePut p (piece word_bytes words.now) line slots.old slots.new }
 {
     let symbols = p.layout.symbols;
     let markers = p.layout.markers;
@@ -67,7 +67,7 @@ fn put_gathered(
 
 fn put_row(p: Plan, words: &[u8], line: usize, from: usize, to: usize, slots: &mut [u8])
     requires { Lent p words.now slots.old × (line < p.layout.lines) × (from ≤ to) × (to ≤ p.layout.rows) × ((r : ℕ) → r < from → delay p.layout (r % p.layout.rows) + p.layout.words * p.layout.symbols ≤ line * p.layout.symbols) × ((r : ℕ) → to ≤ r → r < p.layout.rows → line * p.layout.symbols + p.layout.symbols ≤ delay p.layout (r % p.layout.rows)) × (1 ≤ per_forty (p.copies * p.group)) }
-    ensures { (end : ℕ) → Holds p (front p (piece word_bytes words.now) (line * unit p.layout + p.layout.markers)) end slots.old → Holds p (front p (piece word_bytes words.now) ((line + 1) * unit p.layout)) end slots.new }
+    ensures { LinePut p (piece word_bytes words.now) line slots.old slots.new }
 {
     let mut row = [0u8; 7560];
     put_gathered(p, words, line, from, to, &mut row, slots);
@@ -117,7 +117,7 @@ fn worth(p: Plan, line: usize) -> bool
 // The slots of a line by a row. It is called in two places, so that the compiler keeps `put_row` apart from lines that are written otherwise.
 fn put_dense(p: Plan, words: &[u8], line: usize, slots: &mut [u8])
     requires { Lent p words.now slots.old × (line < p.layout.lines) × (1 ≤ per_forty (p.copies * p.group)) }
-    ensures { (end : ℕ) → Holds p (front p (piece word_bytes words.now) (line * unit p.layout + p.layout.markers)) end slots.old → Holds p (front p (piece word_bytes words.now) ((line + 1) * unit p.layout)) end slots.new }
+    ensures { LinePut p (piece word_bytes words.now) line slots.old slots.new }
 {
     let rows = p.layout.rows;
     let step = p.layout.step;
@@ -135,7 +135,7 @@ fn put_dense(p: Plan, words: &[u8], line: usize, slots: &mut [u8])
 // The slots of a line's symbols.
 pub fn put_symbols(p: Plan, words: &[u8], line: usize, slots: &mut [u8])
     requires { Lent p words.now slots.old × (line < p.layout.lines) }
-    ensures { (end : ℕ) → Holds p (front p (piece word_bytes words.now) (line * unit p.layout + p.layout.markers)) end slots.old → Holds p (front p (piece word_bytes words.now) ((line + 1) * unit p.layout)) end slots.new }
+    ensures { LinePut p (piece word_bytes words.now) line slots.old slots.new }
 {
     if worth(p, line) {
         put_dense(p, words, line, slots);

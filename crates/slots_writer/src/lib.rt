@@ -20,8 +20,8 @@ fn put_line(p: Plan, words: &[u8], zeros: &[u8], line: usize, slots: &mut [u8])
     let unit = p.layout.symbols + p.layout.markers;
     let copies = p.copies;
     let group = p.group;
-    let from = (line * unit * copies * group + 7) / 8;
-    let to = ((line + 1) * unit * copies * group + 7) / 8;
+    let from = (line * unit * copies * group).div_ceil(8);
+    let to = ((line + 1) * unit * copies * group).div_ceil(8);
     slots_moves::lay_zeros(zeros, slots, from, to);
     slots_lines::put_marks(p, line, slots);
     slots_rows::put_symbols(p, words, line, slots);

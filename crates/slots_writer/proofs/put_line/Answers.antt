@@ -1,8 +1,9 @@
 -- The zeros of the line are laid, its markers and then its symbols are put; the rows before it stay as they are.
-use mathlib.Core.Path.{◌∙◌}
-use Prim.Native.Nat.{ℕ, ◌+◌, ◌*◌, ◌≤◌}
+use mathlib.Core.Path.{◌≡◌, ◌∙◌}
+use Prim.Native.Nat.{ℕ, ◌+◌, ◌*◌, ◌/◌, ◌≤◌}
 use native.Mathlib.Omega.{arith}
 use native.Mathlib.Nat.{le_refl, mul-le-mul}
+use Rattle.std.specs.Int.{div_ceil}
 use Rattle.slots_lines.specs.Inner.{line_end}
 use Rattle.slots_lines.proofs.Laws.Lines.{sizes, line_copies_inside, line_end_inside, line_end_on}
 use Rattle.slots_moves.proofs.Laws.Zeros.{holds_laid}
@@ -11,6 +12,9 @@ use Rattle.sizes.specs.Sizes.{word_bytes}
 use Rattle.channel.specs.Channel.{unit}
 use Rattle.slots_writer.proofs.put_line.Goals as goal
 
+ceil : (x : ℕ) → div_ceil x 8 ≡ (x + 7) / 8
+ceil x = omega arith
+
 pub overflow_add-unit : goal.overflow_add-unit
 overflow_add-unit c =
     let s = c in
@@ -18,64 +22,50 @@ overflow_add-unit c =
     let z = sizes p s.requires.0.fine s.args.line 0 s.requires.2 in
     omega arith
 
-pub overflow_mul-from : goal.overflow_mul-from
-overflow_mul-from c =
+pub overflow_mul-line : goal.overflow_mul-line
+overflow_mul-line c =
     let s = c in
     let p = c.args.p in
     let z = sizes p s.requires.0.fine s.args.line 0 s.requires.2 in
     omega arith
 
-pub overflow_mul-from-2 : goal.overflow_mul-from-2
-overflow_mul-from-2 c =
+pub overflow_mul-line-2 : goal.overflow_mul-line-2
+overflow_mul-line-2 c =
     let s = c in
     let p = c.args.p in
     let z = sizes p s.requires.0.fine s.args.line 0 s.requires.2 in
     omega (arith, line_copies_inside p s.args.line (omega arith))
 
-pub overflow_mul-from-3 : goal.overflow_mul-from-3
-overflow_mul-from-3 c =
+pub overflow_mul-line-3 : goal.overflow_mul-line-3
+overflow_mul-line-3 c =
     let s = c in
     let p = c.args.p in
     let z = sizes p s.requires.0.fine s.args.line 0 s.requires.2 in
     omega (arith, line_end_inside p s.args.line (omega arith))
 
-pub overflow_add-from : goal.overflow_add-from
-overflow_add-from c =
-    let s = c in
-    let p = c.args.p in
-    let z = sizes p s.requires.0.fine s.args.line 0 s.requires.2 in
-    omega (arith, line_end_inside p s.args.line (omega arith))
-
-pub overflow_add-to : goal.overflow_add-to
-overflow_add-to c =
+pub overflow_add-line : goal.overflow_add-line
+overflow_add-line c =
     let s = c in
     let p = c.args.p in
     let z = sizes p s.requires.0.fine s.args.line 0 s.requires.2 in
     omega (arith, mul-le-mul (le_refl s.args.line) z.of_plan.symbols_least)
 
-pub overflow_mul-to : goal.overflow_mul-to
-overflow_mul-to c =
+pub overflow_mul-line-4 : goal.overflow_mul-line-4
+overflow_mul-line-4 c =
     let s = c in
     let p = c.args.p in
     let z = sizes p s.requires.0.fine s.args.line 0 s.requires.2 in
     omega arith
 
-pub overflow_mul-to-2 : goal.overflow_mul-to-2
-overflow_mul-to-2 c =
+pub overflow_mul-line-5 : goal.overflow_mul-line-5
+overflow_mul-line-5 c =
     let s = c in
     let p = c.args.p in
     let z = sizes p s.requires.0.fine s.args.line 0 s.requires.2 in
     omega (arith, line_copies_inside p (s.args.line + 1) (omega arith))
 
-pub overflow_mul-to-3 : goal.overflow_mul-to-3
-overflow_mul-to-3 c =
-    let s = c in
-    let p = c.args.p in
-    let z = sizes p s.requires.0.fine s.args.line 0 s.requires.2 in
-    omega (arith, line_end_inside p (s.args.line + 1) (omega arith))
-
-pub overflow_add-to-2 : goal.overflow_add-to-2
-overflow_add-to-2 c =
+pub overflow_mul-line-6 : goal.overflow_mul-line-6
+overflow_mul-line-6 c =
     let s = c in
     let p = c.args.p in
     let z = sizes p s.requires.0.fine s.args.line 0 s.requires.2 in
@@ -105,5 +95,5 @@ returns c =
     let laid = c.lay_zeros in
     let end : ℕ = line_end p (line + 1) in
     let near : line * unit p.layout * p.copies * p.group ≤ 8 * line_end p line = omega arith in
-    let first = holds_laid p s.requires.0.fine w (line * unit p.layout) (line_end p line) end _ _ _ near s.requires.1 s.requires.3 laid.ensures (λ i. (c.slice_known-2-1.given i).fits) in
+    let first = holds_laid p s.requires.0.fine w (line * unit p.layout) (line_end p line) end _ _ _ near s.requires.1 s.requires.3 (rw (c.div_ceil-from.ensures ∙ ceil (line * unit p.layout * p.copies * p.group), c.div_ceil-to.ensures ∙ ceil ((line + 1) * unit p.layout * p.copies * p.group)) at laid.ensures) (λ i. (c.slice_known-2-1.given i).fits) in
     c.put_symbols.ensures end (c.put_marks.ensures w end first)
