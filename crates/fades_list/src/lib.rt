@@ -17,31 +17,25 @@ fn fits(n: usize, end: usize, first: usize, size: usize) -> bool
     requires { (first < 2 ^ 32) × (size < 2 ^ 32) }
     ensures { result ≡ both (leb 1 size) (both (leb end first) (leb (first + size) n)) }
 {
-    if size == 0 {
-        return false;
-    }
-    if first < end {
-        return false;
-    }
-    first + size <= n
+    size != 0 && end <= first && first + size <= n
 }
 
 // Question 22: whether the fades of a list are in order in a run of n symbols.
 pub fn good(n: usize, fades: &[u32]) -> bool
     ensures { result ≡ list_good n fades.now }
 {
-    let mut end = 0usize;
-    let mut i = 0usize;
-    while fades.len() - i > 1 {
-        let first = wide(fades[i]);
-        let size = wide(fades[i + 1]);
+    let mut end = 0;
+    let mut rest = fades;
+    while let [first, size, after @ ..] = rest {
+        let first = wide(*first);
+        let size = wide(*size);
         if !fits(n, end, first, size) {
             return false;
         }
         end = first + size;
-        i += 2;
+        rest = after;
     }
-    i == fades.len()
+    rest.is_empty()
 }
 
 // Whether symbol s is in a fade, given that those before number i of the list have ended.
@@ -49,10 +43,7 @@ pub fn reached(fades: &[u32], i: usize, s: usize) -> bool
     requires { Left fades.now i s }
     ensures { result ≡ covered fades.now s }
 {
-    if i >= fades.len() {
-        return false;
-    }
-    wide(fades[i]) <= s
+    i < fades.len() && wide(fades[i]) <= s
 }
 
 // The number in the list of the first fade that has not ended before symbol s + 1.

@@ -1,17 +1,18 @@
 -- An area whose bytes are those of another entry, and otherwise as they were, has that entry put there.
 use mathlib.Core.Path.{◌≡◌, refl, sym, ap, ◌∙◌}
 use mathlib.Core.Bool.{Bool, true, false}
-use mathlib.Core.List.{List, ◌∷◌}
+use mathlib.Core.List.{List, ◌∷◌, ◌++◌}
 use mathlib.Core.Logic.{⊎_elim}
-use Prim.Native.Nat.{ℕ, zero, suc, ◌+◌, ◌*◌, ◌/◌, ◌%◌, ◌≤◌, ◌<◌}
+use Prim.Native.Nat.{ℕ, zero, suc, ◌+◌, ◌-◌, ◌*◌, ◌/◌, ◌%◌, ◌≤◌, ◌<◌}
 use native.Mathlib.Omega.{arith}
 use lib.Dec.{eqb}
-use lib.ListN.{length, get_or, set, length-set}
+use lib.ListN.{length, get_or, set, take, drop, length-set}
+use borrow.Rule.Slice.PartMut.{put_mid}
+use Rattle.std.proofs.lemmas.List.{get_or_append_left, get_or-append_right, get_or-take, get_or-drop, length-take-le, length-append, length-drop}
 use lib.Seq.{get_or-set_same, get_or-set_other}
 use borrow.Author.Tests.{eqb-true, eqb-false}
-use Rattle.bits.specs.Inner.{Copied}
 use Rattle.bits.specs.Basics.{pick, tab}
-use Rattle.bits.proofs.Laws.Choice.{lt_or_le, eq_or_ne}
+use Rattle.bits.proofs.Laws.Choice.{lt_or_le}
 use Rattle.bits.proofs.Laws.Table.{get_or_tab, tab_made, tab_same}
 use Rattle.rack.specs.Rack.{entry_number, entry_at, put, status_in, header_in}
 use Rattle.rack_entries.specs.Inner.{Written}
@@ -30,11 +31,13 @@ module _ (area : List ℕ) (o p : ℕ) where
   unfolding entry_at tab
   header_is = tab_same 10 (λ k. get_or area (at + suc k) 0) (λ k. get_or area (at + 1 + k) 0) (λ k l. ap (λ (i : ℕ). get_or area i 0) (omega arith))
 
-  pub header_copied : (before after : List ℕ) → length before ≡ 10 → Copied area (at + 1) before 0 10 after → after ≡ header_in (entry_at area o p)
-  header_copied before after e c =
-      tab_made 10 (λ k. get_or area (at + 1 + k) 0) after (c.long ∙ e) (λ k l.
-      let z : k ≡ 0 + k = omega arith in
-      ap (λ (i : ℕ). get_or after i 0) z ∙ c.here k l)
+  pub header_copied : (after : List ℕ) (n k : ℕ) → n ≡ at + 1 → k ≡ 10 → length after ≡ 10 → after ≡ take k (drop n area) → after ≡ header_in (entry_at area o p)
+  header_copied after n k en ek long e =
+      tab_made 10 (λ k. get_or area (at + 1 + k) 0) after long (λ i l.
+      ap (λ (xs : List ℕ). get_or xs i 0) e
+      ∙ get_or-take k (drop n area) i 0 (omega arith)
+      ∙ get_or-drop n area i 0
+      ∙ ap (λ (m : ℕ). get_or area (m + i) 0) en)
       ∙ sym header_is
 
   -- ---- what is written
@@ -80,21 +83,34 @@ module _ (area : List ℕ) (o p : ℕ) where
           ap (λ (i : ℕ). get_or after i 0) (omega arith) ∙ w.below at (omega arith) ∙ get_or-set_same area at status 0 room
       here (suc k) l m = let z : at + suc k ≡ at + 1 + k = omega arith in ap (λ (i : ℕ). get_or after i 0) z ∙ w.here k (omega arith)
 
--- ---- the loop
+-- ---- a part of the area that is copied to
 
-pub written_none : (before : List ℕ) (at : ℕ) (from : List ℕ) → Written before at from 0 before
-written_none before at from = record { long = refl; here = λ k l. absurd (omega arith); below = λ i l. refl; above = λ i l. refl }
+pub written : (before : List ℕ) (at k : ℕ) (from moved : List ℕ) → moved ≡ from → length from ≡ k → at + k ≤ length before → Written before at from k (put_mid at k before moved)
+written before at k from moved e len room = record {
+  long = length-append front (moved ++ rest) ∙ omega (arith, length-append moved rest, long, size, left);
+  here = λ j l. get_or-append_right front (moved ++ rest) at (at + j) 0 long (omega arith)
+      ∙ ap (λ (i : ℕ). get_or (moved ++ rest) i 0) (let z : at + j - at ≡ j = omega arith in z)
+      ∙ get_or_append_left moved rest 0 j (omega (arith, size))
+      ∙ ap (λ (xs : List ℕ). get_or xs j 0) e;
+  below = λ i l. get_or_append_left front (moved ++ rest) 0 i (omega (arith, long)) ∙ get_or-take at before i 0 l;
+  above = λ i l. get_or-append_right front (moved ++ rest) at i 0 long (omega arith)
+      ∙ get_or-append_right moved rest k (i - at) 0 size (omega arith)
+      ∙ get_or-drop k (drop at before) (i - at - k) 0
+      ∙ get_or-drop at before (k + (i - at - k)) 0
+      ∙ ap (λ (m : ℕ). get_or before m 0) (let z : at + (k + (i - at - k)) ≡ i = omega arith in z);
+}
+  where
+    front : List ℕ
+    front = take at before
 
-pub written_more : (before : List ℕ) (at : ℕ) (from after : List ℕ) (k : ℕ) → at + k < length after → Written before at from k after
-    → Written before at from (k + 1) (set after (at + k) (get_or from k 0))
-written_more before at from after k room w =
-    let v : ℕ = get_or from k 0 in
-    record {
-      long = length-set after (at + k) v ∙ w.long;
-      here = λ j l. ⊎_elim
-          (λ (q : j ≡ k). rw q (get_or-set_same after (at + k) v 0 room))
-          (λ (q : j ≡ k → ⊥). get_or-set_other after (at + k) (at + j) v 0 (λ r. q (omega arith)) ∙ w.here j (omega arith))
-          (eq_or_ne j k);
-      below = λ i l. get_or-set_other after (at + k) i v 0 (λ r. omega arith) ∙ w.below i l;
-      above = λ i l. get_or-set_other after (at + k) i v 0 (λ r. omega arith) ∙ w.above i (omega arith);
-    }
+    rest : List ℕ
+    rest = drop k (drop at before)
+
+    long : length front ≡ at
+    long = length-take-le at before (omega arith)
+
+    size : length moved ≡ k
+    size = ap length e ∙ len
+
+    left : length rest ≡ length before - at - k
+    left = length-drop k (drop at before) ∙ ap (λ (n : ℕ). n - k) (length-drop at before)

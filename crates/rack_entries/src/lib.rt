@@ -3,7 +3,7 @@
 
 ghost use Rattle.std.specs.Prelude.{◌≡◌, ◌∷◌, ◌+◌, ◌*◌, ◌≤◌, ◌<◌, length};
 ghost use Rattle.rack.specs.Rack.{entry_number, entry_at, put, status_in, header_in};
-ghost use Rattle.rack_entries.specs.Inner.{OwnedPlace, Written};
+ghost use Rattle.rack_entries.specs.Inner.{OwnedPlace};
 
 // The byte at which the entry of a place starts.
 fn start(owner: u64, place: u64) -> usize
@@ -19,10 +19,7 @@ pub fn status(area: &[u8], owner: u64, place: u64) -> u8
     ensures { result ≡ status_in (entry_at area.now owner place) }
 {
     let at = start(owner, place);
-    if at < area.len() {
-        return area[at];
-    }
-    0
+    if at < area.len() { area[at] } else { 0 }
 }
 
 // Sets another status, with the header as it was.
@@ -33,16 +30,6 @@ pub fn set_status(area: &mut [u8], owner: u64, place: u64, status: u8)
     area[start(owner, place)] = status;
 }
 
-// The bytes of `from`, written to the area from byte `at` on.
-fn write(area: &mut [u8], at: usize, from: &[u8])
-    requires { at + length from.now ≤ length area.old }
-    ensures { Written area.old at from.now (length from.now) area.new }
-{
-    for k in 0..from.len() {
-        area[at + k] = from[k];
-    }
-}
-
 // Sets another entry.
 pub fn set_entry(area: &mut [u8], owner: u64, place: u64, status: u8, header: &[u8])
     requires { OwnedPlace owner place × (length area.old ≡ 176) × (length header.now ≡ 10) }
@@ -50,7 +37,7 @@ pub fn set_entry(area: &mut [u8], owner: u64, place: u64, status: u8, header: &[
 {
     let at = start(owner, place);
     area[at] = status;
-    write(area, at + 1, header);
+    area[at + 1..at + 11].copy_from_slice(header);
 }
 
 // The header of a place.
@@ -58,5 +45,6 @@ pub fn get_header(area: &[u8], owner: u64, place: u64, header: &mut [u8])
     requires { OwnedPlace owner place × (length area.now ≡ 176) × (length header.old ≡ 10) }
     ensures { header.new ≡ header_in (entry_at area.now owner place) }
 {
-    bits::change::copy_part(area, start(owner, place) + 1, header, 0, 10);
+    let at = start(owner, place) + 1;
+    header.copy_from_slice(&area[at..at + 10]);
 }

@@ -20,18 +20,6 @@ use Rattle.sheet.proofs.Decimals.{decimal_short}
 pub put_same : (a b x y : List ℕ) (at next : ℕ) → x ≡ y → Put a at x b next → Put a at y b next
 put_same a b x y at next e p = rw e at p
 
--- the bytes passed of a piece, and one more
-pub put_more : (before piece after : List ℕ) (at i : ℕ) → i < length piece → at + i < length after
-    → take (at + i) after ≡ take at before ++ take i piece
-    → take (at + (i + 1)) (set after (at + i) (get_or piece i 0)) ≡ take at before ++ take (i + 1) piece
-put_more before piece after at i l m e =
-    let up : at + (i + 1) ≡ suc (at + i) = omega arith in
-    rw (up, add-one i)
-    (take-suc-set after (at + i) (get_or piece i 0) m
-    ∙ ap (λ (x : List ℕ). x ++ (get_or piece i 0 ∷ [])) e
-    ∙ append_assoc (take at before) (take i piece) (get_or piece i 0 ∷ [])
-    ∙ ap (λ (x : List ℕ). take at before ++ x) (sym (take-suc piece i 0 l)))
-
 -- a piece after a piece
 pub put_put : (a b c x y : List ℕ) (at mid next : ℕ) → Put a at x b mid → Put b mid y c next → Put a at (x ++ y) c next
 put_put a b c x y at mid next p q = record {

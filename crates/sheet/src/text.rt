@@ -8,10 +8,9 @@ pub fn put(piece: &[u8], at: usize, out: &mut [u8]) -> usize
     requires { at + length piece.now ≤ length out.old }
     ensures { Put out.old at piece.now out.new result }
 {
-    for i in 0..piece.len() {
-        out[at + i] = piece[i];
-    }
-    at + piece.len()
+    let next = at + piece.len();
+    out[at..next].copy_from_slice(piece);
+    next
 }
 
 // A number in decimal.

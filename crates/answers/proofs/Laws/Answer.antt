@@ -2,7 +2,7 @@
 use mathlib.Core.Path.{◌≡◌, refl, sym, ap, ◌∙◌}
 use mathlib.Core.Bool.{Bool, true, false, false≢true}
 use mathlib.Core.Logic.{◌⊎◌, inl, inr}
-use Prim.Native.Nat.{ℕ, ◌^◌, ◌<◌, ◌≤◌}
+use Prim.Native.Nat.{ℕ, ◌*◌, ◌^◌, ◌<◌, ◌≤◌}
 use native.Mathlib.Omega.{arith}
 use lib.Dec.{eqb}
 use borrow.Author.Tests.{eq-eqb, ne_eqb, eqb-true}
@@ -10,10 +10,10 @@ use mathlib.Core.List.{List}
 use Rattle.bits.specs.Basics.{up_to}
 use Rattle.bits.proofs.Laws.First.{up_to_le, first_here, first_end, all_pass, none_fails}
 use Rattle.answers.specs.Answer.{Answer, Done, No, number_of, place_of, code_of, code_with, ask, then, is_done, first_refused, put_in_order, among}
-use Rattle.answers.specs.Inner.{Fits, number, answer_of}
+use Rattle.answers.specs.Inner.{Fits, FitsGiven, number, answer_of, code_given}
 use Rattle.answers.specs.declared.Fault.{Fault}
 use Rattle.answers.specs.declared.Refusal.{Refusal}
-use Rattle.std.specs.Prelude.{Result, Ok, Err, IsOk, IsErrAnd}
+use Rattle.std.specs.Prelude.{Result, Ok, Err, IsOk, IfOk, IsErrAnd}
 use Rattle.std.proofs.lemmas.Result.{err_from_is_err_and}
 use borrow.Author.Rules.{rules}
 
@@ -107,7 +107,15 @@ pub with_same : (a b : Answer) (s t : ℕ) → a ≡ b → (a ≡ Done → s ≡
 with_same Done b s t e h = ap (code_with Done) (h refl) ∙ ap (λ (x : Answer). code_with x t) e
 with_same (No number place) b s t e h = ap (λ (x : Answer). code_with x t) e
 
+pub given_is : (r : Result ℕ Refusal) (a : Answer) (s : ℕ) → answer_of r ≡ a → IfOk r (λ x. x ≡ s) → code_given r ≡ code_with a s
+given_is (Ok x) a s e h = rw (← e) (ap (λ (n : ℕ). n * 256) h)
+given_is (Err x) a s e h = rw (← e) refl
+
 -- ---- which answers fit
+
+pub fits_given : (r : Result ℕ Refusal) (a : Answer) → answer_of r ≡ a → Fits a → IfOk r (λ x. x < 2 ^ 56) → FitsGiven r
+fits_given (Ok x) a e f h = h
+fits_given (Err x) a e f h = rw (← e) at f.place
 
 pub fits_done : Fits Done
 fits_done = record { number = omega arith; place = omega arith; listed = λ e. omega arith }

@@ -1,20 +1,17 @@
 -- The status, and then the header.
-use mathlib.Core.Path.{◌∙◌}
+use mathlib.Core.Path.{◌≡◌, refl, ◌∙◌}
 use native.Mathlib.Omega.{arith}
-use lib.ListN.{length, length-set}
-use Rattle.rack_entries.proofs.Bytes.{entry_put}
+use Prim.Native.Nat.{ℕ, ◌+◌, ◌-◌}
+use lib.ListN.{length, set, length-set}
+use Rattle.rack_entries.proofs.Bytes.{entry_put, written}
 use Rattle.rack_entries.proofs.set_entry.Goals as goal
 
-pub write-requires : goal.write-requires
-write-requires c = let e = c.start-at.ensures in
-    simp length-set (omega arith)
-
-pub shape_of-area : goal.shape_of-area
-shape_of-area c = c.write.ensures.long ∙ simp length-set
-
 pub returns : goal.returns
-returns c = let s = c in
+returns c =
     let a = c.args in
-    let e = c.start-at.ensures in
-    let w = c.write in
-    entry_put a.area.now a.owner a.place a.status a.header.now w.new.area (length a.header.now) (omega arith) s.requires.2 (rw e at w.ensures)
+    let at = c.start-at in
+    let ten : at.result + 11 - (at.result + 1) ≡ 10 = omega arith in
+    let e = at.ensures in
+    let before = set a.area.now at.result a.status in
+    let room = let l = length-set a.area.now at.result a.status in written before (at.result + 1) 10 a.header.now c.copy_from_slice.new.self c.copy_from_slice.ensures.after c.requires.2 (omega arith) in
+    rw (ten, e) (entry_put a.area.now a.owner a.place a.status a.header.now _ 10 (omega arith) refl (rw e at room))

@@ -10,7 +10,7 @@ pub returns-then-at-area : goal.returns-then-at-area
 returns-then-at-area c = let a = c.args in
     ap (λ (i : ℕ). get_or a.area.now i 0) c.start-at.ensures ∙ sym (status_is a.area.now a.owner a.place)
 
-pub returns : goal.returns
-returns c = let a = c.args in
+pub returns-else-at-area : goal.returns-else-at-area
+returns-else-at-area c = let a = c.args in
     let e = c.start-at.ensures in
     sym (status_is a.area.now a.owner a.place ∙ get_or-eq_default a.area.now 0 (omega arith))
