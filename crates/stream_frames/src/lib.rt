@@ -17,11 +17,7 @@ fn whole_bytes(rate: u64, bit: usize, most: usize) -> usize
     requires { (rate < 3) × (bit < info_bits rate) }
     ensures { (result ≤ most) × (bit + 8 * result ≤ info_bits rate) }
 {
-    let n = (sizes::info_bits(rate) - bit) / 8;
-    if n < most {
-        return n;
-    }
-    most
+    ((sizes::info_bits(rate) - bit) / 8).min(most)
 }
 
 // Copies bytes of the stream from a place on into the frames from byte i on, at most `most`: those that are together in a block, otherwise one. Returns how many.
@@ -62,6 +58,7 @@ fn frame_out(
     let k = sizes::info_bits(rate);
     let start = j * size;
     let mut at = pieces::position_of(j * sizes::span(size) + sizes::MARKER_BITS, k);
+    // A `while`, since each turn copies as many bytes as lie together.
     let mut u = 0;
     while u < size {
         let n = some_bytes(rate, blocks, at, size - u, frames, start + u);
@@ -83,9 +80,7 @@ pub fn frames_out(
     requires frames_len { length frames.old ≡ count * size }
     ensures { frames.new ≡ frames_in size count (Frames·joined rate (piece (block_bytes rate) blocks.now)) }
 {
-    let mut j = 0;
-    while j < count {
+    for j in 0..count {
         frame_out(rate, blocks, pieces, size, count, j, frames);
-        j += 1;
     }
 }

@@ -1,4 +1,4 @@
-use Prim.Native.Nat.{◌-◌, ◌*◌, ◌≤◌}
+use Prim.Native.Nat.{◌*◌}
 use Rattle.bits.specs.Pack.{piece}
 use Rattle.bits.specs.Inner.{Laid}
 use Rattle.sizes.specs.Sizes.{block_bytes}
@@ -7,7 +7,4 @@ use Rattle.stream_frames.proofs.frames_out.Given as goal
 
 abbrev pub invariant-loop-j : goal.invariant-loop-j
 invariant-loop-j l =
-    (l.j ≤ l.count) × Laid l.initial.frames 0 (l.j * l.size) (λ y. joined l.rate (piece (block_bytes l.rate) l.blocks) (frame_place l.size y)) l.frames
-
-abbrev pub decreases-loop-j : goal.decreases-loop-j
-decreases-loop-j l = l.count - l.j
+    Laid l.initial.frames 0 (l.j * l.size) (λ y. joined l.rate (piece (block_bytes l.rate) l.blocks) (frame_place l.size y)) l.frames

@@ -1,26 +1,15 @@
 -- What lies together in a block is laid by the block's bytes, and one byte by itself.
 use Prim.Native.Nat.{◌*◌}
 use native.Mathlib.Omega.{arith}
-use Rattle.stream_joined.proofs.Rooms.{held_part, piece_le, stretch_in}
+use Rattle.stream_joined.proofs.Rooms.{stretch_in}
 use Rattle.stream_joined.proofs.Bytes.{made_one, made_together}
 use Rattle.stream_frames.proofs.some_bytes.Goals as goal
-
-pub joined_byte-requires : goal.joined_byte-requires
-joined_byte-requires c =
-    let s = c in
-    record { inside = s.requires.0.inside; held = held_part s.requires.0.held _ 8 (omega arith) }
 
 pub returns-then-n-eq0 : goal.returns-then-n-eq0
 returns-then-n-eq0 c =
     let s = c in
     let a = c.args in
     made_one a.rate a.blocks.now a.at s.requires.0.held.lie.rate3 a.most a.frames.now a.i c.joined_byte.result s.requires.1 (omega arith) c.joined_byte.ensures
-
-pub packed_bit-requires : goal.packed_bit-requires
-packed_bit-requires c =
-    let s = c in
-    let a = c.args in
-    (s.requires.0.held.lie.rate3, piece_le a.rate (8 * a.most) a.blocks.now a.at s.requires.0 (omega arith), s.requires.0.inside)
 
 pub bytes_from-requires : goal.bytes_from-requires
 bytes_from-requires c =
