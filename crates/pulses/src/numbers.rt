@@ -20,7 +20,7 @@ pub fn lone(v: u64) -> usize
 }
 
 // 1 if v is 0, and otherwise 0.
-fn none(v: u64) -> usize
+pub fn none(v: u64) -> usize
     ensures { result ≡ bool (eqb v 0) }
 {
     if v == 0 { 1 } else { 0 }
