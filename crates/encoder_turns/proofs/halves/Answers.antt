@@ -1,5 +1,5 @@
 -- Each turn fills 16 places more, and after 945 turns all are filled.
-use mathlib.Core.Path.{refl, sym, ◌∙◌}
+use mathlib.Core.Path.{refl, ◌∙◌}
 use native.Mathlib.Omega.{arith}
 use Rattle.bits.specs.Pack.{bit_at}
 use Rattle.bits.proofs.Laws.Pack.{bit_lt}
@@ -12,12 +12,6 @@ loop-i-init c = (coding_none 1 8 16 _ _ c.requires.codes.coded_size)
 pub pushed-w-requires : goal.pushed-w-requires
 pushed-w-requires c = omega (arith, coding_small 1 8 16 _ (bit_lt _) _ _ _ c.loop-i.invariant)
 
-pub half_turn-requires : goal.half_turn-requires
-half_turn-requires c = record {
-  halves = c.requires.halves;
-  at_in_bounds = omega (arith, c.loop-i.invariant.filled.size);
-}
-
 pub loop-i-preserved : goal.loop-i-preserved
 loop-i-preserved c =
     let l = c.loop-i in
@@ -26,9 +20,6 @@ loop-i-preserved c =
     let p = c.pushed-w in
     let all = p.ensures ∙ push_byte xs (λ k. omega (arith, c.type_inv.input k)) 8 l.i 0 _ l.i l.invariant.carried (omega arith) in
     (coding_on 1 8 16 half_turns (bit_at xs) (bit_lt xs) _ _ _ l.i _ _ l.invariant all (last_two _ _ _ p.ensures) c.half_turn.ensures)
-
-pub shape_of-coded : goal.shape_of-coded
-shape_of-coded c = c.loop-i.invariant.filled.size ∙ sym c.requires.codes.coded_size
 
 pub returns : goal.returns
 returns c = coding_done 1 8 16 945 _ _ _ c.loop-i.i refl (omega arith) c.loop-i.invariant

@@ -1,5 +1,5 @@
 -- Each turn fills 24 places more, and after 630 turns all are filled.
-use mathlib.Core.Path.{refl, sym, ◌∙◌}
+use mathlib.Core.Path.{refl, ◌∙◌}
 use native.Mathlib.Omega.{arith}
 use Rattle.bits.specs.Pack.{bit_at}
 use Rattle.bits.proofs.Laws.Pack.{bit_lt}
@@ -12,12 +12,6 @@ loop-i-init c = (coding_none 0 8 24 _ _ c.requires.codes.coded_size)
 pub pushed-w-requires : goal.pushed-w-requires
 pushed-w-requires c = omega (arith, coding_small 0 8 24 _ (bit_lt _) _ _ _ c.loop-i.invariant)
 
-pub third_turn-requires : goal.third_turn-requires
-third_turn-requires c = record {
-  thirds = c.requires.thirds;
-  at_in_bounds = omega (arith, c.loop-i.invariant.filled.size);
-}
-
 pub loop-i-preserved : goal.loop-i-preserved
 loop-i-preserved c =
     let l = c.loop-i in
@@ -26,9 +20,6 @@ loop-i-preserved c =
     let p = c.pushed-w in
     let all = p.ensures ∙ push_byte xs (λ k. omega (arith, c.type_inv.input k)) 8 l.i 0 _ l.i l.invariant.carried (omega arith) in
     (coding_on 0 8 24 third_turns (bit_at xs) (bit_lt xs) _ _ _ l.i _ _ l.invariant all (last_two _ _ _ p.ensures) c.third_turn.ensures)
-
-pub shape_of-coded : goal.shape_of-coded
-shape_of-coded c = c.loop-i.invariant.filled.size ∙ sym c.requires.codes.coded_size
 
 pub returns : goal.returns
 returns c = coding_done 0 8 24 630 _ _ _ c.loop-i.i refl (omega arith) c.loop-i.invariant

@@ -1,5 +1,5 @@
 -- Each turn fills 24 places more, and after 630 turns all are filled.
-use mathlib.Core.Path.{refl, sym, ◌∙◌}
+use mathlib.Core.Path.{refl, ◌∙◌}
 use Prim.Native.Nat.{◌+◌, ◌*◌}
 use native.Mathlib.Omega.{arith}
 use Rattle.bits.specs.Pack.{Bytes, bit_at}
@@ -10,25 +10,13 @@ use Rattle.encoder_turns.proofs.two_thirds.Goals as goal
 pub loop-i-init : goal.loop-i-init
 loop-i-init c = (coding_none 2 16 24 _ _ c.requires.codes.coded_size)
 
-pub bounds-input-i : goal.bounds-input-i
-bounds-input-i c = omega (arith, c.requires.codes.input_size)
-
 pub pushed-one-requires : goal.pushed-one-requires
 pushed-one-requires c = omega (arith, coding_small 2 16 24 _ (bit_lt _) _ _ _ c.loop-i.invariant)
-
-pub bounds-input-i-in-loop-i : goal.bounds-input-i-in-loop-i
-bounds-input-i-in-loop-i c = omega (arith, c.requires.codes.input_size)
 
 pub pushed-w-requires : goal.pushed-w-requires
 pushed-w-requires c =
     let l = c.loop-i in
     omega (arith, c.pushed-one.ensures, c.type_inv.input (2 * l.i), coding_small 2 16 24 _ (bit_lt _) _ _ _ l.invariant)
-
-pub two_thirds_turn-requires : goal.two_thirds_turn-requires
-two_thirds_turn-requires c = record {
-  two_thirds = c.requires.two_thirds;
-  at_in_bounds = omega (arith, c.loop-i.invariant.filled.size);
-}
 
 pub loop-i-preserved : goal.loop-i-preserved
 loop-i-preserved c =
@@ -39,9 +27,6 @@ loop-i-preserved c =
     let one = c.pushed-one.ensures ∙ push_byte xs bytes 16 l.i 0 _ (2 * l.i) l.invariant.carried (omega arith) in
     let all = c.pushed-w.ensures ∙ push_byte xs bytes 16 l.i 8 _ (2 * l.i + 1) one (omega arith) in
     (coding_on 2 16 24 two_thirds_turns (bit_at xs) (bit_lt xs) _ _ _ l.i _ _ l.invariant all (last_two _ _ _ c.pushed-w.ensures) c.two_thirds_turn.ensures)
-
-pub shape_of-coded : goal.shape_of-coded
-shape_of-coded c = c.loop-i.invariant.filled.size ∙ sym c.requires.codes.coded_size
 
 pub returns : goal.returns
 returns c = coding_done 2 16 24 630 _ _ _ c.loop-i.i refl (omega arith) c.loop-i.invariant

@@ -3,7 +3,7 @@ use mathlib.Core.Path.{◌≡◌, refl}
 use mathlib.Core.List.{List}
 use Prim.Native.Nat.{ℕ, ◌+◌, ◌/◌, ◌^◌, ◌<◌}
 use native.Mathlib.Omega.{arith}
-use lib.Bits.{bit_and, and_mask, mask_lt}
+use lib.Bits.{bit_and, and_mask}
 use lib.ListN.{get_or}
 use Rattle.sizes.specs.Sizes.{inputs_per, coded_per}
 use Rattle.convolution.specs.Code.{input_place}
@@ -26,30 +26,6 @@ last : (w : ℕ) (table : List ℕ) → TwoThirds table → (t : ℕ) → t < 8 
 unfolding input_place inputs_per coded_per
 last w table h t l =
     group 2 16 10 8 384 0 18 w _ table h.last (omega (arith, and_mask w 8)) refl (λ t l. omega arith) t (16 + t) l refl
-
-pub offset_bounds-table-w : goal.offset_bounds-table-w
-offset_bounds-table-w c = omega (arith, mask_lt (c.args.w / 2 ^ 11) 7)
-
-pub bounds-table-w : goal.bounds-table-w
-bounds-table-w c = omega (arith, mask_lt (c.args.w / 2 ^ 11) 7, c.requires.two_thirds.long)
-
-pub overflow_add-w : goal.overflow_add-w
-overflow_add-w c = omega (arith, mask_lt (c.args.w / 2 ^ 5) 8)
-
-pub offset_bounds-table-w-2 : goal.offset_bounds-table-w-2
-offset_bounds-table-w-2 c = omega (arith, mask_lt (c.args.w / 2 ^ 5) 8)
-
-pub bounds-table-w-2 : goal.bounds-table-w-2
-bounds-table-w-2 c = omega (arith, mask_lt (c.args.w / 2 ^ 5) 8, c.requires.two_thirds.long)
-
-pub overflow_add-w-2 : goal.overflow_add-w-2
-overflow_add-w-2 c = omega (arith, mask_lt c.args.w 8)
-
-pub offset_bounds-table-w-3 : goal.offset_bounds-table-w-3
-offset_bounds-table-w-3 c = omega (arith, mask_lt c.args.w 8)
-
-pub bounds-table-w-3 : goal.bounds-table-w-3
-bounds-table-w-3 c = omega (arith, mask_lt c.args.w 8, c.requires.two_thirds.long)
 
 pub returns : goal.returns
 returns c =

@@ -28,18 +28,8 @@ inside m divides row from n at words' h words k l long =
     let p = place m divides at k 0 in
     omega arith
 
-pub loop-k-init : goal.loop-k-init
-loop-k-init g c =
-    let none : 8 / g.row.M * 0 ≡ 0 = omega arith in
-    rw none (scattered_none c.args.row.now c.args.from 1 g.row.M (8 / g.row.M * c.args.at) c.args.words.now)
-
 pub bounds-words-at : goal.bounds-words-at
 bounds-words-at g c = inside g.row.M c.requires.1 c.args.row.now c.args.from c.args.n c.args.at c.args.words.now c.requires.0 c.loop-k.words c.loop-k.k (omega arith) c.loop-k.auto.words
-
-pub loop-q-init : goal.loop-q-init
-loop-q-init g c =
-    let none : 8 / g.row.M * c.loop-k.k + 0 ≡ 8 / g.row.M * c.loop-k.k = omega arith in
-    rw (none, set-get_or c.loop-k.words (c.args.at + c.loop-k.k) 0) c.loop-k.invariant
 
 pub loop-q-preserved : goal.loop-q-preserved
 loop-q-preserved g c =
@@ -59,11 +49,6 @@ loop-q-preserved g c =
 
 pub bounds-words-at-in-loop-k : goal.bounds-words-at-in-loop-k
 bounds-words-at-in-loop-k g c = inside g.row.M c.requires.1 c.args.row.now c.args.from c.args.n c.args.at c.args.words.now c.requires.0 c.loop-k.words c.loop-k.k (omega arith) c.loop-k.auto.words
-
-pub loop-k-preserved : goal.loop-k-preserved
-loop-k-preserved g c =
-    let all : 8 / g.row.M * c.loop-k.k + c.loop-q.q ≡ 8 / g.row.M * (c.loop-k.k + 1) = omega arith in
-    rw all at c.loop-q.invariant
 
 pub returns : goal.returns
 returns g c =

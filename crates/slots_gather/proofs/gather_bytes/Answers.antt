@@ -1,5 +1,5 @@
 -- Four bytes more at each turn, and then the others.
-use mathlib.Core.Path.{◌≡◌, ap, ◌∙◌}
+use mathlib.Core.Path.{◌≡◌, ap}
 use mathlib.Core.List.{List}
 use Prim.Native.Nat.{ℕ, ◌+◌, ◌-◌, ◌*◌, ◌/◌, ◌%◌, ◌^◌, ◌≤◌}
 use native.Mathlib.Omega.{arith}
@@ -7,7 +7,7 @@ use native.Mathlib.Nat.{add-mul}
 use lib.Bits.{bit_and}
 use lib.ListN.{get_or}
 use Rattle.slots_gather.specs.Inner.{cut_from, Column}
-use Rattle.slots_gather.proofs.Laws.Columns.{column_none, column_on, strides_same}
+use Rattle.slots_gather.proofs.Laws.Columns.{column_on}
 use Rattle.slots_gather.proofs.gather_bytes.Goals as goal
 
 -- the bytes of a part are those that follow
@@ -21,23 +21,11 @@ on at step shift mask words from n before row after d k least done more =
     let e : at + d * step + j * step ≡ at + (d + j) * step = omega (arith, add-mul d j step) in
     ap (λ (x : ℕ). bit_and (get_or words x 0 / 2 ^ shift) mask) e)
 
-pub loop-k-init : goal.loop-k-init
-loop-k-init c = column_none _ _ _ _
-
-pub gather_part-requires : goal.gather_part-requires
-gather_part-requires c = (strides_same _ _ _ _ _ _ _ _ _ _ c.requires c.loop-k.invariant.long, omega arith)
-
 pub loop-k-preserved : goal.loop-k-preserved
 loop-k-preserved c =
     let k : ℕ = c.loop-k.k in
     let next : 4 * (k + 1) ≡ 4 * k + 4 = omega arith in
     rw next (on _ _ _ _ _ _ _ _ _ _ (4 * k) 4 c.requires.n_least c.loop-k.invariant c.gather_part.ensures)
-
-pub gather_part-requires-2 : goal.gather_part-requires-2
-gather_part-requires-2 c = (strides_same _ _ _ _ _ _ _ _ _ _ c.requires c.loop-k.invariant.long, omega arith)
-
-pub shape_of-row : goal.shape_of-row
-shape_of-row c = c.gather_part-2.ensures.long ∙ c.loop-k.invariant.long
 
 pub returns : goal.returns
 returns c =

@@ -9,7 +9,7 @@ use lib.Pow.{pow_mono}
 use Rattle.bits.specs.Pack.{bit_at}
 use Rattle.bits.proofs.Laws.Pack.{val_lt, bit_lt}
 use Rattle.slots_gather.specs.Inner.{symbol_in, Gather}
-use Rattle.slots_gather.proofs.Laws.Columns.{column_none, column_one, column_on}
+use Rattle.slots_gather.proofs.Laws.Columns.{column_one, column_on}
 use Rattle.slots_gather.proofs.gather_fields.Goals as goal
 
 -- the sizes that the needs rest on
@@ -33,39 +33,10 @@ known m t n count words from row j h l =
     let step : j * n ≤ j * 128 = mul-le-mul (le_refl j) h.step_most in
     record { bits = omega arith; inside = h.inside j l; room = h.room j l; near = omega arith; index = omega arith; small = omega arith }
 
-pub loop-j-init : goal.loop-j-init
-loop-j-init c = column_none _ _ _ _
-
-pub overflow_mul-y : goal.overflow_mul-y
-overflow_mul-y c = let k = (known _ _ _ _ _ _ _ c.loop-j.j c.requires (omega arith)).index in omega arith
-
-pub overflow_add-y : goal.overflow_add-y
-overflow_add-y c = let k = (known _ _ _ _ _ _ _ c.loop-j.j c.requires (omega arith)).index in omega arith
-
-pub overflow_mul-y-in-loop-j : goal.overflow_mul-y-in-loop-j
-overflow_mul-y-in-loop-j c = let k = (known _ _ _ _ _ _ _ c.loop-j.j c.requires (omega arith)).bits in omega arith
-
-pub overflow_mul-row : goal.overflow_mul-row
-overflow_mul-row c = let k = (known _ _ _ _ _ _ _ c.loop-j.j c.requires (omega arith)).near in omega arith
-
-pub overflow_add-row : goal.overflow_add-row
-overflow_add-row c = let k = (known _ _ _ _ _ _ _ c.loop-j.j c.requires (omega arith)).near in omega arith
-
-pub field-requires : goal.field-requires
-field-requires c =
-    let k = known _ _ _ _ _ _ _ c.loop-j.j c.requires (omega arith) in
-    (k.inside, k.bits, c.requires.bits_least, c.requires.bits_most)
-
 pub overflow_cast-row : goal.overflow_cast-row
 overflow_cast-row c =
     let k = (known _ _ _ _ _ _ _ c.loop-j.j c.requires (omega arith)).small in
     omega (arith, c.field.ensures)
-
-pub bounds-row-to : goal.bounds-row-to
-bounds-row-to c =
-    let k = (known _ _ _ _ _ _ _ c.loop-j.j c.requires (omega arith)).room in
-    let e = c.loop-j.invariant.long in
-    omega arith
 
 pub loop-j-preserved : goal.loop-j-preserved
 loop-j-preserved c =
@@ -77,11 +48,3 @@ loop-j-preserved c =
     column_on a.row.now l.row _ a.to.from a.to.n l.j 1 f (λ i. f (l.j + i)) c.requires.step_least l.invariant
     (column_one l.row (a.to.from + l.j * a.to.n) a.to.n _ (λ i. f (l.j + i)) (omega arith) (c.field.ensures ∙ ap f (let z : l.j ≡ l.j + 0 = omega arith in z)))
     (λ i h. refl)
-
-pub shape_of-row : goal.shape_of-row
-shape_of-row c = c.loop-j.invariant.long
-
-pub returns : goal.returns
-returns c =
-    let e : c.loop-j.j ≡ c.args.to.count = omega arith in
-    rw e at c.loop-j.invariant

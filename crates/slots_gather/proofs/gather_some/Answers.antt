@@ -7,7 +7,7 @@ use native.Mathlib.Nat.{le_refl, mul-le-mul}
 use lib.Bits.{bit_and, and_le_r}
 use lib.ListN.{length, get_or}
 use Rattle.slots_gather.specs.Inner.{cut_from, Strides}
-use Rattle.slots_gather.proofs.Laws.Columns.{column_none, column_one, column_on}
+use Rattle.slots_gather.proofs.Laws.Columns.{column_one, column_on}
 use Rattle.slots_gather.proofs.gather_some.Goals as goal
 
 -- the sizes that the needs rest on
@@ -31,39 +31,6 @@ known at step shift mask words from n count row j h l =
     let v = and_le_r (get_or words (at + j * step) 0 / 2 ^ shift) mask in
     record { step = omega arith; far = omega arith; inside = h.inside j l; room = h.room j l; shift = h.shift_most; small = omega arith }
 
-pub loop-j-init : goal.loop-j-init
-loop-j-init c = column_none _ _ _ _
-
-pub overflow_mul-row : goal.overflow_mul-row
-overflow_mul-row c = let k = (known _ _ _ _ _ _ _ _ _ c.loop-j.j c.requires (omega arith)).step in omega arith
-
-pub overflow_add-row : goal.overflow_add-row
-overflow_add-row c = let k = known _ _ _ _ _ _ _ _ _ c.loop-j.j c.requires (omega arith) in let a = k.step in omega arith
-
-pub bounds-words-cut : goal.bounds-words-cut
-bounds-words-cut c = (known _ _ _ _ _ _ _ _ _ c.loop-j.j c.requires (omega arith)).inside
-
-pub overflow_cast-row : goal.overflow_cast-row
-overflow_cast-row c = omega (arith, c.type_inv.words (c.args.cut.at + c.loop-j.j * c.args.cut.step))
-
-pub overflow_shr-row : goal.overflow_shr-row
-overflow_shr-row c = let k = (known _ _ _ _ _ _ _ _ _ c.loop-j.j c.requires (omega arith)).shift in omega arith
-
-pub overflow_cast-row-in-loop-j : goal.overflow_cast-row-in-loop-j
-overflow_cast-row-in-loop-j c = let k = (known _ _ _ _ _ _ _ _ _ c.loop-j.j c.requires (omega arith)).small in omega arith
-
-pub overflow_mul-row-in-loop-j : goal.overflow_mul-row-in-loop-j
-overflow_mul-row-in-loop-j c = let k = (known _ _ _ _ _ _ _ _ _ c.loop-j.j c.requires (omega arith)).far in omega arith
-
-pub overflow_add-row-in-loop-j : goal.overflow_add-row-in-loop-j
-overflow_add-row-in-loop-j c = let k = known _ _ _ _ _ _ _ _ _ c.loop-j.j c.requires (omega arith) in let a = k.far in omega arith
-
-pub bounds-row-to : goal.bounds-row-to
-bounds-row-to c =
-    let k = (known _ _ _ _ _ _ _ _ _ c.loop-j.j c.requires (omega arith)).room in
-    let e = c.loop-j.invariant.long in
-    omega arith
-
 pub loop-j-preserved : goal.loop-j-preserved
 loop-j-preserved c =
     let s = c in
@@ -75,11 +42,3 @@ loop-j-preserved c =
     column_on a.row.now l.row _ a.to.from a.to.n l.j 1 f (λ i. f (l.j + i)) s.requires.n_least l.invariant
     (column_one l.row (a.to.from + l.j * a.to.n) a.to.n _ (λ i. f (l.j + i)) (omega arith) (ap f (let z : l.j ≡ l.j + 0 = omega arith in z)))
     (λ i h. refl)
-
-pub shape_of-row : goal.shape_of-row
-shape_of-row c = c.loop-j.invariant.long
-
-pub returns : goal.returns
-returns c =
-    let e : c.loop-j.j ≡ c.args.to.count = omega arith in
-    rw e at c.loop-j.invariant

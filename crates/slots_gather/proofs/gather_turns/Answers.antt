@@ -4,7 +4,7 @@ use Prim.Native.Nat.{ℕ, ◌+◌, ◌-◌, ◌*◌, ◌/◌, ◌%◌, ◌^◌, 
 use native.Mathlib.Omega.{arith}
 use mathlib.Core.List.{List}
 use Rattle.slots_gather.specs.Inner.{symbol_in, Gather}
-use Rattle.slots_gather.proofs.Laws.Turns.{Whole, bytewise, whole, Turn, turn_sizes, turn_strides, turned_value, turned_none, turned_on, turned_all}
+use Rattle.slots_gather.proofs.Laws.Turns.{Whole, bytewise, whole, Turn, turn_sizes, turn_strides, turned_value, turned_on}
 use Rattle.slots_gather.proofs.gather_turns.Goals as goal
 
 sizes : (m : ℕ) → 8 % m ≡ 0 → Whole m (8 / m) (1 * 2 ^ m % 2 ^ 64 - 1)
@@ -12,9 +12,6 @@ sizes m h = whole m (8 / m) (1 * 2 ^ m % 2 ^ 64 - 1) (bytewise m h)
 
 turn_of : (words : List ℕ) (t m : ℕ) (row : List ℕ) (from n count : ℕ) → (Gather m t n count words from row × (8 % m ≡ 0)) → (u : ℕ) → u < 8 / m → Turn m t n u
 turn_of words t m row from n count asked u l = turn_sizes m (8 / m) (1 * 2 ^ m % 2 ^ 64 - 1) (bytewise m asked.1) t n u asked.0.t_most asked.0.step_most l
-
-pub loop-u-init : goal.loop-u-init
-loop-u-init g c = turned_none _ _ _ _ _ _
 
 pub overflow_sub-y : goal.overflow_sub-y
 overflow_sub-y g c = let k = (turn_of _ _ g.row.M _ _ _ _ c.requires c.loop-u.u (omega arith)).stay in omega arith
@@ -36,11 +33,3 @@ loop-u-preserved g c =
     turned_on a.row.now l.row _ a.to.from a.to.n a.to.count (8 / m) l.u few.result (λ j. symbol_in m a.words.now (a.t + j * a.to.n)) _ c.requires.0.step_least (omega arith)
     few.ensures l.invariant c.gather_bytes.ensures
     (λ i h. turned_value m (8 / m) (1 * 2 ^ m % 2 ^ 64 - 1) (bytewise m c.requires.1) k.bits_least k.turn_least a.words.now a.t a.to.n l.u i)
-
-pub shape_of-row : goal.shape_of-row
-shape_of-row g c = c.loop-u.invariant.long
-
-pub returns : goal.returns
-returns g c =
-    let e : c.loop-u.u ≡ 8 / g.row.M = omega arith in
-    turned_all _ _ _ _ _ (8 / g.row.M) _ (sizes _ c.requires.1).turn_least (rw e at c.loop-u.invariant)

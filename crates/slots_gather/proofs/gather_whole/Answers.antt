@@ -6,7 +6,7 @@ use native.Mathlib.Omega.{arith}
 use native.Mathlib.Nat.{mul-add, mul_comm, mul_assoc, div-add-mod'}
 use lib.ListN.{length}
 use Rattle.slots_gather.specs.Inner.{Gather}
-use Rattle.slots_gather.proofs.Laws.Turns.{bytewise, whole, unpacked_column}
+use Rattle.slots_gather.proofs.Laws.Turns.{bytewise, unpacked_column}
 use Rattle.slots_gather.proofs.gather_whole.Goals as goal
 
 whole_bytes : (n turn : ℕ) → n % turn ≡ 0 → n / turn * turn ≡ n
@@ -31,9 +31,6 @@ sizes m turn t n count from words row w h one some te ce =
     ap (λ (x : ℕ). m * x) (let z : t + count ≡ turn * (b + c) = omega (arith, mul_comm turn b, mul_comm turn c, mul-add turn b c) in z)
     ∙ sym (mul_assoc m turn (b + c)) ∙ ap (λ (x : ℕ). x * (b + c)) (mul_comm m turn ∙ w) in
     (omega arith, omega (arith, mul_comm turn c))
-
-pub packed-requires : goal.packed-requires
-packed-requires g c = (whole _ _ _ (bytewise g.row.M c.requires.1)).turn_least
 
 pub unpack-requires : goal.unpack-requires
 unpack-requires g c =

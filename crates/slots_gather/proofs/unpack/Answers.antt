@@ -1,37 +1,11 @@
 -- The symbols of one byte more at each turn.
 use mathlib.Core.Path.{◌≡◌, sym, ap}
-use Prim.Native.Nat.{ℕ, ◌+◌, ◌*◌, ◌/◌, ◌≤◌, ◌<◌}
+use Prim.Native.Nat.{ℕ, ◌+◌, ◌*◌, ◌/◌}
 use native.Mathlib.Omega.{arith}
-use native.Mathlib.Nat.{le_refl, mul-le-mul, mul_comm, add-mul}
+use native.Mathlib.Nat.{mul_comm, add-mul}
 use Rattle.slots_gather.specs.Inner.{symbol_in}
-use Rattle.slots_gather.proofs.Laws.Columns.{column_none, column_at_lem, column_on}
+use Rattle.slots_gather.proofs.Laws.Columns.{column_at_lem, column_on}
 use Rattle.slots_gather.proofs.unpack.Goals as goal
-
--- the symbols of the bytes before byte i, and its own, are in the row
-within : (turn n : ℕ) → (i : ℕ) → i < n → turn * i + turn ≤ turn * n
-within turn n i l =
-    let next : i + 1 ≤ n = omega arith in
-    let m : turn * (i + 1) ≤ turn * n = mul-le-mul (le_refl turn) next in
-    omega arith
-
-pub loop-i-init : goal.loop-i-init
-loop-i-init g c =
-    let none : 0 ≡ 8 / g.row.M * 0 = omega arith in
-    rw (sym none) (column_none _ _ _ _)
-
-pub overflow_add-at : goal.overflow_add-at
-overflow_add-at g c =
-    let h = c.requires.2 in
-    let k = within (8 / g.row.M) c.args.n c.loop-i.i (omega arith) in
-    omega arith
-
-pub unpack_byte-requires : goal.unpack_byte-requires
-unpack_byte-requires g c =
-    let h = c.requires.2 in
-    let w = c.requires.1 in
-    let e = c.loop-i.invariant.long in
-    let k = within (8 / g.row.M) c.args.n c.loop-i.i (omega arith) in
-    (c.requires.0, omega arith, omega arith)
 
 pub loop-i-preserved : goal.loop-i-preserved
 loop-i-preserved g c =
@@ -45,9 +19,6 @@ loop-i-preserved g c =
     let next = column_at_lem l.row _ (a.at + turn * l.i) (a.at + turn * l.i * 1) 1 turn q (omega arith) c.unpack_byte.ensures in
     rw (sym on) (column_on a.row.now l.row _ a.at 1 (turn * l.i) turn f q (omega arith) l.invariant next
     (λ j h. ap (symbol_in m a.words.now) (let z : (a.b + l.i) * turn + j ≡ a.b * turn + (turn * l.i + j) = omega (arith, add-mul a.b l.i turn, mul_comm l.i turn) in z)))
-
-pub shape_of-row : goal.shape_of-row
-shape_of-row g c = c.loop-i.invariant.long
 
 pub returns : goal.returns
 returns g c =

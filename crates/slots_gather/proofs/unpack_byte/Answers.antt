@@ -2,48 +2,18 @@
 use mathlib.Core.Path.{◌≡◌, refl, ap, ◌∙◌}
 use Prim.Native.Nat.{ℕ, ◌+◌, ◌-◌, ◌*◌, ◌/◌, ◌%◌, ◌^◌, ◌≤◌, ◌<◌}
 use native.Mathlib.Omega.{arith}
-use lib.Bits.{bit_and, and_le_r}
+use lib.Bits.{bit_and}
 use mathlib.Core.List.{List}
 use lib.ListN.{get_or}
 use Rattle.slots_gather.specs.Inner.{symbol_in}
-use Rattle.slots_gather.proofs.Laws.Columns.{column_none, column_one, column_at_lem, column_on}
-use Rattle.slots_gather.proofs.Laws.Turns.{Whole, bytewise, whole, unpacked_value}
+use Rattle.slots_gather.proofs.Laws.Columns.{column_one, column_at_lem, column_on}
+use Rattle.slots_gather.proofs.Laws.Turns.{bytewise, unpacked_value}
 use Rattle.slots_gather.proofs.unpack_byte.Goals as goal
-
-sizes : (m : ℕ) → 8 % m ≡ 0 → Whole m (8 / m) (1 * 2 ^ m % 2 ^ 64 - 1)
-sizes m h = whole m (8 / m) (1 * 2 ^ m % 2 ^ 64 - 1) (bytewise m h)
 
 -- symbol q of the byte
 value : (m : ℕ) → 8 % m ≡ 0 → (words : List ℕ) (b q : ℕ) → q < 8 / m
     → (m * q + m ≤ 8) × (bit_and (get_or words b 0 / 2 ^ (8 - m - m * q)) (1 * 2 ^ m % 2 ^ 64 - 1) ≡ symbol_in m words (b * (8 / m) + q))
 value m h words b q l = unpacked_value m (8 / m) (1 * 2 ^ m % 2 ^ 64 - 1) (bytewise m h) words b q l
-
-pub overflow_cast-w : goal.overflow_cast-w
-overflow_cast-w g c = omega (arith, c.type_inv.words c.args.b)
-
-pub loop-q-init : goal.loop-q-init
-loop-q-init g c = column_none _ _ _ _
-
-pub overflow_sub-row : goal.overflow_sub-row
-overflow_sub-row g c = (sizes _ c.requires.0).bits_most
-
-pub overflow_mul-row : goal.overflow_mul-row
-overflow_mul-row g c = let k = (value g.row.M c.requires.0 c.args.words.now c.args.b c.loop-q.q (omega arith)).0 in omega arith
-
-pub overflow_sub-row-in-loop-q : goal.overflow_sub-row-in-loop-q
-overflow_sub-row-in-loop-q g c = let k = (value g.row.M c.requires.0 c.args.words.now c.args.b c.loop-q.q (omega arith)).0 in omega arith
-
-pub overflow_shr-row : goal.overflow_shr-row
-overflow_shr-row g c = let k = (value g.row.M c.requires.0 c.args.words.now c.args.b c.loop-q.q (omega arith)).0 in omega arith
-
-pub overflow_cast-row : goal.overflow_cast-row
-overflow_cast-row g c =
-    let k = (sizes _ c.requires.0).mask_most in
-    let v = and_le_r (get_or c.args.words.now c.args.b 0 / 2 ^ (8 - g.row.M - g.row.M * c.loop-q.q)) (1 * 2 ^ g.row.M % 2 ^ 64 - 1) in
-    omega arith
-
-pub bounds-row-at : goal.bounds-row-at
-bounds-row-at g c = let h = c.requires.2 in let e = c.loop-q.invariant.long in omega arith
 
 pub loop-q-preserved : goal.loop-q-preserved
 loop-q-preserved g c =
@@ -55,9 +25,6 @@ loop-q-preserved g c =
     let one = column_at_lem l.row _ (a.at + l.q) (a.at + l.q * 1) 1 1 (λ i. f (l.q + i)) (omega arith) (column_one l.row (a.at + l.q) 1 _ (λ i. f (l.q + i)) (omega arith)
     ((value g.row.M c.requires.0 a.words.now a.b l.q (omega arith)).1 ∙ ap f (let z : l.q ≡ l.q + 0 = omega arith in z))) in
     column_on a.row.now l.row _ a.at 1 l.q 1 f (λ i. f (l.q + i)) (omega arith) l.invariant one (λ i h. refl)
-
-pub shape_of-row : goal.shape_of-row
-shape_of-row g c = c.loop-q.invariant.long
 
 pub returns : goal.returns
 returns g c =

@@ -3,9 +3,5 @@ use native.Mathlib.Omega.{arith}
 use Rattle.slots_moves.proofs.Laws.Zeros.{forty_repeats, zeros_filled}
 use Rattle.slots_moves.proofs.fill_zeros.Goals as goal
 
-pub lay_zeros-requires : goal.lay_zeros-requires
-lay_zeros-requires c =
-    (forty_repeats _ c.zeros-forty.ensures.long, omega arith, omega arith)
-
 pub returns : goal.returns
 returns c = zeros_filled c.args.group _ _ _ c.zeros-forty.ensures (omega arith) c.lay_zeros.ensures

@@ -5,9 +5,6 @@ use native.Mathlib.Nat.{mul-le-mul, le_refl}
 use Rattle.slots_residues.proofs.Laws.Bytes.{whole_within, shift, byte_small, put_one}
 use Rattle.slots_residues.proofs.put_in_byte.Goals as goal
 
-pub overflow_mul-y : goal.overflow_mul-y
-overflow_mul-y c = let h = c.requires.0 in omega (arith, mul-le-mul h.bits_most (le_refl c.args.t), h.bound)
-
 pub add_at-requires : goal.add_at-requires
 add_at-requires c =
     let a = c.args in

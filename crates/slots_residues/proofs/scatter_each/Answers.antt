@@ -23,13 +23,6 @@ more row from n m t words' words i after least low res so_far put =
     let here : from + (i - from) ≡ i = omega arith in
     scattered_more row from n m t words' least (i - from) res words so_far after (rw here put)
 
-pub loop-i-init : goal.loop-i-init
-loop-i-init g c =
-    let a = c.args.lane in
-    let least = c.requires.0.least in
-    let none : a.from - a.from ≡ 0 = omega arith in
-    (ap (λ (v : ℕ). v % a.n) none ∙ zero-mod a.n, omega arith, refl, rw none (scattered_none c.args.row.now a.from a.n a.m a.t c.args.words.now))
-
 pub put-requires : goal.put-requires
 put-requires g c =
     let a = c.args.lane in

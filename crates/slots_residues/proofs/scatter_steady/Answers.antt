@@ -19,43 +19,6 @@ ready row from to n m t words' asked words i low high long =
     let here : from + (i - from) ≡ i = omega arith in
     puts_long (t + (i - from)) m (get_or row i 0) words' words long (rw here at (asked.0.puts (i - from) (omega arith)))
 
-pub overflow_mul-y : goal.overflow_mul-y
-overflow_mul-y c = let s = c in let h = c.requires.0 in let k : s.args.lane.m * s.args.lane.t ≤ 8 * 2 ^ 32 = mul-le-mul h.bits_most (let l = c.requires.0.start in let q : s.args.lane.t ≤ 2 ^ 32 = omega arith in q) in omega arith
-
-pub overflow_sub-k : goal.overflow_sub-k
-overflow_sub-k c = c.requires.0.bits_most
-
-pub overflow_sub-k-2 : goal.overflow_sub-k-2
-overflow_sub-k-2 c = let h = c.requires.2 in omega arith
-
-pub overflow_mul-turn : goal.overflow_mul-turn
-overflow_mul-turn c = let s = c in let h = c.requires.0 in let k : s.args.lane.m * s.args.lane.n ≤ 8 * 128 = mul-le-mul h.bits_most h.most in omega arith
-
-pub loop-i-init : goal.loop-i-init
-loop-i-init c =
-    let s = c in
-    let a = c.args in
-    let least = c.requires.0.least in
-    let none : a.lane.from - a.lane.from ≡ 0 = omega arith in
-    let here : a.lane.t ≡ a.lane.t + (a.lane.from - a.lane.from) = omega arith in (
-      omega arith,
-      ap (λ (v : ℕ). v % a.lane.n) none ∙ zero-mod a.lane.n,
-      ap (λ (v : ℕ). a.lane.m * v / 8) here,
-      ap (λ (v : ℕ). a.lane.m * v % 8) (sym here),
-      omega arith,
-      refl,
-      rw none (scattered_none a.row.now a.lane.from a.lane.n a.lane.m a.lane.t a.words.now),
-    )
-
-pub overflow_cast-row : goal.overflow_cast-row
-overflow_cast-row c =
-    let s = c in
-    let l = c.loop-i in
-    let h = (ready c.args.row.now c.args.lane.from c.args.lane.to c.args.lane.n c.args.lane.m c.args.lane.t c.args.words.now c.requires) l.words l.i l.invariant.0 (omega arith) l.invariant.5 in
-    let small = h.small in
-    let most : 2 ^ s.args.lane.m ≤ 2 ^ 8 = pow_mono h.bits_most in
-    record { fits = omega arith }
-
 pub add_at-requires : goal.add_at-requires
 add_at-requires c =
     let s = c in
@@ -68,17 +31,6 @@ add_at-requires c =
     let least = h.bits_least in
     let within = c.requires.2 in
     (omega arith, omega arith, rw same at (byte_small (a.lane.t + (l.i - a.lane.from)) a.lane.m (get_or a.row.now l.i 0) l.words h (rw same within)))
-
-pub overflow_add-at : goal.overflow_add-at
-overflow_add-at c =
-    let s = c in
-    let l = c.loop-i in
-    let h = (ready c.args.row.now c.args.lane.from c.args.lane.to c.args.lane.n c.args.lane.m c.args.lane.t c.args.words.now c.requires) l.words l.i l.invariant.0 (omega arith) l.invariant.5 in
-    let e = c.loop-i.invariant.2 in
-    let b = h.bound in
-    let k : s.args.lane.m * s.args.lane.n ≤ 8 * 128 = mul-le-mul s.requires.0.bits_most s.requires.0.most in
-    let j : s.args.lane.m * (s.args.lane.t + (l.i - s.args.lane.from)) ≤ 8 * 2 ^ 31 = mul-le-mul s.requires.0.bits_most (let q : s.args.lane.t + (l.i - s.args.lane.from) ≤ 2 ^ 31 = omega arith in q) in
-    omega arith
 
 -- the symbol at i is the next one
 more : (row : List ℕ) (from to n m t : ℕ) (words' : List ℕ) → (Scatters row from to n m t words' × (m * n % 8 ≡ 0) × (m + m * t % 8 ≤ 8)) → (words : List ℕ) (i at : ℕ) (after : List ℕ) → from ≤ i → i < to

@@ -19,18 +19,6 @@ known p row from to x words asked =
     let k = bounds p asked.0.fine in
     (k, mul-le-mul asked.0.fine.rows_most k.back_most)
 
-pub overflow_mul-back : goal.overflow_mul-back
-overflow_mul-back c = let r = (known c.args.p c.args.row.now c.args.from c.args.to c.args.x c.args.words.now c.requires) in omega arith
-
-pub overflow_mul-wrap : goal.overflow_mul-wrap
-overflow_mul-wrap c = let r = (known c.args.p c.args.row.now c.args.from c.args.to c.args.x c.args.words.now c.requires) in omega arith
-
-pub stride_of-n-requires : goal.stride_of-n-requires
-stride_of-n-requires c = let f = c.requires.0.fine in (f.rows_least, f.rows_most)
-
-pub nonzero_rem-c : goal.nonzero_rem-c
-nonzero_rem-c c = c.stride_of-n.ensures.0
-
 pub loop-r-init : goal.loop-r-init
 loop-r-init c =
     let s = c in
@@ -41,26 +29,6 @@ loop-r-init c =
       refl,
       λ at shown laid. laid_begun a.p at c.stride_of-n.result a.x (a.x + (a.to - a.from)) a.words.now laid,
     )
-
-pub first_place-first-requires : goal.first_place-first-requires
-first_place-first-requires c =
-    let s = c in
-    let r = (known c.args.p c.args.row.now c.args.from c.args.to c.args.x c.args.words.now c.requires) in
-    let end = c.requires.0.end in
-    (refl, omega arith, c.stride_of-n.ensures.1, omega arith)
-
-pub overflow_sub-lane : goal.overflow_sub-lane
-overflow_sub-lane c = c.first_place-first.ensures.1
-
-pub overflow_add-lane : goal.overflow_add-lane
-overflow_add-lane c =
-    let s = c in
-    let h = c.requires.0 in
-    let near = c.first_place-first.ensures.2 in
-    let few = c.stride_of-n.ensures.1 in
-    let order = c.requires.0.order in
-    let bound = c.requires.0.bound in
-    omega arith
 
 pub overflow_sub-lane-in-loop-r : goal.overflow_sub-lane-in-loop-r
 overflow_sub-lane-in-loop-r c =
@@ -92,17 +60,6 @@ scatter-requires c =
       puts = λ j k. puts a.p h.fine l.words (o.result - l.delay + j) (get_or a.row.now (a.from + (o.result - a.x) + j) 0) (omega arith)
           (h.small (a.from + (o.result - a.x) + j) (omega arith) k) (let room = c.requires.1 in let long = c.loop-r.invariant.2 in omega arith);
     }
-
-pub next_delay-delay-requires : goal.next_delay-delay-requires
-next_delay-delay-requires c =
-    let s = c in
-    let g = c.args.p.layout in
-    let l = c.loop-r in
-    let r = (known c.args.p c.args.row.now c.args.from c.args.to c.args.x c.args.words.now c.requires) in
-    let e = c.loop-r.invariant.1 in
-    let m : l.r % g.rows < g.rows = mod-lt l.r s.requires.0.fine.rows_least in
-    let k : places.delay g (l.r % g.rows) ≤ g.rows * (g.step * g.rows) = mul-le-mul (let q : l.r % g.rows ≤ g.rows = omega arith in q) (le_refl (g.step * g.rows)) in
-    (omega arith, omega arith)
 
 pub loop-r-preserved : goal.loop-r-preserved
 loop-r-preserved c =

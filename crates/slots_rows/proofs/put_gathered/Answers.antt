@@ -23,15 +23,6 @@ few p words line from to row slots asked =
     let f = asked.0.given.fine in
     ((lines.sizes p f line 0 asked.1).symbols, (bounds p f).symbols_bound)
 
-pub overflow_add-symbols : goal.overflow_add-symbols
-overflow_add-symbols c = let k = (few c.args.p c.args.words.now c.args.line c.args.from c.args.to c.args.row.now c.args.slots.now c.requires) in omega arith
-
-pub overflow_mul-line : goal.overflow_mul-line
-overflow_mul-line c = let k = (few c.args.p c.args.words.now c.args.line c.args.from c.args.to c.args.row.now c.args.slots.now c.requires) in omega arith
-
-pub overflow_add-line : goal.overflow_add-line
-overflow_add-line c = let k = (few c.args.p c.args.words.now c.args.line c.args.from c.args.to c.args.row.now c.args.slots.now c.requires) in omega arith
-
 pub lay_row-requires : goal.lay_row-requires
 lay_row-requires c =
     let s = c in

@@ -8,9 +8,6 @@ use Rattle.sizes.specs.Sizes.{word_bytes}
 use Rattle.slots_rows.proofs.Laws.Rows.{row_begun}
 use Rattle.slots_rows.proofs.put_row.Goals as goal
 
-pub slice_bounds-put_gathered-end : goal.slice_bounds-put_gathered-end
-slice_bounds-put_gathered-end c = sym (length-replicate {A = ℕ} _ 0)
-
 pub put_gathered-requires : goal.put_gathered-requires
 put_gathered-requires c =
     let s = c in

@@ -32,29 +32,11 @@ known p line r f inside low =
     let bound = k.symbols_bound in
     record { of_plan = k; places = z; late = omega arith; all = omega arith; small = omega arith }
 
-pub overflow_mul-start : goal.overflow_mul-start
-overflow_mul-start c = let k = (known c.args.p c.args.line c.args.r c.requires.0.fine c.requires.1 c.requires.3).places in omega arith
-
-pub overflow_mul-delay : goal.overflow_mul-delay
-overflow_mul-delay c = let k = (known c.args.p c.args.line c.args.r c.requires.0.fine c.requires.1 c.requires.3).of_plan.back_most in omega arith
-
-pub overflow_mul-delay-2 : goal.overflow_mul-delay-2
-overflow_mul-delay-2 c = let k = (known c.args.p c.args.line c.args.r c.requires.0.fine c.requires.1 c.requires.3).late in omega arith
-
-pub overflow_add-start : goal.overflow_add-start
-overflow_add-start c = let k = (known c.args.p c.args.line c.args.r c.requires.0.fine c.requires.1 c.requires.3).places in omega arith
-
-pub overflow_add-delay : goal.overflow_add-delay
-overflow_add-delay c = let k = (known c.args.p c.args.line c.args.r c.requires.0.fine c.requires.1 c.requires.3).late in let a = (known c.args.p c.args.line c.args.r c.requires.0.fine c.requires.1 c.requires.3).all in omega arith
-
 pub first_place-requires : goal.first_place-requires
 first_place-requires c =
     let s = c in
     let k = (known c.args.p c.args.line c.args.r c.requires.0.fine c.requires.1 c.requires.3).places in
     (s.requires.2, s.requires.3, s.requires.0.fine.rows_most, omega arith)
-
-pub overflow_add-delay-2 : goal.overflow_add-delay-2
-overflow_add-delay-2 c = let k = (known c.args.p c.args.line c.args.r c.requires.0.fine c.requires.1 c.requires.3).late in let r = (known c.args.p c.args.line c.args.r c.requires.0.fine c.requires.1 c.requires.3).small in omega arith
 
 pub gather-requires : goal.gather-requires
 gather-requires c =

@@ -19,29 +19,6 @@ use Rattle.slots_symbols.proofs.bad_mark_in.Goals as goal
 known : (p : Plan) (b : List ℕ) (line : ℕ) → (Grouped p b × (line < p.layout.lines)) → Bounds p × (line * unit p.layout + unit p.layout ≤ layout_symbols p.layout)
 known p b line asked = (bounds p asked.0.fine, line_in (unit p.layout) p.layout.lines line asked.1)
 
-pub overflow_add-first : goal.overflow_add-first
-overflow_add-first c = let r = (known c.args.p c.args.b.now c.args.line c.requires) in omega arith
-
-pub overflow_mul-first : goal.overflow_mul-first
-overflow_mul-first c = let r = (known c.args.p c.args.b.now c.args.line c.requires) in omega arith
-
-pub loop-w-init : goal.loop-w-init
-loop-w-init c =
-    let a = c.args in
-    let r = (known c.args.p c.args.b.now c.args.line c.requires) in
-    let first : ℕ = a.line * unit a.p.layout in
-    let e : first + 0 ≡ first = omega arith in
-    ap (λ (x : ℕ). up_to (mark_right a.p.layout a.p.marks (pooled_in a.p a.b.now)) x (first + a.p.layout.markers)) e
-
-pub mark_right-requires : goal.mark_right-requires
-mark_right-requires c =
-    let h = c.requires in
-    let r = (known c.args.p c.args.b.now c.args.line c.requires) in
-    (h.0, h.1, omega arith)
-
-pub overflow_add-result : goal.overflow_add-result
-overflow_add-result c = let r = (known c.args.p c.args.b.now c.args.line c.requires) in omega arith
-
 pub returns-then-not-mark_right : goal.returns-then-not-mark_right
 returns-then-not-mark_right c =
     let a = c.args in
@@ -64,9 +41,6 @@ loop-w-preserved c =
     ap (λ (x : ℕ). up_to t x end) e
     ∙ first_on t end (first + l.w) (omega arith) (sym c.mark_right.ensures ∙ c.if-not-mark_right.false)
     ∙ l.invariant
-
-pub overflow_add-result-2 : goal.overflow_add-result-2
-overflow_add-result-2 c = let r = (known c.args.p c.args.b.now c.args.line c.requires) in omega arith
 
 pub returns : goal.returns
 returns c =

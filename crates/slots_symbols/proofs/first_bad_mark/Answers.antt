@@ -2,10 +2,9 @@
 use mathlib.Core.Path.{◌≡◌, sym, ap, ◌∙◌}
 use Prim.Native.Nat.{ℕ, ◌+◌, ◌*◌, ◌≤◌, ◌<◌}
 use native.Mathlib.Omega.{arith}
-use native.Mathlib.Nat.{le_refl, mul-le-mul}
 use Rattle.slots.proofs.Laws.Bounds.{Bounds, bounds}
 use Rattle.slots.specs.Reading.{pooled_in, first_bad_mark}
-use Rattle.bits.proofs.Laws.First.{sought_start, sought_fails, sought_more, sought_end}
+use Rattle.bits.proofs.Laws.First.{sought_fails, sought_more, sought_end}
 use Rattle.channel.proofs.Laws.Markers.{line_in, mark_else}
 use Rattle.channel.specs.Channel.{unit, layout_symbols}
 use Rattle.slots_symbols.specs.Inner.{Grouped}
@@ -19,18 +18,6 @@ known p b asked line l = (bounds p asked.fine, line_in (unit p.layout) p.layout.
 
 pub overflow_add-unit : goal.overflow_add-unit
 overflow_add-unit c = let k = bounds c.args.p c.requires.fine in omega arith
-
-pub loop-line-init : goal.loop-line-init
-loop-line-init c = sought_start _ _ _ _
-
-pub bad_mark_in-s-requires : goal.bad_mark_in-s-requires
-bad_mark_in-s-requires c = (c.requires, omega arith)
-
-pub overflow_mul-line : goal.overflow_mul-line
-overflow_mul-line c = let r = (known c.args.p c.args.b.now c.requires) c.loop-line.line (omega arith) in omega arith
-
-pub overflow_add-line : goal.overflow_add-line
-overflow_add-line c = let r = (known c.args.p c.args.b.now c.requires) c.loop-line.line (omega arith) in omega arith
 
 pub returns-then-s-line : goal.returns-then-s-line
 unfolding first_bad_mark
@@ -49,12 +36,6 @@ loop-line-preserved c =
     let r = (known c.args.p c.args.b.now c.requires) l.line (omega arith) in
     sought_more _ _ _ _ l.line l.invariant (l.line * unit p.layout + p.layout.markers) _ (omega arith) (omega arith) (omega arith) c.bad_mark_in-s.ensures (omega arith) (omega arith)
     (mark_else p.layout l.line p.marks (pooled_in p s.args.b.now))
-
-pub overflow_mul-result : goal.overflow_mul-result
-overflow_mul-result c =
-    let a = c.args in
-    let k = bounds a.p c.requires.fine in
-    omega (arith, mul-le-mul c.loop-line.invariant.turn (le_refl (unit a.p.layout)))
 
 pub returns : goal.returns
 unfolding first_bad_mark

@@ -27,12 +27,6 @@ known p b s q asked one =
     let next : s + 1 ≤ layout_symbols p.layout = let l = asked.0.among in omega arith in
     held p.order p.group (s + 1) b (groups_in p b asked.0.slots one (s + 1) next) s (omega arith)
 
-pub overflow_mul-s : goal.overflow_mul-s
-overflow_mul-s c = let k = (known c.args.p c.args.b.now c.args.s c.args.q c.requires) c.if-p-eq1.true in omega arith
-
-pub overflow_add-s : goal.overflow_add-s
-overflow_add-s c = let k = (known c.args.p c.args.b.now c.args.s c.args.q c.requires) c.if-p-eq1.true in omega arith
-
 pub bit_at-requires : goal.bit_at-requires
 bit_at-requires c = let k = (known c.args.p c.args.b.now c.args.s c.args.q c.requires) c.if-p-eq1.true in omega arith
 
@@ -52,6 +46,3 @@ pooled-requires c =
     let s = c in
     let next : s.args.s + 1 ≤ layout_symbols s.args.p.layout = let l = c.requires.0.among in omega arith in
     sent_in s.args.p s.args.b.now s.requires.0.slots (s.args.s + 1) next
-
-pub returns : goal.returns
-returns c = ap (eqb c.args.q) c.pooled.ensures

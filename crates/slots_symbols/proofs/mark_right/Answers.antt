@@ -17,15 +17,6 @@ known : (p : Plan) (b : List ℕ) (line w : ℕ) → Grouped p b × (line < p.la
     → Bounds p × (line * unit p.layout + unit p.layout ≤ layout_symbols p.layout) × (get_or p.marks w 0 < p.order)
 known p b line w h = (bounds p h.0.fine, line_in (unit p.layout) p.layout.lines line h.1, h.0.fine.marks_below w)
 
-pub overflow_add-s : goal.overflow_add-s
-overflow_add-s c = let r = known _ _ c.args.line c.args.w c.requires in omega arith
-
-pub overflow_mul-s : goal.overflow_mul-s
-overflow_mul-s c = let r = known _ _ c.args.line c.args.w c.requires in omega arith
-
-pub overflow_add-s-2 : goal.overflow_add-s-2
-overflow_add-s-2 c = let r = known _ _ c.args.line c.args.w c.requires in omega arith
-
 pub is_symbol-requires : goal.is_symbol-requires
 is_symbol-requires c =
     let s = c in

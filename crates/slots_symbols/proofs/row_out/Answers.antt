@@ -30,11 +30,3 @@ row_out-requires-2 c =
     let s = c in
     let h = c.requires in
     (sent_in s.args.p s.args.b.now h.0 s.args.to h.2, h.1, h.3)
-
-pub returns : goal.returns
-returns c =
-    let o = c.row_out-2.ensures in
-    record {
-      value = o.value;
-      row = λ l. record { symbols = o.filled l };
-    }

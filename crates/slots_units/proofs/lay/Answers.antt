@@ -15,36 +15,6 @@ within per n u l =
     let m : per * (u + 1) ≤ per * n = mul-le-mul (le_refl per) next in
     omega arith
 
-pub loop-u-init : goal.loop-u-init
-loop-u-init g c = (refl, λ copies group z b all. laid_none _ _ _)
-
-pub overflow_mul-u : goal.overflow_mul-u
-overflow_mul-u g c = let h = c.requires.3 in omega arith
-
-pub overflow_add-at : goal.overflow_add-at
-overflow_add-at g c = let h = c.requires.3 in omega arith
-
-pub overflow_add-from : goal.overflow_add-from
-overflow_add-from g c =
-    let s = c in
-    let h = c.requires.0 in
-    let k = (within g.row.PER c.args.n) c.loop-u.u (omega arith) in
-    omega arith
-
-pub unit-requires : goal.unit-requires
-unit-requires g c =
-    let s = c in
-    let h = c.requires.0 in
-    let k = (within g.row.PER c.args.n) c.loop-u.u (omega arith) in
-    (omega arith, s.requires.1, s.requires.2)
-
-pub put_forty-requires : goal.put_forty-requires
-put_forty-requires g c =
-    let s = c in
-    let h = c.requires.3 in
-    let e = c.loop-u.invariant.0 in
-    omega arith
-
 pub loop-u-preserved : goal.loop-u-preserved
 loop-u-preserved g c =
     let a = c.args in
@@ -59,13 +29,3 @@ loop-u-preserved g c =
           (l.invariant.1 copies group z b all) f.ensures
           (λ t h. unit_bit copies group g.row.WIDTH g.row.PER a.row.now a.from l.u v.result t z.whole (width_some copies group g.row.WIDTH a.zero z) all (v.ensures copies group z b fit) h)),
     )
-
-pub shape_of-slots : goal.shape_of-slots
-shape_of-slots g c = c.loop-u.invariant.0
-
-pub returns : goal.returns
-returns g c copies group z b all =
-    let s = c in
-    let l = c.loop-u in
-    let e : l.u ≡ c.args.n = omega arith in
-    rw e at (l.invariant.1 copies group z b all)

@@ -28,9 +28,6 @@ sizes p row n first slots asked per e =
     let most = (whole p row n first slots asked).per_most in
     ceiling per first n (omega arith) (omega arith) asked.1
 
-pub overflow_mul-copies : goal.overflow_mul-copies
-overflow_mul-copies c = let k = (whole c.args.p c.args.row.now c.args.n c.args.first c.args.slots.now c.requires).width_most in omega arith
-
 pub overflow_add-units : goal.overflow_add-units
 overflow_add-units c =
     let s = c in
@@ -39,33 +36,12 @@ overflow_add-units c =
     let e = c.per_forty-per.ensures in
     omega arith
 
-pub overflow_sub-units : goal.overflow_sub-units
-overflow_sub-units c = let s = c in let some = c.requires.2 in let e = c.per_forty-per.ensures in omega arith
-
-pub nonzero_div-units : goal.nonzero_div-units
-nonzero_div-units c = let s = c in let some = c.requires.2 in let e = c.per_forty-per.ensures in omega arith
-
-pub overflow_mul-head : goal.overflow_mul-head
-overflow_mul-head c =
-    let s = c in
-    let k = (few c.args.p c.args.row.now c.args.n c.args.first c.args.slots.now c.requires) in
-    let z = ((sizes c.args.p c.args.row.now c.args.n c.args.first c.args.slots.now c.requires) c.per_forty-per.result c.per_forty-per.ensures).most in
-    let most = (whole c.args.p c.args.row.now c.args.n c.args.first c.args.slots.now c.requires).per_most in
-    let e = c.per_forty-per.ensures in
-    omega arith
-
-pub overflow_sub-head : goal.overflow_sub-head
-overflow_sub-head c = ((sizes c.args.p c.args.row.now c.args.n c.args.first c.args.slots.now c.requires) c.per_forty-per.result c.per_forty-per.ensures).least
-
 pub overflow_sub-whole : goal.overflow_sub-whole
 overflow_sub-whole c =
     let s = c in
     let z = (sizes c.args.p c.args.row.now c.args.n c.args.first c.args.slots.now c.requires) c.per_forty-per.result c.per_forty-per.ensures in
     let l = z.last in
     omega arith
-
-pub nonzero_div-whole : goal.nonzero_div-whole
-nonzero_div-whole c = let s = c in let some = c.requires.2 in let e = c.per_forty-per.ensures in omega arith
 
 pub lay_split-requires : goal.lay_split-requires
 lay_split-requires c =

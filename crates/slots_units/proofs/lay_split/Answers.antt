@@ -52,14 +52,6 @@ part p row first m n r l =
 pub zero_of-zero-requires : goal.zero_of-zero-requires
 zero_of-zero-requires c = let k = known c.args.p c.args.row.now c.args.first c.args.n c.args.at.units c.args.at.head c.args.at.whole c.args.at.last c.requires.0 c.requires.1 in (k.copies_least, k.group_least, k.width_most)
 
-pub move_row-requires : goal.move_row-requires
-move_row-requires c =
-    let s = c in
-    let k = known c.args.p c.args.row.now c.args.first c.args.n c.args.at.units c.args.at.head c.args.at.whole c.args.at.last c.requires.0 c.requires.1 in
-    let h = k.head_most in
-    let l = k.last_most in
-    (part c.args.p c.args.row.now c.args.first c.args.at.head c.args.n c.requires.0 (omega arith), omega arith, s.requires.2)
-
 pub overflow_mul-copies : goal.overflow_mul-copies
 overflow_mul-copies c = let k = (known c.args.p c.args.row.now c.args.first c.args.n c.args.at.units c.args.at.head c.args.at.whole c.args.at.last c.requires.0 c.requires.1).width_most in omega arith
 
@@ -73,11 +65,6 @@ lay_units-requires c =
     let room = k.room in
     let e = c.move_row.auto.slots ∙ s.requires.2 in
     (omega arith, s.requires.1.some, k.below, omega arith)
-
-pub move_row-requires-2 : goal.move_row-requires-2
-move_row-requires-2 c =
-    let s = c in
-    (s.requires.0, (known c.args.p c.args.row.now c.args.first c.args.n c.args.at.units c.args.at.head c.args.at.whole c.args.at.last c.requires.0 c.requires.1).last_most, c.lay_units.auto.slots ∙ (c.move_row.auto.slots ∙ s.requires.2))
 
 pub returns : goal.returns
 returns c word end same h =

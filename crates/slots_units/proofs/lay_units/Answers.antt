@@ -33,15 +33,6 @@ lay-requires-in-20 c =
     let h = c.requires.0 in
     (omega arith, omega arith, s.requires.2, s.requires.3)
 
-pub lay-requires-in_default : goal.lay-requires-in_default
-lay-requires-in_default c =
-    let s = c in
-    let w : s.args.width ≡ 40 = per_last s.args.width s.requires.1 (λ e. omega arith) (λ e. omega arith) (λ e. omega arith) in
-    let n = per_all s.args.width w in
-    let e : 1 * s.args.n ≡ per_forty s.args.width * s.args.n = ap (λ (x : ℕ). x * s.args.n) n in
-    let h = c.requires.0 in
-    (omega arith, omega arith, s.requires.2, s.requires.3)
-
 pub returns-in_default : goal.returns-in_default
 returns-in_default c copies group z b =
     let s = c in

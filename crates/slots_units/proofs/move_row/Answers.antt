@@ -7,22 +7,6 @@ use Rattle.slots.proofs.Laws.Bounds.{bounds}
 use Rattle.slots_moves.proofs.Laws.Moves.{copied, holds_is, holds_next}
 use Rattle.slots_units.proofs.move_row.Goals as goal
 
-pub loop-i-init : goal.loop-i-init
-loop-i-init c = (omega arith, c.requires.1, refl, λ p ec eg r word end same h. h)
-
-pub overflow_add-first : goal.overflow_add-first
-overflow_add-first c =
-    let r = c.requires.0 in
-    let k = (bounds c.args.p r.fine).symbols_bound in
-    let i = c.requires.0.inside in
-    omega arith
-
-pub bounds-row-i : goal.bounds-row-i
-bounds-row-i c = let r = c.requires.0.long in omega arith
-
-pub overflow_cast-row : goal.overflow_cast-row
-overflow_cast-row c = omega (arith, c.type_inv.row c.loop-i.i)
-
 pub move_symbol-requires : goal.move_symbol-requires
 move_symbol-requires c =
     let s = c in
@@ -50,9 +34,6 @@ loop-i-preserved c =
           holds_is p word (a.first + l.i + 1) (a.first + (l.i + 1)) end after (omega arith)
           (holds_next p word (a.first + l.i) end q l.slots after (same l.i low) (l.invariant.3 p ec eg r word end same h) moved),
     )
-
-pub shape_of-slots : goal.shape_of-slots
-shape_of-slots c = c.loop-i.invariant.2
 
 pub returns : goal.returns
 returns c word end same h =

@@ -13,12 +13,6 @@ pub loop-j-init : goal.loop-j-init
 unfolding val
 loop-j-init g c = λ copies group z b l. let e : 0 * g.row.WIDTH ≡ 0 = omega arith in sym (ap (val (row_slot group g.row.WIDTH c.args.row.now c.args.i)) e)
 
-pub overflow_cast-v : goal.overflow_cast-v
-overflow_cast-v g c = omega (arith, c.requires.2 (c.args.i + c.loop-j.j))
-
-pub overflow_shr-v : goal.overflow_shr-v
-overflow_shr-v g c = omega (arith, c.requires.2 (c.args.i + c.loop-j.j))
-
 pub loop-j-preserved : goal.loop-j-preserved
 loop-j-preserved g c =
     let a = c.args in
@@ -27,10 +21,3 @@ loop-j-preserved g c =
     let next : l.j + 1 ≤ g.row.PER = omega arith in
     let room : (l.j + 1) * g.row.WIDTH ≤ g.row.PER * g.row.WIDTH = mul-le-mul next (le_refl g.row.WIDTH) in
     unit_more copies group g.row.WIDTH a.zero a.row.now a.i l.j (get_or a.row.now (a.i + l.j) 0) l.v z refl (b (a.i + l.j)) (omega arith) (l.invariant copies group z b h)
-
-pub returns : goal.returns
-returns g c copies group z b h =
-    let a = c.args in
-    let l = c.loop-j in
-    let e : l.j ≡ g.row.PER = omega arith in
-    l.invariant copies group z b h ∙ ap (λ (n : ℕ). val (row_slot group g.row.WIDTH a.row.now a.i) (n * g.row.WIDTH)) e
