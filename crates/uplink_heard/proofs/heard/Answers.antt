@@ -4,7 +4,6 @@ use Prim.Native.Nat.{◌*◌}
 use native.Mathlib.Omega.{arith}
 use Rattle.bits.specs.Pack.{val}
 use Rattle.uplink_heard.proofs.Reading.{heard_from, heard_more}
-use borrow.Author.Rules.{rules}
 use Rattle.uplink_heard.proofs.heard.Goals as goal
 
 pub loop-q-init : goal.loop-q-init

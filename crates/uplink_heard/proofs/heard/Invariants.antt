@@ -1,5 +1,5 @@
 use mathlib.Core.Path.{◌≡◌}
-use Prim.Native.Nat.{◌-◌, ◌*◌, ◌≤◌}
+use Prim.Native.Nat.{◌*◌}
 use Rattle.bits.specs.Pack.{val}
 use Rattle.uplink_heard.proofs.Reading.{heard_from}
 use Rattle.uplink_heard.proofs.heard.Given as goal
