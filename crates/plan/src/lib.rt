@@ -51,6 +51,7 @@ pub fn plan_of(q: Parameters) -> Plan
 }
 
 // Question 8: whether each slice has the length that the header implies.
+#[tactic(auto, unfolding(crate::specs::Lengths::run_lengths_right))]
 fn run_lengths_right(
     f: Fields,
     marker_length: usize,

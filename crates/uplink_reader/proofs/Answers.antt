@@ -1,10 +1,9 @@
 -- The slices of a call that is accepted have their lengths.
-use mathlib.Core.Path.{◌≡◌, refl, sym, ◌∙◌}
-use mathlib.Core.Bool.{Bool, true, false}
+use mathlib.Core.Path.{◌≡◌, sym, ◌∙◌}
+use mathlib.Core.Bool.{Bool, true}
 use mathlib.Core.List.{List}
-use Prim.Native.Nat.{ℕ, ◌*◌}
+use Prim.Native.Nat.{ℕ}
 use lib.ListN.{length}
-use borrow.Author.Tests.{eq-eqb, ne_eqb}
 use Rattle.uplink.specs.Uplink.{codeblock_count, uplink_lengths_right}
 use Rattle.uplink.proofs.Laws.Uplink.{lengths_sized}
 use Rattle.uplink.specs.Inner.{Framed, Slotted}

@@ -7,7 +7,6 @@ use Rattle.bits.specs.Basics.{up_to}
 use Rattle.bits.proofs.Laws.First.{first_on, first_here, first_end}
 use Rattle.ldpc.specs.Code.{is_codeword}
 use Rattle.uplink.specs.Uplink.{received, codeblock_count, first_bad_block}
-use borrow.Author.Rules.{rules}
 use Rattle.uplink_reader.proofs.first_bad_block.Goals as goal
 
 pub loop-i-init : goal.loop-i-init
@@ -37,7 +36,7 @@ loop-i-preserved c =
     let a = c.args in
     let good : ℕ → Bool = λ i. is_codeword (received a.slots.now i) in
     first_on good a.count l.i (omega arith)
-          (sym c.passes.ensures ∙ c.if-not-passes.false) ∙ l.invariant
+    (sym c.passes.ensures ∙ c.if-not-passes.false) ∙ l.invariant
 
 pub returns : goal.returns
 unfolding first_bad_block

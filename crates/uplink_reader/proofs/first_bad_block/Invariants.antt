@@ -1,5 +1,4 @@
 use mathlib.Core.Path.{◌≡◌}
-use Prim.Native.Nat.{◌-◌, ◌≤◌}
 use Rattle.bits.specs.Basics.{up_to}
 use Rattle.ldpc.specs.Code.{is_codeword}
 use Rattle.uplink.specs.Uplink.{received}

@@ -5,7 +5,6 @@ use native.Mathlib.Omega.{arith}
 use Rattle.bits.specs.Basics.{up_to}
 use Rattle.bits.proofs.Laws.First.{first_on, first_here, first_end}
 use Rattle.uplink.specs.Uplink.{is_bit, codeblock_count, first_no_bit}
-use borrow.Author.Rules.{rules}
 use Rattle.uplink_reader.proofs.first_bad_group.Goals as goal
 
 pub overflow_mul-end : goal.overflow_mul-end
@@ -35,7 +34,7 @@ loop-g-preserved c =
     let l = c.loop-g in
     let a = c.args in
     first_on (is_bit a.slots.now) (128 * a.count) l.g (omega arith)
-          (sym c.is_bit.ensures ∙ c.if-not-is_bit.false) ∙ l.invariant
+    (sym c.is_bit.ensures ∙ c.if-not-is_bit.false) ∙ l.invariant
 
 pub returns : goal.returns
 unfolding first_no_bit

@@ -1,5 +1,4 @@
 use mathlib.Core.Path.{◌≡◌}
-use Prim.Native.Nat.{◌-◌, ◌≤◌}
 use Rattle.bits.specs.Basics.{up_to}
 use Rattle.uplink.specs.Uplink.{is_bit}
 use Rattle.uplink_reader.proofs.first_bad_group.Given as goal

@@ -6,7 +6,6 @@ use Rattle.bits.specs.Pack.{bytes_of}
 use Rattle.bits.proofs.Laws.Stretch.{laid_none, laid_all}
 use Rattle.uplink.specs.Uplink.{received, codeblock_count, uplink_frames_of}
 use Rattle.uplink_heard.proofs.Reading.{frames_more}
-use borrow.Author.Rules.{rules}
 use Rattle.uplink_reader.proofs.frames_out.Goals as goal
 
 pub loop-j-init : goal.loop-j-init
@@ -34,7 +33,7 @@ loop-j-preserved c =
     let a = c.args in
     let frame = c.frame_in in
     frames_more a.slots.now l.j a.frames.now l.frames _ frame.result frame.ensures l.invariant
-          c.put_eight.ensures
+    c.put_eight.ensures
 
 pub shape_of-frames : goal.shape_of-frames
 shape_of-frames c = c.loop-j.invariant.long

@@ -1,4 +1,4 @@
-use Prim.Native.Nat.{◌-◌, ◌*◌, ◌/◌, ◌%◌, ◌≤◌}
+use Prim.Native.Nat.{◌*◌, ◌/◌, ◌%◌}
 use Rattle.bits.specs.Inner.{Laid}
 use Rattle.uplink.specs.Uplink.{received}
 use Rattle.uplink_reader.proofs.frames_out.Given as goal

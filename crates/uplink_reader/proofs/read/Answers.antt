@@ -1,5 +1,5 @@
 -- Question 8, then 28 and 29, and the frames once all are answered yes.
-use mathlib.Core.Path.{refl, sym, ap, ◌∙◌}
+use mathlib.Core.Path.{refl, sym, ◌∙◌}
 use lib.ListN.{length}
 use Rattle.answers.proofs.Laws.Answer.{left, stops_at, goes_past, ask_done}
 use Rattle.uplink.specs.Uplink.{uplink_read_says}

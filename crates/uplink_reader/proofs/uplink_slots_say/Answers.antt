@@ -1,5 +1,5 @@
 -- Each answer is `uplink_slots_say`'s, by the first that fails 28 and the first that fails 29.
-use mathlib.Core.Path.{◌≡◌, refl, ap, ◌∙◌}
+use mathlib.Core.Path.{◌≡◌, refl}
 use mathlib.Core.List.{List}
 use Prim.Native.Nat.{ℕ, ◌*◌}
 use native.Mathlib.Omega.{arith}

@@ -6,7 +6,6 @@ use Rattle.bits.specs.Pack.{bytes_of}
 use Rattle.bits.proofs.Laws.Stretch.{laid_none, laid_all}
 use Rattle.uplink.specs.Uplink.{sent_bit, slot_of, frame_count, uplink_slots_of}
 use Rattle.uplink_writer.proofs.Writing.{blocks_more}
-use borrow.Author.Rules.{rules}
 use Rattle.uplink_writer.proofs.codeblocks.Goals as goal
 
 pub loop-i-init : goal.loop-i-init

@@ -1,4 +1,4 @@
-use Prim.Native.Nat.{◌-◌, ◌*◌, ◌≤◌}
+use Prim.Native.Nat.{◌*◌}
 use Rattle.bits.specs.Inner.{Laid}
 use Rattle.uplink.specs.Uplink.{sent_bit, slot_of}
 use Rattle.uplink_writer.proofs.codeblocks.Given as goal

@@ -5,7 +5,6 @@ use native.Mathlib.Omega.{arith}
 use Rattle.bits.specs.Pack.{bit_of}
 use Rattle.bits.proofs.Laws.Stretch.{laid_none, laid_one, laid_on}
 use Rattle.uplink.specs.Uplink.{slot_of}
-use borrow.Author.Rules.{rules}
 use Rattle.uplink_writer.proofs.put_slots.Goals as goal
 
 pub loop-q-init : goal.loop-q-init
@@ -20,8 +19,8 @@ loop-q-preserved c =
     let a = c.args in
     let g : ℕ → ℕ = λ u. slot_of (bit_of a.v) (8 * l.q + u) in
     laid_on _ _ _ _ _ _ _ g l.invariant
-          (laid_one l.slots (a.at + l.q) c.pair.result g (let e = c.loop-q.invariant.long in omega arith) c.pair.ensures)
-          (λ u h. refl)
+    (laid_one l.slots (a.at + l.q) c.pair.result g (let e = c.loop-q.invariant.long in omega arith) c.pair.ensures)
+    (λ u h. refl)
 
 pub shape_of-slots : goal.shape_of-slots
 shape_of-slots c = c.loop-q.invariant.long

@@ -1,4 +1,3 @@
-use Prim.Native.Nat.{◌-◌, ◌≤◌}
 use Rattle.bits.specs.Pack.{bit_of}
 use Rattle.bits.specs.Inner.{Laid}
 use Rattle.uplink.specs.Uplink.{slot_of}
