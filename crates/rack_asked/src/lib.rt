@@ -44,7 +44,13 @@ fn readable(area: &[u8], caller: u64, owner: u64, place: u64) -> bool
 }
 
 // Of a load: 23, 24, 25, those of the header, 8.
-pub fn load_says(area: &[u8], caller: u64, owner: u64, place: u64, header: &[u8]) -> Result<(), Refusal>
+pub fn load_says(
+    area: &[u8],
+    caller: u64,
+    owner: u64,
+    place: u64,
+    header: &[u8],
+) -> Result<(), Refusal>
     ensures { answer_of result ≡ says area.now (call_of caller owner place (racks.Load header.now)) }
 {
     ask(missions_right(caller, owner), Fault::BadMission)?;
@@ -55,7 +61,13 @@ pub fn load_says(area: &[u8], caller: u64, owner: u64, place: u64, header: &[u8]
 }
 
 // Of a read: 23, 24, 25, 8.
-pub fn read_says(area: &[u8], caller: u64, owner: u64, place: u64, header: &[u8]) -> Result<(), Refusal>
+pub fn read_says(
+    area: &[u8],
+    caller: u64,
+    owner: u64,
+    place: u64,
+    header: &[u8],
+) -> Result<(), Refusal>
     ensures { answer_of result ≡ says area.now (call_of caller owner place (racks.Read header.now)) }
 {
     ask(missions_right(caller, owner), Fault::BadMission)?;

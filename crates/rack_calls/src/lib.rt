@@ -19,7 +19,13 @@ fn filled(status: u8) -> u8
 }
 
 // Loads a header into one of the caller's places, over what was there.
-pub fn load(area: &mut [u8], caller: u64, owner: u64, place: u64, header: &[u8]) -> Result<(), Refusal>
+pub fn load(
+    area: &mut [u8],
+    caller: u64,
+    owner: u64,
+    place: u64,
+    header: &[u8],
+) -> Result<(), Refusal>
     ensures value { answer_of result ≡ says area.old (call_of caller owner place (racks.Load header.now)) }
     ensures area_after { area.new ≡ after_call area.old (call_of caller owner place (racks.Load header.now)) }
 {
@@ -30,7 +36,13 @@ pub fn load(area: &mut [u8], caller: u64, owner: u64, place: u64, header: &[u8])
 }
 
 // Returns the header of a place that is the caller's or lent to it.
-pub fn read(area: &[u8], caller: u64, owner: u64, place: u64, header: &mut [u8]) -> Result<(), Refusal>
+pub fn read(
+    area: &[u8],
+    caller: u64,
+    owner: u64,
+    place: u64,
+    header: &mut [u8],
+) -> Result<(), Refusal>
     ensures value { answer_of result ≡ says area.now (call_of caller owner place (racks.Read header.old)) }
     ensures header_after { header.new ≡ handed (racks.Read header.old) (answer_of result) (entry_at area.now owner place) }
 {

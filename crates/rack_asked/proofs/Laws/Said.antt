@@ -21,11 +21,11 @@ both_yes false = refl
 -- the questions, one by one
 pub asked : (area : List ℕ) (c o p : ℕ) (task : Task) → loan_right c task ≡ true
     → then (ask (both (ltb c 4) (ltb o 4)) 23 0)
-        (then (ask (ltb p 4) 24 0)
-        (then (ask (allowed c o task (entry_at area o p)) 25 0)
-        (then (header_asked task)
-        (ask (rack_lengths_right (length area) task) 8 0))))
-      ≡ says area (call_of c o p task)
+    (then (ask (ltb p 4) 24 0)
+    (then (ask (allowed c o task (entry_at area o p)) 25 0)
+    (then (header_asked task)
+    (ask (rack_lengths_right (length area) task) 8 0))))
+    ≡ says area (call_of c o p task)
 unfolding says missions_right place_right
 asked area c o p task loan = sym (rw (loan, both_yes (both (ltb c 4) (ltb o 4))) refl)
 
