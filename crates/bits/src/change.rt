@@ -11,7 +11,7 @@ pub fn flip(packed: &mut [u8], x: usize)
     packed[x / 8] ^= 128u8 >> (x % 8);
 }
 
-// Copies the n bytes from byte `at` on to byte `to`.
+// Copies the n bytes from byte `at` on to byte `to`: the library's copy, promised place by place, as the laws above cite it.
 pub fn copy_part(from: &[u8], at: usize, out: &mut [u8], to: usize, n: usize)
     requires { (at + n ≤ length from.now) × (to + n ≤ length out.old) }
     ensures { Copied from.now at out.old to n out.new }

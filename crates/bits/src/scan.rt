@@ -3,21 +3,7 @@ ghost use Rattle.std.specs.Prelude.{◌≡◌, ◌*◌, ◌/◌, ◌≤◌, ◌<
 ghost use Rattle.bits.specs.Inner.{Leads, Within, lesser, shown, reach, bits_from};
 ghost use Rattle.bits.specs.Pack.{val, cut, first_set};
 
-// The smaller of two numbers.
-pub fn least(x: usize, y: usize) -> usize
-    ensures { result ≡ lesser x y }
-{
-    x.min(y)
-}
-
-// The greater of two numbers.
-pub fn most(x: usize, y: usize) -> usize
-    ensures { result ≡ max x y }
-{
-    x.max(y)
-}
-
-// How many zeros come before the first one of 64 bits.
+// How many zeros come before the first one of 64 bits. It stands beside `leading_zeros` since the laws of all layers go by `Leads`.
 pub fn leading(v: u64) -> usize
     requires { 1 ≤ v }
     ensures { Leads 64 v result }

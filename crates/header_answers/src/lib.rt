@@ -51,7 +51,7 @@ pub fn run_says(header: &[u8], marker: &[u8]) -> Result<(), Refusal>
     ask(question20(f), Fault::BadCopies)
 }
 
-// Those of an archived header.
+// Those of an archived header. Beside `form_says` only question 1 and its name differ: one function would be given the test.
 pub fn old_says(old: &[u8]) -> Result<(), Refusal>
     ensures { answer_of result ≡ old_says old.now }
 {

@@ -1,4 +1,4 @@
-// Questions 1 to 7 and 20 one by one, of a header or its fields: yes or no.
+// Questions 1 to 7 and 20 one by one, of a header or its fields: yes or no. Those that look alike are apart, as the papers ask them.
 #![tactic(auto)]
 
 ghost use Rattle.std.specs.Prelude.{◌≡◌};

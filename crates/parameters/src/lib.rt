@@ -11,7 +11,8 @@ ghost use Rattle.parameters.specs.Parameters.{parameters_of};
 use answers::Refusal;
 use header::{Fields, form};
 
-// What a run carries along: the fields and up to 32 marker symbols, the first `markers` of `marks`.
+// What a run carries along: the fields and up to 32 marker symbols, the first `markers` of `marks`. An array and a count, since memory is
+// fixed, and since `parameters_of` has both.
 #[derive(Clone, Copy)]
 pub struct Parameters {
     pub fields: Fields,

@@ -27,6 +27,7 @@ pub struct Plan {
     pub group: usize,
     // the layout of the symbols
     pub layout: Layout,
+    // the marker symbols, of which the layout has the number; an array, since memory is fixed
     pub marks: [u8; 32],
 }
 

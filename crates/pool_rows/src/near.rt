@@ -9,7 +9,8 @@ ghost use Rattle.pool.specs.Pooled.{peak, pooled};
 ghost use Rattle.pulses_rows.specs.Inner.{Known, Reached};
 ghost use Rattle.pool_rows.specs.Inner.{pulses_at, pulses_of, Near, worth, Ahead};
 
-// The bits from x on as the first of a number: 57 at the least.
+// The bits from x on as the first of a number: 57 at the least. `pool::joined` has the same with a promise on the number, where this is on
+// each bit; one function with both would carry the longer proof.
 fn window(b: &[u8], x: usize) -> u64
     requires { x + 64 ≤ 8 * length b.now }
     ensures { (i : ℕ) → i < 57 → bit_of result i ≡ bit_at b.now (x + i) }

@@ -27,6 +27,7 @@ pub fn print_line<R: io::Read, W: io::Write>(input: &mut R, out: &mut W) -> io::
     ensures printed { OnOk result (IfSome (R.remaining input.old) (λ bytes. Appends (W.contents out.old) (W.contents out.new) (line_of bytes))) }
     ensures taken { OnOk result (IfSome (R.remaining input.old) (λ bytes. Consumes (R.remaining input.old) (R.remaining input.new) (take 11 bytes))) }
 {
+    // Memory is fixed: arrays, of which the slices that are filled go on.
     let mut header = [0u8; 11];
     let n = read_full(input, &mut header)?;
     let mut text = [0u8; 256];

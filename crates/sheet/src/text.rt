@@ -18,6 +18,7 @@ fn put_decimal(n: u64, at: usize, out: &mut [u8]) -> usize
     requires { at + 20 ≤ length out.old }
     ensures { Put out.old at (decimal n) out.new result }
 {
+    // The longest number has 20 digits; memory is fixed.
     let mut text = [0u8; 20];
     let k = io::decimal(n, &mut text);
     put(&text[..k], at, out)

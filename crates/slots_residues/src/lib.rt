@@ -121,7 +121,8 @@ fn scatter(row: &[u8], lane: Lane, words: &mut [u8])
     }
 }
 
-// Where N is 1, every eighth place is taken, as neighbours share a byte.
+// Where N is 1, every eighth place is taken, as neighbours share a byte. `slots_lines` has the same: no crate lies below both that knows of
+// strides.
 fn stride_of(rows: usize) -> usize
     requires { (1 ≤ rows) × (rows ≤ 128) }
     ensures { (1 ≤ result) × (result ≤ 128) × (result % rows ≡ 0) }

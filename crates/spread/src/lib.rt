@@ -54,6 +54,7 @@ fn fill(rate: u64, bit: usize, places: &mut [u8])
     ensures { places.new ≡ spread_of rate bit }
 {
     let mut block = [0u8; 1256];
+    // Memory is fixed: room for the longest input, of which a slice is used.
     let mut room = [0u8; 1260];
     let mut coded = [0u8; 15120];
     let n = sizes::block_bytes(rate) + 4;

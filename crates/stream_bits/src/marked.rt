@@ -15,7 +15,7 @@ fn marker_bit(r: usize) -> u8
     ((sizes::FRAME_MARKER >> (sizes::MARKER_BITS - 1 - r)) & 1) as u8
 }
 
-// Its eight bits from bit r on.
+// Its eight bits from bit r on. One function over the width would take the width's bound and mask, which is no shorter.
 pub fn marker_byte(r: usize) -> u8
     requires { r + 8 ≤ marker_bits }
     ensures { result ≡ val (λ t. marker_bit (r + t)) 8 }

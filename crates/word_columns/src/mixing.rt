@@ -39,7 +39,7 @@ fn two_lines(coded: &[u8], mask: &[u8], n: usize, v: &mut [u8])
     }
 }
 
-// All 30 of them.
+// All 30 of them. `picking` has such a loop twice; one for the three would take the step and its law as a closure, which is longer.
 pub fn all_lines(coded: &[u8], mask: &[u8], v: &mut [u8])
     requires { Coded coded.now × Light mask.now × (length v.old ≡ 2 * row_bits) }
     ensures { Filled (mixed_at coded.now mask.now) v.new row_bits }

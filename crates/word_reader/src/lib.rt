@@ -54,6 +54,7 @@ fn decode(rate: u64, word: &[u8], block: &mut [u8]) -> Result<(), Refusal>
     let mut work = [0u8; 1890];
     let mut coded = [0u8; 15120];
     take_out(word, &mut work, &mut coded);
+    // Memory is fixed: room for the longest input, of which a slice is used.
     let mut room = [0u8; 1260];
     let n = block.len() + 4;
     read_coded(rate, &coded, &mut room[..n], block)

@@ -71,6 +71,7 @@ fn code(rate: u64, block: &[u8], word: &mut [u8])
     requires { WriteAccepted rate block.now (length word.old) }
     ensures { word.new ≡ word_of rate block.now }
 {
+    // Memory is fixed: room for the longest input, of which a slice is used.
     let mut room = [0u8; 1260];
     let mut coded = [0u8; 15120];
     let n = block.len() + 4;
