@@ -4,9 +4,9 @@ use mathlib.Core.List.{List}
 use Prim.Native.Nat.{ℕ, ◌*◌, ◌≤◌, ◌<◌}
 use native.Mathlib.Omega.{arith}
 use lib.ListN.{length}
-use Rattle.answers.specs.Answer.{Answer, after}
+use Rattle.answers.specs.Answer.{Done}
 use Rattle.word.proofs.Laws.Word.{Packed}
-use Rattle.word.specs.Word.{word_of, word_write_says}
+use Rattle.word.specs.Word.{word_write_says}
 use Rattle.word.proofs.Laws.Exports.{packed_written}
 use Rattle.header_sizes.specs.Quantities.{block_count, frame_bytes}
 use Rattle.header_sizes.specs.Inner.{Valid}
@@ -22,22 +22,17 @@ use Rattle.stream_writer.specs.Inner.{Frames}
 use Rattle.slots.specs.Writing.{run_slots}
 use Rattle.slots.specs.Inner.{Lent}
 use Rattle.slots.proofs.Laws.Slots.{slots_same}
-use Rattle.run.specs.Run.{stream_of, word_at}
+use Rattle.run.specs.Run.{word_at}
 use Rattle.bits.specs.Pack.{piece}
 use Rattle.sizes.specs.Sizes.{word_bytes}
 
--- a packed block is always written
-pub coded : (f : Fields) → Valid f → (frames : List ℕ) (j n : ℕ) (block old new : List ℕ) (r : Answer) → block ≡ block_at f.rate (stream_bit f.size f.frames frames) j → n ≡ word_bytes
-    → r ≡ word_write_says f.rate block n → new ≡ after r (word_of f.rate block) old → new ≡ word_at f frames j
-unfolding word_at stream_of
-coded f v frames j n block old new r eb en er e =
+-- a block of the stream is always written
+pub written : (f : Fields) → Valid f → (frames : List ℕ) (j n : ℕ) (block : List ℕ) → block ≡ block_at f.rate (stream_bit f.size f.frames frames) j → n ≡ word_bytes → word_write_says f.rate block n ≡ Done
+written f v frames j n block eb en =
     let b : List ℕ = block_at f.rate (stream_bit f.size f.frames frames) j in
     let p = block_packed f.rate (stream_bit f.size f.frames frames) v.rate (stream_bits f.size f.frames frames) j in
     let packed : Packed f.rate b = record { size = p.0; bytes = p.1; spare = p.2 } in
-    let said : r ≡ word_write_says f.rate b word_bytes = er ∙ ap (λ (x : List ℕ). word_write_says f.rate x n) eb ∙ ap (word_write_says f.rate b) en in
-    e
-    ∙ ap (λ (a : Answer). after a (word_of f.rate block) old) (said ∙ packed_written f.rate b v.rate packed)
-    ∙ ap (word_of f.rate) eb
+    ap (λ (x : List ℕ). word_write_says f.rate x n) eb ∙ ap (word_write_says f.rate b) en ∙ packed_written f.rate b v.rate packed
 
 -- the frames of a run, as step 1 asks for them
 pub frames_lent : (f : Fields) → Valid f → (frames : List ℕ) → length frames ≡ frame_bytes f → Frames f.size f.frames frames

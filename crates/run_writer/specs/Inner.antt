@@ -4,8 +4,6 @@ use Rattle.sizes.specs.Sizes.{word_bytes}
 use Rattle.header_sizes.specs.Quantities.{block_count, frame_bytes}
 use Rattle.header_sizes.specs.Inner.{Valid}
 use Rattle.header.specs.declared.Fields.{Fields}
-use Rattle.parameters.specs.declared.Parameters.{Parameters}
-use Rattle.plan.specs.Inner.{Entered}
 
 -- coding word j of frames, with space for a packed block of any rate
 pub record Codes (f : Fields) (frames : List ℕ) (j : ℕ) (space word : List ℕ) : Type 0 where
@@ -21,9 +19,3 @@ pub record CodesAll (f : Fields) (frames space words : List ℕ) : Type 0 where
   pub frames_are : length frames ≡ frame_bytes f
   pub space_is : length space ≡ 1256
   pub words_fit : block_count f * word_bytes ≤ length words
-
--- writing the slots of a call that passed questions 1 to 7, 20 and 8, with a buffer for the words
-pub record Writes (q : Parameters) (frames space words slots : List ℕ) : Type 0 where
-  pub entered : Entered q (length frames) (length slots)
-  pub space_is : length space ≡ 1256
-  pub words_fit : block_count q.fields * word_bytes ≤ length words

@@ -1,5 +1,5 @@
 use mathlib.Core.Path.{◌≡◌}
-use Prim.Native.Nat.{ℕ, ◌-◌, ◌≤◌, ◌<◌}
+use Prim.Native.Nat.{ℕ, ◌<◌}
 use lib.ListN.{length}
 use Rattle.run.specs.Run.{word_at}
 use Rattle.bits.specs.Pack.{piece}
@@ -8,7 +8,4 @@ use Rattle.run_writer.proofs.code_words.Given as goal
 
 abbrev pub invariant-loop-j : goal.invariant-loop-j
 invariant-loop-j l =
-    (l.j ≤ l.n) × (length l.space ≡ 1256) × (length l.words ≡ length l.initial.words) × ((i : ℕ) → i < l.j → piece word_bytes l.words i ≡ word_at l.f l.frames i)
-
-abbrev pub decreases-loop-j : goal.decreases-loop-j
-decreases-loop-j l = l.n - l.j
+    (length l.space ≡ 1256) × (length l.words ≡ length l.initial.words) × ((i : ℕ) → i < l.j → piece word_bytes l.words i ≡ word_at l.f l.frames i)

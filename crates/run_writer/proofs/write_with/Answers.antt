@@ -1,11 +1,12 @@
--- By the number of words.
-use Prim.Native.Nat.{◌≤◌}
-use native.Mathlib.Omega.{arith}
-use Rattle.header_sizes.specs.Quantities.{block_count}
+-- The words of the frames, and the slots of the words.
+use borrow.Author.Rules.{rules}
+use Rattle.run_writer.proofs.Coding.{plan_lent, slots_coded}
 use Rattle.run_writer.proofs.write_with.Goals as goal
 
-pub write_few-requires : goal.write_few-requires
-write_few-requires c =
-    let s = c in
-    let few : block_count s.args.q.fields ≤ 16 = let e = c.block_count.ensures in let t = c.if-block_count-le16.true in omega arith in
-    (s.requires, few)
+pub write-requires : goal.write-requires
+write-requires g c =
+    let k = c.code_words.auto.words in
+    plan_lent c.args.q _ _ _ c.plan_of.ensures c.requires.entered.fine (search rules) c.requires.entered.slots_are
+
+pub returns : goal.returns
+returns g c = slots_coded c.args.q _ c.code_words.new.words c.args.frames.now _ c.plan_of.ensures c.code_words.ensures c.write.ensures
