@@ -12,8 +12,7 @@ use Rattle.bits.proofs.Laws.Choice.{lt_or_le}
 use Rattle.bits.specs.Basics.{up_to}
 use Rattle.bits.proofs.Laws.First.{first_same, up_to_le}
 use Rattle.bits.specs.Pack.{piece}
-use Rattle.answers.specs.Answer.{Answer, Done, then, ask, is_done, number_of, put_in_order, first_refused}
-use Rattle.answers.proofs.Refused.{Refusal, stands}
+use Rattle.answers.specs.Answer.{Answer, Done, ask, is_done, number_of, put_in_order, first_refused}
 use Rattle.sizes.specs.Sizes.{info_bits, block_bytes, word_bytes}
 use Rattle.sizes.proofs.Laws.Rate.{by_rate}
 use Rattle.word.specs.Word.{block_in, word_read_says}
@@ -94,24 +93,9 @@ module _ (q : Parameters) (p : Plan) (ep : p ≡ plan_of q) (slots : List ℕ) w
   pub plan_taken : (words : List ℕ) → ((j : ℕ) → j < p.layout.words → piece word_bytes words j ≡ word_out p slots j) → (j : ℕ) → j < block_count q.fields → piece word_bytes words j ≡ word_out p slots j
   plan_taken words h j l = h j (let e = plan_count in omega arith)
 
-  -- a refusal by questions 9 to 12
-  pub buffer_slots : (a : Answer) → a ≡ slots_say p slots → Refusal a → a ≡ buffer_says q.fields (plan_of q) slots
-  unfolding buffer_says
-  buffer_slots a ea t =
-      let rest : Answer = then (words_say q.fields (word_out (plan_of q) slots)) (stream_says q.fields (word_out (plan_of q) slots)) in
-      stands a rest t ∙ ap (λ (x : Answer). then x rest) (ea ∙ ap (λ (x : Plan). slots_say x slots) ep)
-
   module _ (good : slots_say p slots ≡ Done) where
     good_plan : slots_say (plan_of q) slots ≡ Done
     good_plan = ap (λ (x : Plan). slots_say x slots) (sym ep) ∙ good
-
-    -- by 13 to 15
-    pub buffer_words : (w : Answer) → w ≡ words_say q.fields (word_out p slots) → Refusal w → w ≡ buffer_says q.fields (plan_of q) slots
-    unfolding buffer_says
-    buffer_words w ew t =
-        let rest : Answer = stream_says q.fields (word_out (plan_of q) slots) in
-        stands w rest t ∙ ap (λ (x : Answer). then x rest) (ew ∙ ap (λ (x : Plan). words_say q.fields (word_out x slots)) ep)
-        ∙ sym (rw good_plan refl)
 
     -- the blocks that were read
     module _ (v : Valid q.fields) (said : words_say q.fields (word_out p slots) ≡ Done) (blocks : List ℕ)

@@ -1,23 +1,11 @@
 -- What the functions inside the reader require of their arguments.
-use Rattle.std.specs.Prelude.{◌≡◌, List, ℕ, ◌+◌, ◌*◌, ◌≤◌, ◌<◌, length, get_or}
+use Rattle.std.specs.Prelude.{◌≡◌, List, ℕ, ◌*◌, ◌≤◌, ◌<◌, length, get_or}
 use Rattle.sizes.specs.Sizes.{block_bytes, word_bytes}
 use Rattle.header_sizes.specs.Quantities.{block_count, frame_bytes}
 use Rattle.header_sizes.specs.Inner.{Valid}
 use Rattle.header.specs.declared.Fields.{Fields}
 use Rattle.parameters.specs.declared.Parameters.{Parameters}
 use Rattle.plan.specs.Inner.{Entered}
-
--- reading word j of words back to back
-pub record ReadsWord (f : Fields) (words : List ℕ) (j : ℕ) (block : List ℕ) : Type 0 where
-  pub valid : Valid f
-  pub inside : j * word_bytes + word_bytes ≤ length words
-  pub block_is : length block ≡ block_bytes f.rate
-
--- and all of them
-pub record ReadsWords (f : Fields) (words blocks : List ℕ) : Type 0 where
-  pub valid : Valid f
-  pub words_fit : block_count f * word_bytes ≤ length words
-  pub blocks_fit : block_count f * block_bytes f.rate ≤ length blocks
 
 -- reading the frames of a call that passed questions 1 to 7, 20 and 8, with a buffer for the words that holds nothing yet
 pub record Reads (q : Parameters) (slots words blocks frames : List ℕ) : Type 0 where

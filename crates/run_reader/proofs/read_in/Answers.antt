@@ -1,89 +1,63 @@
--- Questions 9 to 12 of the whole buffer, then 13 to 15 word by word, then 16 to 18; the frames are written last.
-use mathlib.Core.Path.{◌≡◌, sym, ap, ◌∙◌}
+-- Questions 9 to 12 of the whole buffer, then 13 to 15 word by word, then 16 and 18; the frames are written last.
+use mathlib.Core.Path.{◌≡◌, refl, sym, ap, ◌∙◌}
 use mathlib.Core.List.{List}
 use Prim.Native.Nat.{ℕ, ◌<◌}
-use native.Mathlib.Omega.{arith}
 use Rattle.bits.specs.Pack.{piece}
-use Rattle.slots.specs.Reading.{word_out}
-use Rattle.answers.specs.Answer.{after}
+use Rattle.slots.specs.Reading.{word_out, slots_say}
+use Rattle.answers.specs.Answer.{Answer, Done, after, then, put_in_order}
+use Rattle.answers.specs.Inner.{answer_of}
 use Rattle.header_sizes.specs.Quantities.{block_count}
+use Rattle.header.specs.declared.Fields.{Fields}
+use Rattle.plan.specs.declared.Plan.{Plan}
 use Rattle.plan.specs.Plan.{plan_of}
 use Rattle.sizes.specs.Sizes.{block_bytes, word_bytes}
 use Rattle.word.specs.Word.{block_in}
-use Rattle.run.specs.Run.{frames_of}
+use Rattle.pass.specs.Pass.{pass_word_says}
+use Rattle.run.specs.Run.{words_say, run_word_says, stream_says, buffer_says}
 use Rattle.run_reader.proofs.Reading as reading
-use Rattle.answers.proofs.Refused.{kept}
 use Rattle.run_reader.proofs.read_in.Goals as goal
+use Rattle.run_reader.proofs.read_in.Goals.{After-read_words-heard}
 
-pub slots_say-found-requires : goal.slots_say-found-requires
-slots_say-found-requires c =
-    let s = c in
-    let p = c.plan_of in
-    (reading.plan_slots s.args.q _ p.ensures _ s.requires.entered, reading.plan_cleared s.args.q _ p.ensures s.args.slots.now _ s.requires.words_fit s.requires.empty)
+-- what the words say is what a run's words say
+asked : (f : Fields) (n : ℕ) (words : List ℕ) → n ≡ block_count f → put_in_order n (pass_word_says f.rate words) ≡ words_say f (piece word_bytes words)
+unfolding words_say run_word_says
+asked f n words e = ap (λ (k : ℕ). put_in_order k (pass_word_says f.rate words)) e
 
-pub returns-in_default : goal.returns-in_default
-returns-in_default c =
-    let s = c in
-    let q = c.args.q in
-    let p = c.plan_of in
-    let j = c.slots_say-found in
-    let keys = c.in_default.in_default-own.keys2 in record {
-      value = reading.buffer_slots q _ p.ensures s.args.slots.now j.result j.ensures.value keys;
-      frames_after = kept j.result (frames_of q.fields (word_out (plan_of q) s.args.slots.now)) s.args.frames.now keys;
-    }
+good : (c : After-read_words-heard) → Done ≡ slots_say c.plan_of.result c.args.slots.now
+good c = c.in_ok-slots_say.ensures.value
 
-pub read_words-heard-requires : goal.read_words-heard-requires
-read_words-heard-requires c =
-    let s = c in
-    let j = c.slots_say-found in
-    record {
-      valid = s.requires.entered.valid;
-      words_fit = let k = c.slots_say-found.auto.words in let h = c.requires.words_fit in omega arith;
-      blocks_fit = s.requires.blocks_fit;
-    }
+taken : (c : After-read_words-heard) → (j : ℕ) → j < block_count c.args.q.fields → piece word_bytes c.slots_say.new.words j ≡ word_out c.plan_of.result c.args.slots.now j
+taken c = reading.plan_taken c.args.q _ c.plan_of.ensures c.args.slots.now c.slots_say.new.words c.in_ok-slots_say.ensures.j_after
 
-pub returns-in_default-heard : goal.returns-in_default-heard
-returns-in_default-heard c =
-    let s = c in
-    let q = c.args.q in
-    let p = c.plan_of in
-    let j = c.slots_say-found in
-    let w = c.read_words-heard in
-    let done = c.in-Done.is in
-    let good = sym j.ensures.value ∙ done in
-    let taken = reading.plan_taken q _ p.ensures s.args.slots.now j.new.words (j.ensures.j_after done) in
-    let said = w.ensures.value ∙ reading.words_same q.fields (piece word_bytes j.new.words) (word_out p.result s.args.slots.now) taken in
-    let keys = c.in_default-heard.in_default-heard-own.keys2 in record {
-      value = reading.buffer_words q _ p.ensures s.args.slots.now good w.result said keys;
-      frames_after = kept w.result (frames_of q.fields (word_out (plan_of q) s.args.slots.now)) s.args.frames.now keys;
-    }
+said : (c : After-read_words-heard) → answer_of c.read_words-heard.result ≡ words_say c.args.q.fields (word_out c.plan_of.result c.args.slots.now)
+said c =
+    c.read_words-heard.ensures.value
+    ∙ asked c.args.q.fields _ c.slots_say.new.words c.block_count.ensures
+    ∙ reading.words_same c.args.q.fields (piece word_bytes c.slots_say.new.words) (word_out c.plan_of.result c.args.slots.now) (taken c)
 
-pub finish-requires : goal.finish-requires
-finish-requires c =
-    let s = c in
-    let w = c.read_words-heard in
-    record {
-      valid = s.requires.entered.valid;
-      blocks_fit = let k = c.read_words-heard.auto.blocks in let h = c.requires.blocks_fit in omega arith;
-      frames_are = s.requires.entered.frames_are;
-    }
+pub returns-in_default-clause-value : goal.returns-in_default-clause-value
+unfolding buffer_says
+returns-in_default-clause-value c =
+    let a = (goal.at.returns-in_default-clause-value c).After-read_words-heard in
+    let p = c.plan_of.ensures in
+    let g = ap (λ (x : Plan). slots_say x c.args.slots.now) (sym p) ∙ sym (good a) in
+    let w = said a ∙ ap (λ (x : Plan). words_say c.args.q.fields (word_out x c.args.slots.now)) p in
+    let stands : then (answer_of c.read_words-heard.result) (stream_says c.args.q.fields (word_out (plan_of c.args.q) c.args.slots.now)) ≡ answer_of c.read_words-heard.result = rw c.in_default.is refl in
+    sym stands ∙ ap (λ (x : Answer). then x (stream_says c.args.q.fields (word_out (plan_of c.args.q) c.args.slots.now))) w ∙ sym (rw g refl)
 
-pub returns : goal.returns
-returns c =
-    let s = c in
-    let q = c.args.q in
-    let slots = c.args.slots.now in
-    let p = c.plan_of in
-    let j = c.slots_say-found in
-    let w = c.read_words-heard in
-    let found = c.in-Done.is in
-    let good = sym j.ensures.value ∙ found in
-    let done = c.in-Done-heard.is in
-    let taken = reading.plan_taken q _ p.ensures slots j.new.words (j.ensures.j_after found) in
-    let said = sym (w.ensures.value ∙ reading.words_same q.fields (piece word_bytes j.new.words) (word_out p.result slots) taken) ∙ done in
-    let are : (i : ℕ) → i < block_count q.fields → piece (block_bytes q.fields.rate) w.new.blocks i ≡ block_in q.fields.rate (word_out p.result slots i) =
-    λ i l. w.ensures.j_after done i l ∙ ap (block_in q.fields.rate) (taken i l) in
-    let e = c.finish.ensures in record {
-      value = reading.buffer_frames q _ p.ensures slots good s.requires.entered.valid said _ are _ e.value;
-      frames_after = e.frames_after ∙ ap (λ (x : List ℕ). after c.finish.result x s.args.frames.now) (reading.frames_out q _ p.ensures slots good s.requires.entered.valid said _ are);
-    }
+are : (c : After-read_words-heard) → answer_of c.read_words-heard.result ≡ Done → (i : ℕ) → i < block_count c.args.q.fields
+    → piece (block_bytes c.args.q.fields.rate) c.read_words-heard.new.blocks i ≡ block_in c.args.q.fields.rate (word_out c.plan_of.result c.args.slots.now i)
+are c done i l = c.read_words-heard.ensures.j_after done i (rw c.block_count.ensures l) ∙ ap (block_in c.args.q.fields.rate) (taken c i l)
+
+pub returns-clause-value : goal.returns-clause-value
+returns-clause-value c =
+    let a = (goal.at.returns-clause-value c).After-read_words-heard in
+    let done : answer_of c.read_words-heard.result ≡ Done = rw c.in-Ok.is refl in
+    reading.buffer_frames c.args.q _ c.plan_of.ensures c.args.slots.now (sym (good a)) c.requires.entered.valid (sym (said a) ∙ done) _ (are a done) _ c.finish.ensures.value
+
+pub returns-clause-frames_after : goal.returns-clause-frames_after
+returns-clause-frames_after c =
+    let a = (goal.at.returns-clause-frames_after c).After-read_words-heard in
+    let done : answer_of c.read_words-heard.result ≡ Done = rw c.in-Ok.is refl in
+    c.finish.ensures.frames_after
+    ∙ ap (λ (x : List ℕ). after (answer_of c.finish.result) x c.args.frames.now) (reading.frames_out c.args.q _ c.plan_of.ensures c.args.slots.now (sym (good a)) c.requires.entered.valid (sym (said a) ∙ done) _ (are a done))
