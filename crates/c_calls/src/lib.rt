@@ -121,9 +121,7 @@ pub extern "C" fn mahyrei_header_narrow(ten: &[u8], eight: &mut [u8]) -> u64
 pub extern "C" fn mahyrei_run_find(header: &[u8], marker: &[u8], capture: &[u8]) -> u64
     ensures { result ≡ searches.find_code header.now marker.now capture.now }
 {
-    let start = capture_find::find(header, marker, capture, 0);
-    let answer = start.answer;
-    answers::code_with(answer, start.slot)
+    answers::code_with(capture_find::find(header, marker, capture, 0))
 }
 
 // The next start: the same of the slots from a given one on.
@@ -136,9 +134,7 @@ pub extern "C" fn mahyrei_run_find_from(
 ) -> u64
     ensures { result ≡ searches.find_from_code header.now marker.now capture.now from }
 {
-    let start = capture_find::find(header, marker, capture, from);
-    let answer = start.answer;
-    answers::code_with(answer, start.slot)
+    answers::code_with(capture_find::find(header, marker, capture, from))
 }
 
 // The slots of a run out of a capture, from a slot on, packed anew.
@@ -166,8 +162,7 @@ pub extern "C" fn mahyrei_delay_write(header: &[u8], step: u64, symbol: u64, are
     ensures area_after { area.new ≡ delays.area_after Writing header.now step symbol area.old }
 {
     let given = delay_step::step(Side::Writing, header, step, symbol, area);
-    let answer = given.answer;
-    answers::code_with(answer, given.symbol as usize)
+    answers::code_with(given.map(|symbol| symbol as usize))
 }
 
 // The same on the reading side: fed by the writer, it gives what the writer took.
@@ -177,8 +172,7 @@ pub extern "C" fn mahyrei_delay_read(header: &[u8], step: u64, symbol: u64, area
     ensures area_after { area.new ≡ delays.area_after Reading header.now step symbol area.old }
 {
     let given = delay_step::step(Side::Reading, header, step, symbol, area);
-    let answer = given.answer;
-    answers::code_with(answer, given.symbol as usize)
+    answers::code_with(given.map(|symbol| symbol as usize))
 }
 
 // Frames of 64 bits to command slots.
