@@ -98,6 +98,7 @@ pub fn walk(g: Layout, fades: &[u32], counts: &mut [u32])
         residue: 0,
     };
     let mut i = 0usize;
+    // A `while`, since `next` moves a symbol's four numbers together.
     while a.symbol < n {
         count_one(g, fades, i, a, counts);
         i = fades_list::past(fades, i, a.symbol);

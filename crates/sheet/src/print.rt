@@ -12,6 +12,7 @@ fn read_full<R: io::Read>(input: &mut R, header: &mut [u8]) -> io::Result<usize>
     ensures end { IfOk result (λ n. n < length header.new → IsAtEnd (R.remaining input.new)) }
 {
     let mut n = 0;
+    // A `while`, since a read may bring any number of bytes.
     while n < header.len() {
         let k = input.read(&mut header[n..])?;
         if k == 0 {

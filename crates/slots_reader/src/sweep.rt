@@ -63,6 +63,7 @@ pub fn find(p: plan::Plan, b: &[u8], words: &mut [u8]) -> Faults
     let mut rest = n;
     let copies = p.copies;
     let mut c = zeros_end(b, &given, copies, 0, whole);
+    // Not a `for`: c goes on to where the groups that are passed at once stop.
     while c < whole {
         let e = others_end(b, &given, copies, c, whole);
         let f = look(p, b, c * count, e * count, rest, words);
