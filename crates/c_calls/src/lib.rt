@@ -3,7 +3,7 @@
 // A slice is a pointer and a length. There is no `requires`: every input has its answer, and a refused call changes no byte.
 #![tactic(auto)]
 
-ghost use Rattle.std.specs.Prelude.{◌≡◌, length};
+ghost use Rattle.std.specs.Prelude.{◌≡◌, ◌<◌, length, IfOk};
 ghost use Rattle.answers.specs.Answer.{code_of};
 ghost use Rattle.word.specs.Word as words;
 ghost use Rattle.word.specs.Word.{word_read_says, word_write_says};
@@ -23,6 +23,7 @@ ghost use Rattle.uplink.specs.Uplink as uplinks;
 ghost use Rattle.uplink.specs.Uplink.{uplink_read_says, uplink_write_says};
 ghost use Rattle.rack.specs.Rack as racks;
 
+use answers::Refusal;
 use delay::Side;
 
 // A packed block to its word (step 7, and then steps 2 to 6).
@@ -155,6 +156,14 @@ pub extern "C" fn mahyrei_fades_count(header: &[u8], fades: &[u32], counts: &mut
     answers::code(fades_count::count(header, fades, counts))
 }
 
+// What a step of the delay lines gives, as a number of C's width.
+fn widened(given: Result<u8, Refusal>) -> Result<usize, Refusal>
+    ensures same { result ≡ given }
+    ensures byte { IfOk result (λ symbol. symbol < 256) }
+{
+    given.map(|symbol| symbol as usize)
+}
+
 // Step 9 a symbol at a time: takes a symbol, and gives the one whose turn it is, in the position of a refusal's place.
 #[unsafe(no_mangle)]
 pub extern "C" fn mahyrei_delay_write(header: &[u8], step: u64, symbol: u64, area: &mut [u8]) -> u64
@@ -162,7 +171,7 @@ pub extern "C" fn mahyrei_delay_write(header: &[u8], step: u64, symbol: u64, are
     ensures area_after { area.new ≡ delays.area_after Writing header.now step symbol area.old }
 {
     let given = delay_step::step(Side::Writing, header, step, symbol, area);
-    answers::code_with(given.map(|symbol| symbol as usize))
+    answers::code_with(widened(given))
 }
 
 // The same on the reading side: fed by the writer, it gives what the writer took.
@@ -172,7 +181,7 @@ pub extern "C" fn mahyrei_delay_read(header: &[u8], step: u64, symbol: u64, area
     ensures area_after { area.new ≡ delays.area_after Reading header.now step symbol area.old }
 {
     let given = delay_step::step(Side::Reading, header, step, symbol, area);
-    answers::code_with(given.map(|symbol| symbol as usize))
+    answers::code_with(widened(given))
 }
 
 // Frames of 64 bits to command slots.

@@ -1,21 +1,21 @@
 -- The code of the answer, which fits, and of the symbol, which is a byte.
-use native.Mathlib.Omega.{arith}
-use lib.ListN.{length}
-use Rattle.delay.proofs.Laws.Delay.{step_fits}
+use mathlib.Core.Path.{◌∙◌}
 use Rattle.delay.specs.declared.Side.TheVariants.{Writing}
-use Rattle.c_calls.proofs.Steps.{coded, left}
+use Rattle.c_calls.proofs.Steps.{fits, coded, left}
 use Rattle.c_calls.proofs.mahyrei_delay_write.Goals as goal
 
 pub code_with-requires : goal.code_with-requires
 code_with-requires c =
     let a = c.args in
-    let r = c.step-given in
-    (rw r.ensures.answer_value (step_fits a.header.now a.symbol (length a.area.now)), λ d. omega arith)
+    let s = c.step-given in
+    let w = c.widened in
+    fits Writing a.header.now a.step a.symbol a.area.now s.result w.result w.ensures.same s.ensures.answer_value w.ensures.byte
 
 pub returns : goal.returns
 returns c =
     let a = c.args in
-    let r = c.step-given in record {
-      value = coded Writing a.header.now a.step a.symbol a.area.now r.result.answer r.ensures.answer_value r.result.symbol c.code_with.result r.ensures.symbol_value c.code_with.ensures;
-      area_after = left Writing a.header.now a.step a.symbol a.area.now r.result.answer r.ensures.answer_value r.new.area r.ensures.area_after;
+    let s = c.step-given in
+    let w = c.widened in record {
+      value = c.code_with.ensures ∙ coded Writing a.header.now a.step a.symbol a.area.now s.result w.result w.ensures.same s.ensures.answer_value s.ensures.symbol_value;
+      area_after = left Writing a.header.now a.step a.symbol a.area.now s.result w.result w.ensures.same s.ensures.answer_value s.new.area s.ensures.area_after;
     }

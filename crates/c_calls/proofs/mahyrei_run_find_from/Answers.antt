@@ -1,8 +1,7 @@
 -- The code of the answer and of its slot, which fit.
-use mathlib.Core.Path.{sym, ◌∙◌}
-use Rattle.std.proofs.lemmas.Result.{cases_from_if_ok}
+use mathlib.Core.Path.{◌∙◌}
 use Rattle.answers.proofs.Laws.Answer.{given_is, fits_given}
-use Rattle.capture_search.proofs.Laws.Search.{find_fits, slot_small}
+use Rattle.capture_search.proofs.Laws.Search.{find_fits}
 use Rattle.c_calls.proofs.Given.{slot_fits}
 use Rattle.c_calls.proofs.mahyrei_run_find_from.Goals as goal
 
