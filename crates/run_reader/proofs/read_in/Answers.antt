@@ -2,6 +2,7 @@
 use mathlib.Core.Path.{◌≡◌, refl, sym, ap, ◌∙◌}
 use mathlib.Core.List.{List}
 use Prim.Native.Nat.{ℕ, ◌<◌}
+use native.Mathlib.Omega.{arith}
 use Rattle.bits.specs.Pack.{piece}
 use Rattle.slots.specs.Reading.{word_out, slots_say}
 use Rattle.answers.specs.Answer.{Answer, Done, after, then, put_in_order}
@@ -32,7 +33,7 @@ taken c = reading.plan_taken c.args.q _ c.plan_of.ensures c.args.slots.now c.slo
 said : (c : After-read_words-heard) → answer_of c.read_words-heard.result ≡ words_say c.args.q.fields (word_out c.plan_of.result c.args.slots.now)
 said c =
     c.read_words-heard.ensures.value
-    ∙ asked c.args.q.fields _ c.slots_say.new.words c.block_count.ensures
+    ∙ asked c.args.q.fields _ c.slots_say.new.words (let e = c.block_count.ensures in omega arith)
     ∙ reading.words_same c.args.q.fields (piece word_bytes c.slots_say.new.words) (word_out c.plan_of.result c.args.slots.now) (taken c)
 
 pub returns-in_default-clause-value : goal.returns-in_default-clause-value
@@ -47,7 +48,7 @@ returns-in_default-clause-value c =
 
 are : (c : After-read_words-heard) → answer_of c.read_words-heard.result ≡ Done → (i : ℕ) → i < block_count c.args.q.fields
     → piece (block_bytes c.args.q.fields.rate) c.read_words-heard.new.blocks i ≡ block_in c.args.q.fields.rate (word_out c.plan_of.result c.args.slots.now i)
-are c done i l = c.read_words-heard.ensures.j_after done i (rw c.block_count.ensures l) ∙ ap (block_in c.args.q.fields.rate) (taken c i l)
+are c done i l = c.read_words-heard.ensures.j_after done i (let e = c.block_count.ensures in omega arith) ∙ ap (block_in c.args.q.fields.rate) (taken c i l)
 
 pub returns-clause-value : goal.returns-clause-value
 returns-clause-value c =
