@@ -54,6 +54,18 @@ pub fn put_eight(out: &mut [u8], at: usize, v: u64)
     out[at..at + 8].copy_from_slice(&v.to_be_bytes());
 }
 
+// The byte of the eight bits from `at` on, which are all there: no bit's place is tested.
+fn whole_byte(bits: &[u8], at: usize) -> u8
+    requires { (at + 8 ≤ length bits.now) × ((k : ℕ) → get_or bits.now k 0 < 2) }
+    ensures { result ≡ val (λ t. get_or bits.now (at + t) 0) 8 }
+{
+    let mut byte = 0;
+    for t in 0..8 {
+        byte = (byte << 1) | bits[at + t];
+    }
+    byte
+}
+
 // The byte of the eight bits from `at` on, zeros past the end.
 fn byte_from(bits: &[u8], at: usize) -> u8
     requires { (at + 8 < 2 ^ 64) × ((k : ℕ) → get_or bits.now k 0 < 2) }
@@ -72,6 +84,11 @@ pub fn pack(bits: &[u8], out: &mut [u8])
     ensures { out.new ≡ bytes_of (length out.old) (λ i. get_or bits.now i 0) }
 {
     for (i, byte) in out.iter_mut().enumerate() {
-        *byte = byte_from(bits, 8 * i);
+        let at = 8 * i;
+        *byte = if at + 8 <= bits.len() {
+            whole_byte(bits, at)
+        } else {
+            byte_from(bits, at)
+        };
     }
 }
