@@ -128,6 +128,8 @@ STACK_TEST = if [ '$(LIBS)' != '$(LIBRARY)' ]; then true; \
     elif ! command -v python3 >/dev/null || ! command -v objdump >/dev/null; then \
     echo 'stack: no python3 or no objdump here; the frames are not read'; \
     else tests/stack $(SHARED) >/dev/null && echo 'stack: no call takes more than 1 MiB'; fi
+# What else the archive needs, where it is the library's own.
+NEEDS_TEST = [ '$(LIBS)' != '$(LIBRARY)' ] || tests/needs $(LIBRARY)
 CRASH_TEST = if ! command -v python3 >/dev/null; then \
     echo 'crash: no python3 here; no power cut is simulated'; \
     else tests/crash/run $(PROGRAM) $(HOST)/record.so --short; fi
@@ -172,6 +174,7 @@ host-test: $(HOST_TESTS)
 	@$(CRASH_TEST)
 	@$(PYTHON_TEST)
 	@$(STACK_TEST)
+	@$(NEEDS_TEST)
 	@echo 'tests outside the proofs: passed'
 
 # The proofs first, lowest crate first and quietly, where make sees that they are to be done.
