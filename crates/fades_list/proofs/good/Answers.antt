@@ -7,6 +7,7 @@ use native.Mathlib.Omega.{arith}
 use lib.Dec.{eqb}
 use lib.ListN.{length}
 use borrow.Author.Tests.{ne_eqb}
+use Rattle.std.proofs.lemmas.Grind.{common_steps}
 use Rattle.std.proofs.lemmas.List.{take_rest}
 use Rattle.bits.proofs.Laws.Choice.{eq_or_ne}
 use Rattle.fades.specs.Fades.{fades_good}
@@ -39,4 +40,4 @@ loop-rest-preserved c =
 pub returns : goal.returns
 returns c =
     let l = c.loop-rest in
-    c.is_empty.ensures ∙ either_way (length l.rest.now) ∙ sym (good_last l.rest.now 0 c.args.n l.end (omega arith) (omega arith)) ∙ l.invariant
+    grind (arith, common_steps) ∙ either_way (length l.rest.now) ∙ sym (good_last l.rest.now 0 c.args.n l.end (omega arith) (omega arith)) ∙ l.invariant

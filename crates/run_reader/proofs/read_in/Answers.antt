@@ -3,11 +3,13 @@ use mathlib.Core.Path.{◌≡◌, refl, sym, ap, ◌∙◌}
 use mathlib.Core.List.{List}
 use Prim.Native.Nat.{ℕ, ◌<◌}
 use native.Mathlib.Omega.{arith}
+use Rattle.std.proofs.lemmas.Grind.{common_steps}
 use Rattle.bits.specs.Pack.{piece}
 use Rattle.slots.specs.Reading.{word_out, slots_say}
 use Rattle.answers.specs.Answer.{Answer, Done, after, then, put_in_order}
 use Rattle.answers.specs.Inner.{answer_of}
 use Rattle.header_sizes.specs.Quantities.{block_count}
+use Rattle.header_sizes.proofs.Laws.Bounds.{blocks_least}
 use Rattle.header.specs.declared.Fields.{Fields}
 use Rattle.plan.specs.declared.Plan.{Plan}
 use Rattle.plan.specs.Plan.{plan_of}
@@ -33,7 +35,7 @@ taken c = reading.plan_taken c.args.q _ c.plan_of.ensures c.args.slots.now c.slo
 said : (c : After-read_words-heard) → answer_of c.read_words-heard.result ≡ words_say c.args.q.fields (word_out c.plan_of.result c.args.slots.now)
 said c =
     c.read_words-heard.ensures.value
-    ∙ asked c.args.q.fields _ c.slots_say.new.words (let e = c.block_count.ensures in omega arith)
+    ∙ asked c.args.q.fields _ c.slots_say.new.words (let e = c.block_count.ensures in omega (arith, blocks_least c.args.q.fields c.requires.entered.valid))
     ∙ reading.words_same c.args.q.fields (piece word_bytes c.slots_say.new.words) (word_out c.plan_of.result c.args.slots.now) (taken c)
 
 pub returns-in_default-clause-value : goal.returns-in_default-clause-value
@@ -44,11 +46,11 @@ returns-in_default-clause-value c =
     let g = ap (λ (x : Plan). slots_say x c.args.slots.now) (sym p) ∙ sym (good a) in
     let w = said a ∙ ap (λ (x : Plan). words_say c.args.q.fields (word_out x c.args.slots.now)) p in
     let stands : then (answer_of c.read_words-heard.result) (stream_says c.args.q.fields (word_out (plan_of c.args.q) c.args.slots.now)) ≡ answer_of c.read_words-heard.result = rw c.in_default.is refl in
-    sym stands ∙ ap (λ (x : Answer). then x (stream_says c.args.q.fields (word_out (plan_of c.args.q) c.args.slots.now))) w ∙ sym (rw g refl)
+    grind (arith, common_steps) ∙ sym stands ∙ ap (λ (x : Answer). then x (stream_says c.args.q.fields (word_out (plan_of c.args.q) c.args.slots.now))) w ∙ sym (rw g refl)
 
 are : (c : After-read_words-heard) → answer_of c.read_words-heard.result ≡ Done → (i : ℕ) → i < block_count c.args.q.fields
     → piece (block_bytes c.args.q.fields.rate) c.read_words-heard.new.blocks i ≡ block_in c.args.q.fields.rate (word_out c.plan_of.result c.args.slots.now i)
-are c done i l = c.read_words-heard.ensures.j_after done i (let e = c.block_count.ensures in omega arith) ∙ ap (block_in c.args.q.fields.rate) (taken c i l)
+are c done i l = c.read_words-heard.ensures.j_after done i (let e = c.block_count.ensures in omega (arith, blocks_least c.args.q.fields c.requires.entered.valid)) ∙ ap (block_in c.args.q.fields.rate) (taken c i l)
 
 pub returns-clause-value : goal.returns-clause-value
 returns-clause-value c =

@@ -4,11 +4,12 @@ use mathlib.Core.List.{List}
 use Prim.Native.Nat.{ℕ, ◌+◌, ◌-◌, ◌*◌, ◌/◌, ◌%◌, ◌^◌, ◌≤◌, ◌<◌}
 use native.Mathlib.Omega.{arith}
 use native.Mathlib.Nat.{le_refl, mul-le-mul, mod-eq_of_lt}
-use lib.ListN.{length, get_or}
+use lib.Bits.{bit_xor}
+use lib.ListN.{length, get_or, set}
 use Rattle.std.proofs.lemmas.List.{set-get_or}
 use Rattle.channel.specs.Inner.{Puts}
 use Rattle.slots_residues.proofs.Laws.Scatter.{puts_long, scattered_none}
-use Rattle.slots_residues.specs.Inner.{Scatters}
+use Rattle.slots_residues.specs.Inner.{Scatters, Scattered}
 use Rattle.slots_flat.proofs.Laws.Packed.{per_least, place, packed_more, moved_up}
 use Rattle.slots_flat.proofs.pack.Goals as goal
 
@@ -28,6 +29,11 @@ inside m divides row from n at words' h words k l long =
     let p = place m divides at k 0 in
     omega arith
 
+-- whatever form the number has that is put in
+same_value : (row : List ℕ) (from n m t : ℕ) (words' words : List ℕ) (at byte v w : ℕ) → Scattered row from n 1 m t words' (set words at (bit_xor byte v)) → v ≡ w
+    → Scattered row from n 1 m t words' (set words at (bit_xor byte w))
+same_value row from n m t words' words at byte v w p e = rw e at p
+
 pub bounds-words-at : goal.bounds-words-at
 bounds-words-at g c = inside g.row.M c.requires.1 c.args.row.now c.args.from c.args.n c.args.at c.args.words.now c.requires.0 c.loop-k.words c.loop-k.k (omega arith) c.loop-k.auto.words
 
@@ -41,11 +47,10 @@ loop-q-preserved g c =
     let few : q < 8 / m = omega arith in
     let can = ready m a.row.now a.from a.n a.at a.words.now c.requires.0 c.loop-k.words k q less few c.loop-k.auto.words in
     let room = inside m c.requires.1 a.row.now a.from a.n a.at a.words.now c.requires.0 c.loop-k.words k less c.loop-k.auto.words in
-    let here : a.from + (8 / m * k + q) ≡ a.from + 8 / m * k + q = omega arith in
-    let value : get_or a.row.now (a.from + (8 / m * k + q)) 0 * 2 ^ (8 - m - m * q) ≡ get_or a.row.now (a.from + 8 / m * k + q) 0 * 2 ^ (8 - m - m * q) % 256 =
-    sym (mod-eq_of_lt (moved_up m c.requires.1 (get_or a.row.now (a.from + (8 / m * k + q)) 0) q can.small few))
-    ∙ ap (λ (i : ℕ). get_or a.row.now i 0 * 2 ^ (8 - m - m * q) % 256) here in
-    rw value at (packed_more m c.requires.1 a.row.now a.from a.at a.words.now k q c.loop-q.byte c.loop-k.words room few can c.loop-q.invariant)
+    same_value a.row.now a.from (8 / m * k + (q + 1)) m (8 / m * a.at) a.words.now c.loop-k.words (a.at + k) c.loop-q.byte _ _
+    (packed_more m c.requires.1 a.row.now a.from a.at a.words.now k q c.loop-q.byte c.loop-k.words room few can c.loop-q.invariant)
+    (sym (mod-eq_of_lt (moved_up m c.requires.1 (get_or a.row.now (a.from + (8 / m * k + q)) 0) q can.small few))
+    ∙ ap (λ (i : ℕ). get_or a.row.now i 0 * 2 ^ (8 - m - m * q) % 256) (omega arith))
 
 pub bounds-words-at-in-loop-k : goal.bounds-words-at-in-loop-k
 bounds-words-at-in-loop-k g c = inside g.row.M c.requires.1 c.args.row.now c.args.from c.args.n c.args.at c.args.words.now c.requires.0 c.loop-k.words c.loop-k.k (omega arith) c.loop-k.auto.words

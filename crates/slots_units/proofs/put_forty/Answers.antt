@@ -35,6 +35,6 @@ laid_part before part at n f room long same =
 pub returns : goal.returns
 returns c =
     let v : ℕ = c.args.v in
-    let bytes : c.copy_from_slice.new.self ≡ take 5 (drop 3 (to_be_bytes w64 v)) = c.copy_from_slice.ensures.after ∙ ap (λ (xs : List ℕ). take 5 (drop 3 xs)) c.to_be_bytes.ensures in
+    let bytes : c.copy_from_slice.new.self ≡ take 5 (drop 3 (to_be_bytes w64 v)) = c.copy_from_slice.ensures.after ∙ ap (λ (xs : List ℕ). take 5 (drop 3 xs)) (c.to_be_bytes.ensures ∙ ap (to_be_bytes w64) (omega arith)) in
     laid_part c.args.slots.now _ c.args.at 5 (λ t. v / 2 ^ (39 - t) % 2) c.requires (ap (λ (xs : List ℕ). length xs) bytes)
     (λ t l. ap (λ (xs : List ℕ). get_or xs t 0) bytes ∙ byte v t l ∙ sym (cut_out v 40 (8 * t) 8 (omega arith)))
